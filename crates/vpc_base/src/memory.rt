@@ -1,0 +1,12 @@
+// Want of memory.
+use std::alloc::AllocError;
+
+/// Memory was refused. It is the one answer of a call that no clause gives a cause for.
+#[derive(Clone, Copy, Debug, PartialEq, Eq)]
+pub struct NoMemory;
+
+impl From<AllocError> for NoMemory {
+    fn from(_error: AllocError) -> NoMemory {
+        NoMemory
+    }
+}
