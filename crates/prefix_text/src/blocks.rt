@@ -1,0 +1,76 @@
+// Blocks of addresses.
+ghost use Rattle.std.specs.Prelude.{◌≡◌, ◌≤◌, ◌<◌, ◌^◌, ◌%◌, ◌-◌};
+ghost use Rattle.prefix_text.specs.Block.{size_of};
+
+use std::marker::Model;
+
+/// A block of IPv4 addresses in CIDR notation. Its host bits are clear.
+#[derive(Clone, Copy, Debug, PartialEq, Eq)]
+pub struct Prefix {
+    first: u32,
+    length: u8,
+}
+
+impl Model for Prefix {
+    ghost use Rattle.prefix_text.specs.Block.{Block, IsBlock};
+
+    ghost Value = { Block };
+
+    ghost view = { λ x. record { first = x.first; length = x.length } };
+
+    ghost invariant = { λ x. IsBlock (record { first = x.first; length = x.length }) };
+
+    ghost inverse = { λ b. record { first = b.first; length = b.length } };
+}
+
+fn size(length: u8) -> u64
+    requires { length ≤ 32 }
+    ensures value { result ≡ size_of length }
+    ensures some { 0 < result }
+    ensures fits { result ≤ 2 ^ 32 }
+{
+    1u64 << (32 - length)
+}
+
+impl Prefix {
+    ghost use Rattle.prefix_text.specs.Block.{IsBlock, block_of, last_of, holds};
+
+    /// The block of this length around an address, whose host bits are cleared.
+    pub fn of(addr: u32, length: u8) -> Prefix
+        requires { length ≤ 32 }
+        ensures { result ≡ block_of addr length }
+    {
+        let host = u64::from(addr) % size(length);
+        Prefix { first: addr - host as u32, length }
+    }
+
+    /// The least address.
+    pub fn first(&self) -> u32
+        ensures value { result ≡ self.now.first }
+        ensures block { IsBlock self.now }
+    {
+        self.first
+    }
+
+    /// The greatest address.
+    pub fn last(&self) -> u32
+        ensures { result ≡ last_of self.now }
+    {
+        self.first + (size(self.length) - 1) as u32
+    }
+
+    /// How many leading bits the addresses share, up to 32.
+    pub fn length(&self) -> u8
+        ensures value { result ≡ self.now.length }
+        ensures short { result ≤ 32 }
+    {
+        self.length
+    }
+
+    /// Whether the address lies in the block.
+    pub fn holds(&self, addr: u32) -> bool
+        ensures { result ≡ holds addr self.now }
+    {
+        self.first <= addr && addr <= self.last()
+    }
+}
