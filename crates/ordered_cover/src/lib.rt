@@ -1,0 +1,9 @@
+//! Asks a question of every header of a box: the first header that gets through, or disjoint boxes that
+//! hold all headers, each with the one word that all its headers have.
+#![tactic(auto)]
+
+mod probe;
+mod rows;
+
+pub use probe::Probe;
+pub use rows::{Cover, Row};
