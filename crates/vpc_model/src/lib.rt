@@ -1,0 +1,24 @@
+//! The rows of a described network, and the places, stops and verdicts of packets in it.
+//!
+//! The definitions of what packets do stand in `specs/`, one module for each subject.
+#![tactic(auto)]
+
+mod ids;
+mod numbers;
+mod outcomes;
+mod places;
+mod rows;
+mod stops;
+
+pub use ids::Id;
+pub use numbers::{
+    AclNo, AttNo, EniNo, GroupNo, IgwNo, NatNo, PeerNo, SubnetNo, TableNo, TgwTableNo, VpcNo,
+};
+pub use outcomes::{By, Event, Hop, Outcome, Phase, RuleRef, Verdict};
+pub use places::{Came, End, EnterBy, Place, start_place};
+pub use rows::{
+    Acl, AclRow, Association, Attachment, Description, Group, Interface, InterfaceKind,
+    InternetGateway, NatGateway, NatLife, Peering, Permission, PrefixList, Reach, Route,
+    RouteTable, Subnet, Target, TgwRoute, TgwTable, Vpc,
+};
+pub use stops::{Foreign, Stop, StopName};

@@ -1,0 +1,230 @@
+// The rows of a description: what the EC2 describe calls print, as far as it decides where packets go.
+use crate::Id;
+use prefix_text::Prefix;
+use vpc_base::OwnList;
+
+/// A VPC with its IPv4 blocks (DescribeVpcs).
+#[derive(Debug, Drop)]
+pub struct Vpc {
+    pub id: Id,
+    pub blocks: OwnList<Prefix>,
+}
+
+/// A subnet with its availability zone (DescribeSubnets).
+#[derive(Debug, Drop)]
+pub struct Subnet {
+    pub id: Id,
+    pub vpc: Id,
+    pub zone: Id,
+}
+
+/// Whether packets may be sent to an interface by its address alone.
+#[derive(Clone, Copy, Debug, PartialEq, Eq)]
+pub enum InterfaceKind {
+    Host,
+    /// The interface belongs to a NAT gateway or a transit gateway.
+    Gateway,
+}
+
+/// A network interface (DescribeNetworkInterfaces).
+#[derive(Debug, Drop)]
+pub struct Interface {
+    pub id: Id,
+    pub subnet: Id,
+    /// The primary private address.
+    pub primary: Option<u32>,
+    /// The private addresses, each with its public address if it has one.
+    pub addresses: OwnList<(u32, Option<u32>)>,
+    pub groups: OwnList<Id>,
+    /// Whether the source/destination check is on.
+    pub checked: bool,
+    /// Whether the interface is attached to nothing.
+    pub idle: bool,
+    pub kind: InterfaceKind,
+}
+
+/// Which destinations a route serves.
+#[derive(Debug, Drop)]
+pub enum Reach {
+    Block(Prefix),
+    /// The entries of the prefix list with this id.
+    List(Id),
+}
+
+/// Where a route leads.
+#[derive(Debug, Drop)]
+pub enum Target {
+    Local,
+    Internet(Id),
+    Nat(Id),
+    Transit(Id),
+    Peer(Id),
+    Interface(Id),
+    /// A target that isn't followed, such as a VPC endpoint.
+    Other(Id),
+}
+
+/// A row of a route table.
+#[derive(Debug, Drop)]
+pub struct Route {
+    pub reach: Reach,
+    pub target: Target,
+    /// Whether the target is gone.
+    pub blackhole: bool,
+    /// Whether a virtual private gateway put the route there.
+    pub propagated: bool,
+}
+
+/// A route table with the subnets that are associated with it (DescribeRouteTables).
+#[derive(Debug, Drop)]
+pub struct RouteTable {
+    pub id: Id,
+    pub vpc: Id,
+    /// Whether it serves the subnets of its VPC that are associated with no table.
+    pub main: bool,
+    pub subnets: OwnList<Id>,
+    pub routes: OwnList<Route>,
+}
+
+/// A list of blocks that routes and rules name (DescribePrefixLists).
+#[derive(Debug, Drop)]
+pub struct PrefixList {
+    pub id: Id,
+    pub entries: OwnList<Prefix>,
+}
+
+/// A row of a network ACL. `q_from` and `q_to` are destination ports or, for ICMP, 256 times the type
+/// plus the code.
+#[derive(Clone, Copy, Debug, PartialEq, Eq)]
+pub struct AclRow {
+    /// Rows are tried by ascending number.
+    pub number: u16,
+    pub outward: bool,
+    pub allow: bool,
+    /// None for all protocols.
+    pub proto: Option<u8>,
+    pub q_from: u16,
+    pub q_to: u16,
+    /// The sources of inbound packets, or the destinations of outbound ones.
+    pub block: Prefix,
+}
+
+/// A network ACL with the subnets that are associated with it (DescribeNetworkAcls).
+#[derive(Debug, Drop)]
+pub struct Acl {
+    pub id: Id,
+    pub subnets: OwnList<Id>,
+    pub rows: OwnList<AclRow>,
+}
+
+/// A rule of a security group, with all its sources or destinations. `q_from` and `q_to` are as in an
+/// ACL row.
+#[derive(Debug, Drop)]
+pub struct Permission {
+    /// None for all protocols.
+    pub proto: Option<u8>,
+    pub q_from: u16,
+    pub q_to: u16,
+    pub blocks: OwnList<Prefix>,
+    /// Prefix lists by id.
+    pub lists: OwnList<Id>,
+    /// Security groups by id, whose members are meant.
+    pub groups: OwnList<Id>,
+}
+
+/// A security group (DescribeSecurityGroups).
+#[derive(Debug, Drop)]
+pub struct Group {
+    pub id: Id,
+    pub vpc: Id,
+    pub inward: OwnList<Permission>,
+    pub outward: OwnList<Permission>,
+}
+
+/// An internet gateway with the VPCs to which it is attached (DescribeInternetGateways).
+#[derive(Debug, Drop)]
+pub struct InternetGateway {
+    pub id: Id,
+    pub vpcs: OwnList<Id>,
+}
+
+/// Whether a NAT gateway translates packets.
+#[derive(Debug, Drop)]
+pub enum NatLife {
+    /// It isn't available.
+    Gone,
+    /// It has no subnet.
+    Unmodelled,
+    Live {
+        subnet: Id,
+        eni: Id,
+        /// Its private address.
+        address: u32,
+    },
+}
+
+/// A NAT gateway (DescribeNatGateways).
+#[derive(Debug, Drop)]
+pub struct NatGateway {
+    pub id: Id,
+    pub life: NatLife,
+}
+
+/// A VPC peering connection (DescribeVpcPeeringConnections).
+#[derive(Debug, Drop)]
+pub struct Peering {
+    pub id: Id,
+    /// The two VPCs, where it is active.
+    pub pair: Option<(Id, Id)>,
+}
+
+/// The attachment of a VPC to a transit gateway (DescribeTransitGatewayVpcAttachments).
+#[derive(Debug, Drop)]
+pub struct Attachment {
+    pub id: Id,
+    pub gateway: Id,
+    pub vpc: Id,
+    /// At most one for each zone.
+    pub subnets: OwnList<Id>,
+}
+
+/// The table that an attachment's packets are routed by (DescribeTransitGatewayAttachments).
+#[derive(Debug, Drop)]
+pub struct Association {
+    pub attachment: Id,
+    pub table: Id,
+}
+
+/// A row of a transit gateway route table.
+#[derive(Debug, Drop)]
+pub struct TgwRoute {
+    pub block: Prefix,
+    pub blackhole: bool,
+    pub propagated: bool,
+    pub attachment: Option<Id>,
+}
+
+/// A transit gateway route table (SearchTransitGatewayRoutes).
+#[derive(Debug, Drop)]
+pub struct TgwTable {
+    pub id: Id,
+    pub routes: OwnList<TgwRoute>,
+}
+
+/// A whole described network.
+#[derive(Debug, Drop)]
+pub struct Description {
+    pub vpcs: OwnList<Vpc>,
+    pub subnets: OwnList<Subnet>,
+    pub interfaces: OwnList<Interface>,
+    pub tables: OwnList<RouteTable>,
+    pub lists: OwnList<PrefixList>,
+    pub acls: OwnList<Acl>,
+    pub groups: OwnList<Group>,
+    pub igws: OwnList<InternetGateway>,
+    pub nats: OwnList<NatGateway>,
+    pub peerings: OwnList<Peering>,
+    pub attachments: OwnList<Attachment>,
+    pub associations: OwnList<Association>,
+    pub tgw_tables: OwnList<TgwTable>,
+}
