@@ -1,2 +1,16 @@
 pub mod Id
 pub mod Place
+pub mod Choice
+pub mod Lookup
+pub mod Filter
+pub mod Routes
+pub mod Acls
+pub mod Groups
+pub mod Connections
+pub mod Internet
+pub mod Peerings
+pub mod Nat
+pub mod Transit
+pub mod Step
+pub mod Walk
+pub mod Verdict
