@@ -14,3 +14,4 @@ pub mod Transit
 pub mod Step
 pub mod Walk
 pub mod Verdict
+pub mod Examples
