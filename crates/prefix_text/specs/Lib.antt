@@ -1,1 +1,3 @@
+pub mod Addr
 pub mod Block
+pub mod Number

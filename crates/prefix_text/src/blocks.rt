@@ -41,7 +41,10 @@ impl Prefix {
         ensures { result ≡ block_of addr length }
     {
         let host = u64::from(addr) % size(length);
-        Prefix { first: addr - host as u32, length }
+        Prefix {
+            first: addr - host as u32,
+            length,
+        }
     }
 
     /// The least address.
