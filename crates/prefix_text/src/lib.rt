@@ -3,8 +3,9 @@
 
 mod addresses;
 mod blocks;
+mod buffers;
 mod numbers;
 
-pub use addresses::read_addr;
+pub use addresses::{dotted_quad, put_addr, read_addr};
 pub use blocks::Prefix;
-pub use numbers::read_number;
+pub use numbers::{decimal_digits, put_number, read_number};
