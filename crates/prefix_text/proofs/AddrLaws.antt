@@ -1,5 +1,5 @@
 -- Addresses and their texts.
-use Rattle.std.proofs.Common.{◌≡◌, ◌≢◌, ℕ, ◌+◌, ◌*◌, ◌/◌, ◌%◌, ◌^◌, ◌<◌, ◌≤◌, ◌==◌, true, false, List, [], ◌∷◌, ◌++◌, length, get_or, map, Option, Some, None, Result, Ok, Err, decimal, codes, All, refl, sym, ap, ◌∙◌, arith, lit≤, lit<, ne_eqb, append_assoc}
+use Rattle.std.proofs.Common.{◌≡◌, ℕ, ◌/◌, ◌%◌, ◌^◌, ◌<◌, ◌==◌, false, List, [], ◌∷◌, ◌++◌, get_or, map, Option, Some, None, Result, Ok, Err, decimal, All, refl, sym, ap, ◌∙◌, arith, lit<, ne_eqb, append_assoc}
 use Rattle.std.proofs.lemmas.Option.{none-some, same_Some}
 use Rattle.std.proofs.lemmas.Fmt.{decimal_is_IsNumeral}
 use Rattle.std.proofs.lemmas.Str.Parse.{digit_at}
@@ -10,8 +10,8 @@ use Rattle.std.specs.Net.Text.{dotted_text}
 use Rattle.std.specs.Int.{w32, from_be_bytes}
 use Rattle.std.specs.Option.{option_map}
 use Rattle.std.specs.Result.{result_ok}
-use Rattle.std.specs.Net.Addr.{ipv4_octets, ipv4_bits}
-use Rattle.std.specs.Net.Grammar.{IsDotted, IsIpv4Text, Parses}
+use Rattle.std.specs.Net.Addr.{ipv4_bits}
+use Rattle.std.specs.Net.Grammar.{IsIpv4Text, Parses}
 use Rattle.std.specs.declared.net.ipv4_addr.Ipv4Addr.{Ipv4Addr}
 use Rattle.prefix_text.specs.Number.{number_of}
 use Rattle.prefix_text.specs.Addr.{addr_at, addr_text, addr_of_octets, addr_of}

@@ -1,6 +1,6 @@
 -- Numbers and their texts.
-use Rattle.std.proofs.Common.{◌≡◌, ℕ, ◌+◌, ◌*◌, ◌^◌, ◌<◌, ◌≤◌, ◌==◌, nat_le, not, true, false, Bool, cond, ◌&&◌, ◌||◌, List, length, get_or, Option, Some, None, decimal, refl, sym, ap, ◌∙◌, arith, lit≤, lit<, inl, inr, le-leb, eq-eqb, ne_eqb, eqb-true}
-use Rattle.std.proofs.lemmas.Bool.{and_parts, and_from, or_cases, or_left, or_right, not_from_false, not-true, eqb-false, leb-true, cases_lt, cond-true, true≢false}
+use Rattle.std.proofs.Common.{◌≡◌, ℕ, ◌^◌, ◌<◌, ◌≤◌, ◌==◌, not, true, ◌||◌, List, length, get_or, Some, decimal, sym, ap, ◌∙◌, arith, lit<, inl, inr, le-leb, eq-eqb, ne_eqb, eqb-true}
+use Rattle.std.proofs.lemmas.Bool.{and_parts, and_from, or_cases, or_left, or_right, not_from_false, not-true, eqb-false, leb-true, cases_lt, cond-true}
 use Rattle.std.proofs.lemmas.Option.{cond_some}
 use Rattle.std.proofs.lemmas.Fmt.{decimal_is_IsNumeral, decimal_digit, first_decimal, length-decimal-le, decimal-digits_value, digits_decimal, digits_value-decimal}
 use Rattle.std.proofs.lemmas.Str.Parse.{IsNumeralModel, numerals_by_value, tells_all_ascii_digits, digits_value_short}
@@ -54,3 +54,7 @@ number_of-Some text max n e =
     let spelled : decimal (digits_value 10 text) ≡ text = decimal-digits_value own text digits (omega arith) alone (omega arith) in
     let most : digits_value 10 text ≤ max = leb-true _ max fits in
     (sym spelled ∙ ap (λ k. decimal k) value, omega arith, omega arith)
+
+-- a number below a hundred has two digits at most
+pub two_digits : (n : ℕ) → n ≤ 32 → length (decimal n) ≤ 2
+two_digits n fits = length-decimal-le 2 n (lit< tt) (omega arith) (omega arith)

@@ -1,5 +1,5 @@
 // Decimal numbers.
-ghost use Rattle.std.specs.Prelude.{◌≡◌, ◌≤◌, ◌+◌, ◌++◌, length, decimal, Some, None, if◌then◌else◌, OnOk, OnErr};
+ghost use Rattle.std.specs.Prelude.{◌≡◌, ◌≤◌, ◌+◌, ◌++◌, length, decimal, Some, None, if◌then◌else◌, IfSome, OnOk, OnErr};
 ghost use Rattle.std.specs.Str.{all_ascii_digits};
 ghost use Rattle.std.specs.Str.Parse.{digits_value};
 ghost use Rattle.arrayvec.specs.ArrayVec.{array_vec_len};
@@ -31,7 +31,8 @@ fn digits(text: &[u8]) -> Option<u64>
 /// The number that the text writes: one to ten decimal digits, without a sign or a leading zero.
 /// `None` for any other text, and past `max`.
 pub fn read_number(text: &[u8], max: u64) -> Option<u64>
-    ensures { result ≡ number_of text.now max }
+    ensures value { result ≡ number_of text.now max }
+    ensures within { IfSome result (λ n. n ≤ max) }
 {
     if text.is_empty() || text.len() > MAX_DIGITS || (text.len() > 1 && text[0] == b'0') {
         return None;
