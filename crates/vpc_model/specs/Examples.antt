@@ -46,7 +46,8 @@ one_subnet = record {
   peerings = [];
   attachments = [];
   associations = [];
-  tgw_tables = [] }
+  tgw_tables = [];
+}
 
 abbrev pub a_to_b : ℕ → Header
 a_to_b q = record { proto = 6; src = 167772426; dst = 167772436; p = 5000; q = q }
@@ -56,9 +57,10 @@ abbrev pub IsDelivered : Type 0
 IsDelivered =
     walk_of one_subnet Opening (record { place = OutOf (record { 0 = 0 }); header = a_to_b 443; conns = []; nats = [] }) ≡ record {
       hops = record { place = OutOf (record { 0 = 0 }); header = a_to_b 443; by = Rule (record { group = record { 0 = 0 }; dir = Outward; number = 1 }) }
-        ∷ record { place = Router (record { 0 = 0 }) (FromHost (record { 0 = 0 })); header = a_to_b 443; by = Nothing }
-        ∷ record { place = Into (record { 0 = 1 }); header = a_to_b 443; by = Rule (record { group = record { 0 = 1 }; dir = Inward; number = 1 }) }
-        ∷ [];
+          ∷ record { place = Router (record { 0 = 0 }) (FromHost (record { 0 = 0 })); header = a_to_b 443; by = Nothing }
+          ∷ record { place = Into (record { 0 = 1 }); header = a_to_b 443; by = Rule (record { group = record { 0 = 1 }; dir = Inward; number = 1 }) }
+          ∷ [];
       outcome = Arrived (AtInterface (record { 0 = 1 })) (a_to_b 443);
       conns = record { eni = record { 0 = 0 }; dir = Outward; header = a_to_b 443 } ∷ record { eni = record { 0 = 1 }; dir = Inward; header = a_to_b 443 } ∷ [];
-      nats = [] }
+      nats = [];
+    }
