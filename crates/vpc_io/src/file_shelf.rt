@@ -44,7 +44,11 @@ fn read_more<F: Read>(
 }
 
 // The bytes that the reader has left, if they are at most `max`. Each turn takes at least one byte.
-fn read_up_to<F: Read>(alloc: Global, reader: &mut F, max: usize) -> Result<Vec<u8>, ShelfFault>
+pub(crate) fn read_up_to<F: Read>(
+    alloc: Global,
+    reader: &mut F,
+    max: usize,
+) -> Result<Vec<u8>, ShelfFault>
     ensures whole { IfOk result (λ v. IfTold (F.remaining reader.old) (λ bytes. v.items ≡ bytes)) }
     ensures within { IfOk result (λ v. length v.items ≤ max) }
     ensures too_long { result ≡ Err ShelfFault.TooLong → IfTold (F.remaining reader.old) (λ bytes. max < length bytes) }

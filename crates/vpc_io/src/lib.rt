@@ -14,3 +14,6 @@ pub use memory_sink::{CountSink, MemorySink};
 pub use shelf::{Shelf, ShelfFault};
 pub use sink::{Sink, WriteFailed, put_all};
 pub use write_sink::WriteSink;
+
+#[cfg(test)]
+mod tests;
