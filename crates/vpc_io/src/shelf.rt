@@ -47,11 +47,14 @@ pub trait Shelf {
     /// A file of more bytes is `TooLong`, which is answered only after `max + 1` of them were read.
     /// The file is the same at each call, as far as it is told.
     fn take(&mut self, alloc: Global, name: &str, max: usize) -> Result<Vec<u8>, ShelfFault>
-        ensures whole { IfOk result (λ v. IfTold (told self.old name.now) (λ bytes. v.items ≡ bytes)) }
+        ensures whole { IfOk result
+            (λ v. IfTold (told self.old name.now) (λ bytes. v.items ≡ bytes)) }
         ensures within { IfOk result (λ v. length v.items ≤ max) }
 
-        ensures failed_only_at_fault { result ≡ Err ShelfFault.Failed → Rose (faults self.old name.now) (faults self.new name.now) }
-        ensures too_long { result ≡ Err ShelfFault.TooLong → IfTold (told self.old name.now) (λ bytes. max < length bytes) }
+        ensures failed_only_where_faults_rose { result ≡ Err ShelfFault.Failed
+            → Rose (faults self.old name.now) (faults self.new name.now) }
+        ensures too_long { result ≡ Err ShelfFault.TooLong
+            → IfTold (told self.old name.now) (λ bytes. max < length bytes) }
 
         ensures told_stays { (n : List ℕ) → told self.new n ≡ told self.old n }
         ensures faults_never_fall { (n : List ℕ) → faults self.old n ≤ faults self.new n };
