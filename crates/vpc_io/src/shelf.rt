@@ -5,7 +5,6 @@ ghost use Rattle.vpc_io.specs.Told.{IfTold};
 ghost use Rattle.vpc_io.specs.declared.shelf.ShelfFault.TheVariants.{Memory};
 
 use std::alloc::{AllocError, Global};
-use vpc_base::NoMemory;
 
 /// Why a file was not taken.
 #[derive(Clone, Copy, Debug, PartialEq, Eq)]
@@ -26,15 +25,7 @@ impl From<AllocError> for ShelfFault {
     }
 }
 
-impl From<NoMemory> for ShelfFault {
-    ghost from_gives = { λ _ e. e ≡ Memory };
-
-    fn from(_error: NoMemory) -> ShelfFault {
-        ShelfFault::Memory
-    }
-}
-
-/// Files by name.
+/// Files by name, as under paths.
 pub trait Shelf {
     /// The bytes under each name, where the shelf tells them.
     ghost told: { Self → List ℕ → Option (List ℕ) };
