@@ -1,2 +1,4 @@
 pub mod Boxes
 pub mod Cells
+pub mod Rest
+pub mod Minus

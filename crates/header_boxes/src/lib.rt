@@ -3,6 +3,8 @@
 
 mod boxes;
 mod cells;
+mod products;
+mod rest;
 
 pub use boxes::Box5;
 pub use cells::Cuts;
