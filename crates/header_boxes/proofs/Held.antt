@@ -1,10 +1,10 @@
 -- Which headers are in a box, in the common part of two, and in what is left.
-use Rattle.std.proofs.Common.{◌≡◌, ℕ, ◌≤◌, ◌<◌, ◌+◌, ◌*◌, ◌&&◌, ◌||◌, ◌⊎◌, not, nat_le, nat_lt, Bool, true, false, List, [], ◌∷◌, refl, arith, cond, ap, sym, ◌∙◌, sum_by, length, slice_index_or, max, min}
+use Rattle.std.proofs.Common.{◌≡◌, ℕ, ◌≤◌, ◌+◌, ◌*◌, ◌&&◌, ◌||◌, not, nat_le, nat_lt, Bool, true, false, List, [], ◌∷◌, refl, arith, cond, ap, sym, ◌∙◌, sum_by, max, min}
 use Rattle.std.proofs.lemmas.Bool.Decides.{nat_tests}
 use Rattle.std.proofs.lemmas.List.Folds.{list_any_at}
 use Rattle.std.proofs.lemmas.List.Kept.{AllPairs-cons}
 use Rattle.std.proofs.lemmas.List.Sums.{sum_by-cons}
-use Rattle.std.specs.List.{list_any, count_by, AllPairs, All}
+use Rattle.std.specs.List.{list_any, count_by, AllPairs}
 use Rattle.vpc_base.specs.declared.headers.Header.{Header}
 use Rattle.header_boxes.specs.declared.boxes.Box5.{Box5}
 use Rattle.header_boxes.specs.Boxes.{in_range, holds, IsValid, IsRangeWithin, IsWithin, AreDisjoint, low_of, common_range, common_box}
@@ -50,7 +50,7 @@ in_from_holds h b t =
       src = range_in b.src h.src (and_first (in_range b.src h.src) (in_range b.dst h.dst && (in_range b.p h.p && in_range b.q h.q)) r0);
       dst = range_in b.dst h.dst (and_first (in_range b.dst h.dst) (in_range b.p h.p && in_range b.q h.q) r1);
       p = range_in b.p h.p (and_first (in_range b.p h.p) (in_range b.q h.q) r2);
-      q = range_in b.q h.q (and_second (in_range b.p h.p) (in_range b.q h.q) r2)
+      q = range_in b.q h.q (and_second (in_range b.p h.p) (in_range b.q h.q) r2);
     }
 
 pub holds_from_in : (h : Header) (b : Box5) → IsIn h b → holds h b ≡ true
@@ -87,7 +87,11 @@ pub holds_whole : (h : Header) (part whole : Box5) → IsWithin part whole → h
 holds_whole h c w within t =
     let i = in_from_holds h c t in
     holds_from_in h w (record {
-      proto = wider within.proto i.proto; src = wider within.src i.src; dst = wider within.dst i.dst; p = wider within.p i.p; q = wider within.q i.q
+      proto = wider within.proto i.proto;
+      src = wider within.src i.src;
+      dst = wider within.dst i.dst;
+      p = wider within.p i.p;
+      q = wider within.q i.q;
     })
   where
     wider : {c w : ℕ × ℕ} {x : ℕ} → IsRangeWithin c w → (c.0 ≤ x) × (x ≤ c.1) → (w.0 ≤ x) × (x ≤ w.1)
@@ -197,12 +201,12 @@ disjoint_if_one : (xs : List Box5) → ((h : Header) → count_by (holds h) xs �
 disjoint_if_one [] one = λ i j d lt within. absurd (omega arith)
 disjoint_if_one (x ∷ xs) one =
     AllPairs-cons AreDisjoint x xs
-      (λ k d at h s t.
-        let c = one h in
-        let e = sum_by-cons (λ y. cond (holds h y) 1 0) x xs in
-        let a : nat_lt 0 (count_by (holds h) xs) ≡ true = sym (any_from_count (holds h) xs) ∙ list_any_at (holds h) xs k d at t in
-        grind (arith, nat_tests))
-      (disjoint_if_one xs (λ h. let c = one h in let e = sum_by-cons (λ y. cond (holds h y) 1 0) x xs in omega arith))
+    (λ k d at h s t.
+    let c = one h in
+    let e = sum_by-cons (λ y. cond (holds h y) 1 0) x xs in
+    let a : nat_lt 0 (count_by (holds h) xs) ≡ true = sym (any_from_count (holds h) xs) ∙ list_any_at (holds h) xs k d at t in
+    grind (arith, nat_tests))
+    (disjoint_if_one xs (λ h. let c = one h in let e = sum_by-cons (λ y. cond (holds h y) 1 0) x xs in omega arith))
 
 at_most_one : (n : ℕ) (c w : Bool) → n + cond c 1 0 ≡ cond w 1 0 → n ≤ 1
 at_most_one n c true e = omega arith

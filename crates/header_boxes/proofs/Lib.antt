@@ -4,3 +4,4 @@ pub mod Order
 pub mod Held
 pub mod Left
 pub mod SideProducts
+pub mod Pieces

@@ -1,5 +1,5 @@
 -- The order of headers.
-use Rattle.std.proofs.Common.{◌≡◌, ℕ, ◌≤◌, ◌<◌, arith, refl, ap, sym, ◌∙◌, ◌⊎◌, ⊎_elim}
+use Rattle.std.proofs.Common.{◌≡◌, ℕ, ◌≤◌, ◌<◌, arith, ap, sym, ◌∙◌, ⊎_elim}
 use Rattle.std.proofs.lemmas.Bool.Decides.{nat_tests}
 use Rattle.std.proofs.lemmas.Cmp.{nat_cmp_total, then_total, on_total}
 use Rattle.std.proofs.lemmas.Bool.{cases_lt}
@@ -9,7 +9,6 @@ use Rattle.std.specs.declared.cmp.Ordering.{Ordering}
 use Rattle.std.specs.declared.cmp.Ordering.TheVariants.{Less, Equal, Greater}
 use Rattle.vpc_base.specs.declared.headers.Header.{Header}
 use Rattle.vpc_base.specs.Header.{order_of, IsBefore}
-use Rattle.header_boxes.specs.declared.boxes.Box5.{Box5}
 
 -- headers are totally ordered
 pub order_of_total : IsTotalOrder order_of
@@ -33,6 +32,7 @@ less_then x y o le same =
   where
     less : (x y : ℕ) (o : Ordering) → x < y → ordering_then (nat_cmp x y) o ≡ Less
     less x y o lt = let e : nat_cmp x y ≡ Less = grind (arith, nat_tests) in ap (λ c. ordering_then c o) e
+
     equal : (x y : ℕ) (o : Ordering) → x ≡ y → ordering_then (nat_cmp x y) o ≡ o
     equal x y o e = let k : nat_cmp x y ≡ Equal = grind (arith, nat_tests) in ap (λ c. ordering_then c o) k
 
@@ -65,6 +65,7 @@ not_less_then x y o le none e =
   where
     greater : (x y : ℕ) (o : Ordering) → y < x → ordering_then (nat_cmp x y) o ≡ Less → ⊥
     greater x y o lt e = let k : nat_cmp x y ≡ Greater = grind (arith, nat_tests) in let f = sym (ap (λ c. ordering_then c o) k) ∙ e in cc
+
     equal : (x y : ℕ) (o : Ordering) → x ≡ y → ordering_then (nat_cmp x y) o ≡ o
     equal x y o e = let k : nat_cmp x y ≡ Equal = grind (arith, nat_tests) in ap (λ c. ordering_then c o) k
 

@@ -1,5 +1,5 @@
 -- What is left of a box.
-use Rattle.std.proofs.Common.{◌≡◌, ℕ, ◌≤◌, ◌+◌, ◌*◌, ◌++◌, List, arith, refl, ap, sym, ◌∙◌, sum_by, map}
+use Rattle.std.proofs.Common.{◌≡◌, ℕ, ◌+◌, ◌*◌, ◌++◌, arith, ap, ◌∙◌, sum_by}
 use Rattle.std.proofs.lemmas.List.Sums.{sum_by-append}
 use Rattle.std.specs.List.{AllByRecursion}
 use Rattle.header_boxes.specs.Boxes.{IsRangeWithin, IsWithin, width, volume_of}
@@ -106,11 +106,11 @@ all_rest R w c k1 k2 k3 k4 k5 =
     let w3 = with_dst w2 c.dst in
     let w4 = with_p w3 c.p in
     all_append (OnSides R w c) _ _
-      (all_map (IsPiece w.proto c.proto) (OnSides R w c) (with_proto w) (λ r h. record { proto = k1.piece r h; src = k2.whole; dst = k3.whole; p = k4.whole; q = k5.whole }) (outside w.proto c.proto) (all_outside w.proto c.proto))
+    (all_map (IsPiece w.proto c.proto) (OnSides R w c) (with_proto w) (λ r h. record { proto = k1.piece r h; src = k2.whole; dst = k3.whole; p = k4.whole; q = k5.whole }) (outside w.proto c.proto) (all_outside w.proto c.proto))
     (all_append (OnSides R w c) _ _
-      (all_map (IsPiece w.src c.src) (OnSides R w c) (with_src w1) (λ r h. record { proto = k1.part; src = k2.piece r h; dst = k3.whole; p = k4.whole; q = k5.whole }) (outside w.src c.src) (all_outside w.src c.src))
+    (all_map (IsPiece w.src c.src) (OnSides R w c) (with_src w1) (λ r h. record { proto = k1.part; src = k2.piece r h; dst = k3.whole; p = k4.whole; q = k5.whole }) (outside w.src c.src) (all_outside w.src c.src))
     (all_append (OnSides R w c) _ _
-      (all_map (IsPiece w.dst c.dst) (OnSides R w c) (with_dst w2) (λ r h. record { proto = k1.part; src = k2.part; dst = k3.piece r h; p = k4.whole; q = k5.whole }) (outside w.dst c.dst) (all_outside w.dst c.dst))
+    (all_map (IsPiece w.dst c.dst) (OnSides R w c) (with_dst w2) (λ r h. record { proto = k1.part; src = k2.part; dst = k3.piece r h; p = k4.whole; q = k5.whole }) (outside w.dst c.dst) (all_outside w.dst c.dst))
     (all_append (OnSides R w c) _ _
-      (all_map (IsPiece w.p c.p) (OnSides R w c) (with_p w3) (λ r h. record { proto = k1.part; src = k2.part; dst = k3.part; p = k4.piece r h; q = k5.whole }) (outside w.p c.p) (all_outside w.p c.p))
-      (all_map (IsPiece w.q c.q) (OnSides R w c) (with_q w4) (λ r h. record { proto = k1.part; src = k2.part; dst = k3.part; p = k4.part; q = k5.piece r h }) (outside w.q c.q) (all_outside w.q c.q)))))
+    (all_map (IsPiece w.p c.p) (OnSides R w c) (with_p w3) (λ r h. record { proto = k1.part; src = k2.part; dst = k3.part; p = k4.piece r h; q = k5.whole }) (outside w.p c.p) (all_outside w.p c.p))
+    (all_map (IsPiece w.q c.q) (OnSides R w c) (with_q w4) (λ r h. record { proto = k1.part; src = k2.part; dst = k3.part; p = k4.part; q = k5.piece r h }) (outside w.q c.q) (all_outside w.q c.q)))))

@@ -1,5 +1,5 @@
 -- Products of five numbers, each at most the size of a side.
-use Rattle.std.proofs.Common.{ℕ, ◌≤◌, ◌*◌, ◌^◌, arith}
+use Rattle.std.proofs.Common.{ℕ, ◌≤◌, ◌*◌, ◌^◌}
 use Rattle.std.proofs.Math.Nat.{mul-le-mul}
 
 pub two_sides : (p q : ℕ) → p ≤ 2 ^ 16 → q ≤ 2 ^ 16 → p * q ≤ 2 ^ 32

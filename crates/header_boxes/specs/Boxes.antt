@@ -1,5 +1,5 @@
 -- Boxes of headers.
-use Rattle.std.specs.Prelude.{ℕ, ◌≡◌, ◌≤◌, ◌<◌, ◌+◌, ◌-◌, ◌*◌, ◌&&◌, nat_le, Bool, true, max, min}
+use Rattle.std.specs.Prelude.{ℕ, ◌≡◌, ◌≤◌, ◌+◌, ◌-◌, ◌*◌, ◌&&◌, nat_le, Bool, true, max, min}
 use Rattle.vpc_base.specs.declared.headers.Header.{Header}
 use Rattle.header_boxes.specs.declared.boxes.Box5.{Box5}
 
@@ -56,9 +56,9 @@ common_range a b = (max a.0 b.0, min a.1 b.1)
 -- the ranges that the sides of two boxes share
 abbrev pub common_box : Box5 → Box5 → Box5
 common_box a b = record {
-    proto = common_range a.proto b.proto;
-    src = common_range a.src b.src;
-    dst = common_range a.dst b.dst;
-    p = common_range a.p b.p;
-    q = common_range a.q b.q
-  }
+  proto = common_range a.proto b.proto;
+  src = common_range a.src b.src;
+  dst = common_range a.dst b.dst;
+  p = common_range a.p b.p;
+  q = common_range a.q b.q;
+}

@@ -1,5 +1,5 @@
 -- Cells: the parts into which cuts divide the sides of a box.
-use Rattle.std.specs.Prelude.{ℕ, ◌≡◌, ◌+◌, ◌*◌, ◌&&◌, nat_le, nat_lt, List, count_by}
+use Rattle.std.specs.Prelude.{ℕ, ◌+◌, ◌*◌, ◌&&◌, nat_le, nat_lt, List, count_by}
 use Rattle.std.specs.List.Sorted.{IsStrictlyIncreasing}
 use Rattle.vpc_base.specs.Cuts.{CutLists, IsSideAligned}
 use Rattle.vpc_base.specs.declared.headers.Header.{Header}

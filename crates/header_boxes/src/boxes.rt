@@ -75,7 +75,13 @@ fn header(proto: u8, src: u32, dst: u32, p: u16, q: u16) -> Header
     ensures value { result ≡ record { proto = proto; src = src; dst = dst; p = p; q = q } }
     ensures fits { IsHeader result }
 {
-    Header { proto, src, dst, p, q }
+    Header {
+        proto,
+        src,
+        dst,
+        p,
+        q,
+    }
 }
 
 impl Box5 {
@@ -124,7 +130,11 @@ impl Box5 {
         ensures none { IfNone result (AreDisjoint self.now other.now) }
     {
         let shared = common(self, other);
-        if is_valid(&shared) { Some(shared) } else { None }
+        if is_valid(&shared) {
+            Some(shared)
+        } else {
+            None
+        }
     }
 
     /// Disjoint boxes that hold exactly the headers of this box outside the part, which need not lie in

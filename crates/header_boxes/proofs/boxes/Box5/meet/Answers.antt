@@ -1,6 +1,3 @@
-use Rattle.std.proofs.Common.{◌≡◌, ◌&&◌, subst, sym}
-use Rattle.header_boxes.specs.Boxes.{holds}
-use Rattle.header_boxes.specs.declared.boxes.Box5.{Box5}
 use Rattle.header_boxes.proofs.Held.{holds-common_box}
 use Rattle.header_boxes.proofs.boxes.Box5.meet.Goals as goal
 

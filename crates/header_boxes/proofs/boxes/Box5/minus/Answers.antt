@@ -1,7 +1,6 @@
-use Rattle.std.proofs.Common.{◌≡◌, ◌∙◌, ap, subst, sym}
-use Rattle.header_boxes.specs.Boxes.{IsValid, common_box}
+use Rattle.std.proofs.Common.{◌∙◌, ap, subst, sym}
+use Rattle.header_boxes.specs.Boxes.{IsValid}
 use Rattle.header_boxes.specs.Rest.{rest_of}
-use Rattle.header_boxes.specs.declared.boxes.Box5.{Box5}
 use Rattle.header_boxes.proofs.Left.{IsLeft, left_of_common, left_alone, left_after, left_aligned}
 use Rattle.header_boxes.proofs.boxes.Box5.minus.Goals as goal
 
@@ -20,7 +19,7 @@ returns-in-Some c =
       alone = left.alone;
       volume = left.volume;
       after = left_after w p c.rest_without.result.items left;
-      aligned = left_aligned w p c.rest_without.result.items left
+      aligned = left_aligned w p c.rest_without.result.items left;
     }
 
 pub returns-in-None : goal.returns-in-None
@@ -36,5 +35,5 @@ returns-in-None c =
       alone = left.alone;
       volume = left.volume;
       after = left_after w p c.only.result.items left;
-      aligned = left_aligned w p c.only.result.items left
+      aligned = left_aligned w p c.only.result.items left;
     }
