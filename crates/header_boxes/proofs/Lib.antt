@@ -5,3 +5,5 @@ pub mod Held
 pub mod Left
 pub mod SideProducts
 pub mod Pieces
+pub mod CellNumbers
+pub mod BoxLaws

@@ -2,3 +2,4 @@ pub mod Boxes
 pub mod Cells
 pub mod Rest
 pub mod Minus
+pub mod Laws

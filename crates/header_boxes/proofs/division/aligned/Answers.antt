@@ -1,4 +1,4 @@
-use Rattle.header_boxes.proofs.cells.aligned.Goals as goal
+use Rattle.header_boxes.proofs.division.aligned.Goals as goal
 
 pub returns-then-are_addresses_aligned : goal.returns-then-are_addresses_aligned
 returns-then-are_addresses_aligned c =

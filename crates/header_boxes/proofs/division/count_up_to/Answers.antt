@@ -2,7 +2,7 @@ use Rattle.std.proofs.Common.{rules, of_calls, ℕ, nat_le, sym}
 use Rattle.std.proofs.lemmas.Fn.{always_returns_same}
 use Rattle.std.proofs.lemmas.List.Sorted.{IsPartitionedBy-leb}
 use Rattle.header_boxes.proofs.Pieces.{non_decreasing, count_from_point}
-use Rattle.header_boxes.proofs.cells.count_up_to.Goals as goal
+use Rattle.header_boxes.proofs.division.count_up_to.Goals as goal
 
 pub returns : goal.returns
 returns c =

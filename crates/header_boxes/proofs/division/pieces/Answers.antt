@@ -1,6 +1,6 @@
 use Rattle.std.proofs.Common.{arith}
 use Rattle.header_boxes.proofs.Pieces.{count_apart, piece_of_bound}
-use Rattle.header_boxes.proofs.cells.pieces.Goals as goal
+use Rattle.header_boxes.proofs.division.pieces.Goals as goal
 
 pub overflow_sub-result : goal.overflow_sub-result
 overflow_sub-result c =

@@ -1,6 +1,6 @@
 use Rattle.std.proofs.lemmas.List.Sorted.{searched}
 use Rattle.header_boxes.proofs.Pieces.{non_decreasing, is_ok_if_found}
-use Rattle.header_boxes.proofs.cells.is_cut.Goals as goal
+use Rattle.header_boxes.proofs.division.is_cut.Goals as goal
 
 pub returns : goal.returns
 returns c =
