@@ -205,6 +205,9 @@ left_alone w c valid apart = record {
     same : (w c : ℕ × ℕ) → HasSideOf w c w
     same w c = record { begins = inl refl; ends = inl refl }
 
+pub left_valid : (w c : Box5) (boxes : List Box5) → IsLeft w c boxes → All IsValid boxes
+left_valid w c boxes left k d at = valid_if_within (slice_index_or boxes k d) w (left.within k d at)
+
 -- what follows: the boxes come after the part, and are aligned where the part is
 pub left_after : (w c : Box5) (boxes : List Box5) → IsLeft w c boxes → holds (low_of w) c ≡ true → All (λ b. IsBefore (low_of c) (low_of b)) boxes
 left_after w c boxes left first k d at =

@@ -7,3 +7,4 @@ pub mod SideProducts
 pub mod Pieces
 pub mod CellNumbers
 pub mod BoxLaws
+pub mod Codes

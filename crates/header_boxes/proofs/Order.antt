@@ -42,7 +42,7 @@ less_last x y le other = grind (arith, nat_tests)
 abbrev header : ℕ → ℕ → ℕ → ℕ → ℕ → Header
 header proto src dst p q = record { proto = proto; src = src; dst = dst; p = p; q = q }
 
-same_fields : (a b : Header) → a.proto ≡ b.proto → a.src ≡ b.src → a.dst ≡ b.dst → a.p ≡ b.p → a.q ≡ b.q → a ≡ b
+pub same_fields : (a b : Header) → a.proto ≡ b.proto → a.src ≡ b.src → a.dst ≡ b.dst → a.p ≡ b.p → a.q ≡ b.q → a ≡ b
 same_fields a b e1 e2 e3 e4 e5 =
     ap (λ t. header t a.src a.dst a.p a.q) e1
     ∙ ap (λ t. header b.proto t a.dst a.p a.q) e2

@@ -71,6 +71,14 @@ fn width32(side: (u32, u32)) -> u64
     u64::from(side.1 - side.0) + 1
 }
 
+fn only(b: &Box5) -> Rest
+    ensures { result.items ≡ b.now ∷ [] }
+{
+    let mut rest = ArrayVec::new();
+    rest.push(*b);
+    rest
+}
+
 fn header(proto: u8, src: u32, dst: u32, p: u16, q: u16) -> Header
     ensures value { result ≡ record { proto = proto; src = src; dst = dst; p = p; q = q } }
     ensures fits { IsHeader result }
@@ -106,9 +114,11 @@ impl Box5 {
     }
 
     /// How many headers the box holds.
+    #[tactic(auto, using(crate::proofs::BoxLaws::volume_is_positive))]
     pub fn volume(&self) -> u128
         requires { IsValid self.now }
         ensures value { result ≡ volume_of self.now }
+        ensures some { 1 ≤ result }
         ensures bound { result ≤ 2 ^ 104 }
     {
         product(
@@ -137,10 +147,11 @@ impl Box5 {
         }
     }
 
-    /// Disjoint boxes that hold exactly the headers of this box outside the part, which need not lie in
-    /// it: where the two share no header, this box alone.
+    /// Disjoint boxes, at most two a side, that hold exactly the headers of this box outside the part. The
+    /// part need not lie in this box: where the two share no header, the answer is this box alone.
     pub fn minus(&self, part: &Box5) -> ArrayVec<Box5, 10>
         requires { IsValid self.now }
+        ensures valid { All IsValid result.items }
         ensures within { All (λ b. IsWithin b self.now) result.items }
         ensures disjoint { AllPairs AreDisjoint result.items }
         ensures holds { (h : Packet) → list_any (holds h) result.items ≡ (holds h self.now && not (holds h part.now)) }
@@ -158,12 +169,4 @@ impl Box5 {
             None => only(self),
         }
     }
-}
-
-fn only(b: &Box5) -> Rest
-    ensures { result.items ≡ b.now ∷ [] }
-{
-    let mut rest = ArrayVec::new();
-    rest.push(*b);
-    rest
 }

@@ -6,6 +6,8 @@ mod division;
 mod laws;
 mod products;
 mod rest;
+#[cfg(test)]
+mod tests;
 
 pub use boxes::Box5;
 pub use division::{Cuts, aligned, cells};
