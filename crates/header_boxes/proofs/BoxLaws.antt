@@ -1,9 +1,9 @@
 -- The laws of boxes.
-use Rattle.std.proofs.Common.{ℕ, ◌≤◌, ◌+◌, ◌*◌, arith}
+use Rattle.std.proofs.Common.{ℕ, ◌≤◌, arith}
 use Rattle.std.proofs.Math.Nat.{mul-le-mul}
 use Rattle.header_boxes.specs.Boxes.{low_of, width}
-use Rattle.header_boxes.specs.Laws.{LowIsLeast, HoldsLow, VolumeIsPositive, WithinHolds, MinusLowAfter, MinusAligned, AlignedIsTransitive, AlignedGrows, AlignedHoldsCells, CellsAreNumbered}
-use Rattle.header_boxes.proofs.CellNumbers.{aligned_through, aligned_to_more, whole_cell, cell_of-lt-cells_of}
+use Rattle.header_boxes.specs.Laws.{LowIsLeast, HoldsLow, VolumeIsPositive, WithinHolds, MinusLowAfter, MinusAligned, AlignedIsTransitive, AlignedByEnds, AlignedGrows, AlignedHoldsCells, CellsAreNumbered}
+use Rattle.header_boxes.proofs.CellNumbers.{aligned_through, aligned_by_low, aligned_to_more, whole_cell, cell_of-lt-cells_of}
 use Rattle.header_boxes.proofs.Held.{holds_low, holds_whole, low_under}
 use Rattle.header_boxes.proofs.Left.{low_after, aligned_left}
 use Rattle.header_boxes.proofs.Order.{not_before_if_under}
@@ -32,6 +32,9 @@ minus_aligned = aligned_left
 
 pub aligned_transitive : AlignedIsTransitive
 aligned_transitive = aligned_through
+
+pub aligned_by_ends : AlignedByEnds
+aligned_by_ends = aligned_by_low
 
 pub aligned_grows : AlignedGrows
 aligned_grows = aligned_to_more

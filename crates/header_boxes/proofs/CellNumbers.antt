@@ -1,5 +1,5 @@
 -- The numbers of cells, and aligned boxes.
-use Rattle.std.proofs.Common.{◌≡◌, ℕ, ◌≤◌, ◌<◌, ◌+◌, ◌*◌, ◌&&◌, ◌⊎◌, nat_le, nat_lt, Bool, true, false, List, refl, arith, ap, sym, subst, ◌∙◌, slice_index_or, inl, inr, ⊎_elim}
+use Rattle.std.proofs.Common.{◌≡◌, ℕ, ◌≤◌, ◌<◌, ◌+◌, ◌*◌, ◌&&◌, nat_le, nat_lt, true, false, List, refl, arith, ap, sym, subst, ◌∙◌, slice_index_or, inl, inr, ⊎_elim}
 use Rattle.std.proofs.Math.Nat.{mul-le-mul, mul_assoc}
 use Rattle.std.proofs.lemmas.Bool.{cases_lt}
 use Rattle.std.proofs.lemmas.Bool.Decides.{nat_tests}
@@ -8,9 +8,9 @@ use Rattle.std.specs.List.{Contains}
 use Rattle.vpc_base.specs.Cuts.{CutLists, AreAmong, IsSideAligned}
 use Rattle.vpc_base.specs.declared.headers.Header.{Header}
 use Rattle.header_boxes.specs.declared.boxes.Box5.{Box5}
-use Rattle.header_boxes.specs.Boxes.{holds, IsRangeWithin, IsWithin}
-use Rattle.header_boxes.specs.Cells.{IsAligned, piece_of, pieces_of, cell_of, cells_of}
-use Rattle.header_boxes.proofs.Held.{IsIn, in_from_holds, holds_from_in}
+use Rattle.header_boxes.specs.Boxes.{holds, low_of, IsRangeWithin, IsWithin}
+use Rattle.header_boxes.specs.Cells.{IsAligned, EndsAligned, piece_of, pieces_of, cell_of, cells_of}
+use Rattle.header_boxes.proofs.Held.{in_from_holds, holds_from_in}
 use Rattle.header_boxes.proofs.Pieces.{count_by-le, count_by-lt}
 
 -- ---- pieces of a side
@@ -174,3 +174,13 @@ aligned_to_itself cuts b = record {
   where
     same : (cuts : List ℕ) (r : ℕ × ℕ) → IsSideAligned cuts r r
     same cuts r = record { begins = inl refl; ends = inl refl }
+
+-- a part that begins where the whole does is aligned where its ends are
+pub aligned_by_low : (cuts : CutLists) (part whole : Box5) → low_of part ≡ low_of whole → EndsAligned cuts part whole → IsAligned cuts part whole
+aligned_by_low cuts part whole low ends = record {
+  proto = record { begins = inl (ap (λ (h : Header). h.proto) low); ends = ends.proto };
+  src = record { begins = inl (ap (λ (h : Header). h.src) low); ends = ends.src };
+  dst = record { begins = inl (ap (λ (h : Header). h.dst) low); ends = ends.dst };
+  p = record { begins = inl (ap (λ (h : Header). h.p) low); ends = ends.p };
+  q = record { begins = inl (ap (λ (h : Header). h.q) low); ends = ends.q };
+}

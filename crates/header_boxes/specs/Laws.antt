@@ -1,10 +1,10 @@
 -- What a search over boxes rests on.
-use Rattle.std.specs.Prelude.{ℕ, ◌≡◌, ◌≤◌, ◌<◌, true, false}
+use Rattle.std.specs.Prelude.{◌≡◌, ◌≤◌, ◌<◌, true, false}
 use Rattle.vpc_base.specs.Cuts.{CutLists, AreAmong}
 use Rattle.vpc_base.specs.Header.{IsBefore}
 use Rattle.vpc_base.specs.declared.headers.Header.{Header}
 use Rattle.header_boxes.specs.Boxes.{holds, low_of, volume_of, IsValid, IsWithin}
-use Rattle.header_boxes.specs.Cells.{IsAligned, cell_of, cells_of}
+use Rattle.header_boxes.specs.Cells.{IsAligned, EndsAligned, cell_of, cells_of}
 use Rattle.header_boxes.specs.Minus.{HasSidesOf}
 use Rattle.header_boxes.specs.declared.boxes.Box5.{Box5}
 
@@ -35,6 +35,10 @@ MinusAligned = (cuts : CutLists) (whole part b : Box5) → IsAligned cuts part w
 -- a part that is aligned to an aligned box is aligned
 abbrev pub AlignedIsTransitive : Type 0
 AlignedIsTransitive = (cuts : CutLists) (part middle whole : Box5) → IsAligned cuts part middle → IsAligned cuts middle whole → IsAligned cuts part whole
+
+-- a part that begins where the whole does is aligned where its ends are
+abbrev pub AlignedByEnds : Type 0
+AlignedByEnds = (cuts : CutLists) (part whole : Box5) → low_of part ≡ low_of whole → EndsAligned cuts part whole → IsAligned cuts part whole
 
 -- what is aligned to some cuts is aligned to more
 abbrev pub AlignedGrows : Type 0

@@ -1,4 +1,5 @@
--- What is left of a box without a part that lies in it, as a list of boxes.
+-- What is left of a box without a part that lies in it, as the list of boxes that this crate makes. Public
+-- clauses don't cite it: they say what the boxes hold.
 use Rattle.std.specs.Prelude.{ℕ, ◌+◌, ◌-◌, nat_lt, List, [], ◌∷◌, ◌++◌, if◌then◌else◌, map}
 use Rattle.header_boxes.specs.declared.boxes.Box5.{Box5}
 

@@ -107,11 +107,11 @@ pub fn cells(cuts: &Cuts, b: &Box5) -> u128
     ensures bound { result ≤ 2 ^ 104 }
 {
     product(
-        pieces8(&cuts.proto, b.proto),
-        pieces32(&cuts.addr, b.src),
-        pieces32(&cuts.addr, b.dst),
-        pieces16(&cuts.p, b.p),
-        pieces16(&cuts.q, b.q),
+        pieces8(cuts.of_protocols(), b.proto),
+        pieces32(cuts.of_addresses(), b.src),
+        pieces32(cuts.of_addresses(), b.dst),
+        pieces16(cuts.of_p(), b.p),
+        pieces16(cuts.of_q(), b.q),
     )
 }
 

@@ -1,6 +1,6 @@
 // Laws of boxes, on which a search over boxes rests. The functions do nothing: their contracts say the
 // laws.
-ghost use Rattle.header_boxes.specs.Laws.{AlignedGrows, AlignedHoldsCells, AlignedIsTransitive, CellsAreNumbered, HoldsLow, LowIsLeast, MinusAligned, MinusLowAfter, VolumeIsPositive, WithinHolds};
+ghost use Rattle.header_boxes.specs.Laws.{AlignedByEnds, AlignedGrows, AlignedHoldsCells, AlignedIsTransitive, CellsAreNumbered, HoldsLow, LowIsLeast, MinusAligned, MinusLowAfter, VolumeIsPositive, WithinHolds};
 
 /// No header of a box comes before its low corner.
 pub fn low_is_least()
@@ -35,6 +35,12 @@ pub fn minus_aligned()
 /// A part that is aligned to a box that is aligned to a whole is aligned to that whole.
 pub fn aligned_transitive()
     ensures { AlignedIsTransitive }
+{}
+
+/// A part with the low corner of its whole is aligned where each of its sides ends before a cut or where
+/// that of the whole ends.
+pub fn aligned_by_ends()
+    ensures { AlignedByEnds }
 {}
 
 /// A box that is aligned to some cuts is aligned to more cuts.
