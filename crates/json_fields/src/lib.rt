@@ -16,3 +16,6 @@ pub use fields::{addr_if, flag_if, id_at, id_if, number_if, prefix_if, text_if};
 pub use members::{list_if, member};
 pub use path::Path;
 pub use texts::OwnText;
+
+#[cfg(test)]
+mod tests;
