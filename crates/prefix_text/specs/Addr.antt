@@ -1,5 +1,5 @@
 -- IPv4 addresses as text.
-use Rattle.std.specs.Prelude.{ℕ, ◌+◌, ◌*◌, ◌/◌, ◌%◌, ◌^◌, ◌==◌, List, [], ◌∷◌, map, Option, Some, None}
+use Rattle.std.specs.Prelude.{◌≡◌, ℕ, ◌<◌, ◌+◌, ◌*◌, ◌/◌, ◌%◌, ◌^◌, ◌==◌, List, [], ◌∷◌, map, Option, Some, None}
 use Rattle.std.specs.List.{slice_split}
 use Rattle.std.specs.Net.Text.{dotted_text}
 use Rattle.prefix_text.specs.Number.{number_of}
@@ -21,3 +21,12 @@ addr_of_octets _ = None
 -- the address that the text writes: four numbers up to 255 joined by dots
 abbrev pub addr_of : List ℕ → Option ℕ
 addr_of text = addr_of_octets (map (λ part. number_of part 255) (slice_split (λ c. c == 46) text))
+
+-- an address reads as itself
+abbrev pub AddrsReadBack : Type 0
+AddrsReadBack = (addr : ℕ) → addr < 2 ^ 32 → addr_of (addr_text addr) ≡ Some addr
+
+-- a text that reads as an address is that address's text
+abbrev pub AddrsHaveOneText : Type 0
+AddrsHaveOneText =
+    (text : List ℕ) (addr : ℕ) → addr_of text ≡ Some addr → (text ≡ addr_text addr) × (addr < 2 ^ 32)

@@ -1,5 +1,5 @@
 -- Decimal numbers as text.
-use Rattle.std.specs.Prelude.{ℕ, Bool, ◌&&◌, ◌||◌, not, ◌==◌, nat_le, List, length, slice_index, Option, Some, None, if◌then◌else◌}
+use Rattle.std.specs.Prelude.{◌≡◌, ℕ, ◌^◌, ◌<◌, ◌≤◌, Bool, ◌&&◌, ◌||◌, not, ◌==◌, nat_le, List, length, slice_index, Option, Some, None, if◌then◌else◌, decimal}
 use Rattle.std.specs.Str.{all_ascii_digits}
 use Rattle.std.specs.Str.Parse.{digits_value}
 
@@ -14,3 +14,13 @@ abbrev pub number_of : List ℕ → ℕ → Option ℕ
 number_of text max =
     if is_number text && nat_le (digits_value 10 text) max then Some (digits_value 10 text)
     else None
+
+-- a number of at most ten digits reads as itself
+abbrev pub NumbersReadBack : Type 0
+NumbersReadBack = (n max : ℕ) → n ≤ max → n < 10 ^ 10 → number_of (decimal n) max ≡ Some n
+
+-- a text that reads as a number is that number in decimal
+abbrev pub NumbersHaveOneText : Type 0
+NumbersHaveOneText =
+    (text : List ℕ) (max n : ℕ) → number_of text max ≡ Some n
+    → (text ≡ decimal n) × (n ≤ max) × (n < 10 ^ 10)

@@ -84,8 +84,9 @@ impl Prefix {
     }
 }
 
-/// The prefix that the text writes in CIDR notation: an address, `/` and a decimal number up to 32.
-/// Host bits may be set, and are cleared. `None` for any other text.
+/// The prefix that a text writes in CIDR notation (RFC 4632): an address, `/` and a decimal number up
+/// to 32. Host bits may be set and are cleared, as EC2's `CreateVpc` does with a block that it is
+/// given. `None` for any other text. It takes no memory.
 pub fn read_prefix(text: &[u8]) -> Option<Prefix>
     ensures { result ≡ prefix_of text.now }
 {
@@ -110,11 +111,11 @@ pub fn cidr_notation(prefix: &Prefix) -> ArrayVec<u8, 18>
     text
 }
 
-/// Appends the prefix in CIDR notation.
-pub fn put_prefix(out: &mut Vec<u8>, prefix: &Prefix) -> Result<(), NoMemory>
-    ensures ok { OnOk result (out.new.items ≡ out.old.items ++ block_text prefix.now) }
+/// Appends the prefix in CIDR notation. Where memory is refused, nothing is added.
+pub fn put_prefix(out: &mut Vec<u8>, x: &Prefix) -> Result<(), NoMemory>
+    ensures ok { OnOk result (out.new.items ≡ out.old.items ++ block_text x.now) }
     ensures err { OnErr result (out.new.items ≡ out.old.items) }
 {
-    out.extend_from_slice(cidr_notation(prefix).as_slice())?;
+    out.extend_from_slice(cidr_notation(x).as_slice())?;
     Ok(())
 }

@@ -1,8 +1,7 @@
 // Decimal numbers.
-ghost use Rattle.std.specs.Prelude.{◌≡◌, ◌≤◌, ◌+◌, ◌++◌, length, decimal, Some, None, if◌then◌else◌, IfSome, OnOk, OnErr};
+ghost use Rattle.std.specs.Prelude.{◌≡◌, ◌≤◌, ◌++◌, length, decimal, Some, None, if◌then◌else◌, IfSome, OnOk, OnErr};
 ghost use Rattle.std.specs.Str.{all_ascii_digits};
 ghost use Rattle.std.specs.Str.Parse.{digits_value};
-ghost use Rattle.arrayvec.specs.ArrayVec.{array_vec_len};
 ghost use Rattle.prefix_text.specs.Number.{number_of};
 
 use crate::buffers::append;
@@ -10,11 +9,12 @@ use arrayvec::ArrayVec;
 use itoa::Buffer;
 use vpc_base::NoMemory;
 
-// The longest number that is read.
+// How many digits a number that is read may have.
 const MAX_DIGITS: usize = 10;
 
+// The value of digits, unless another byte stands among them.
 fn digits(text: &[u8]) -> Option<u64>
-    requires { length text.now ≤ 10 }
+    requires { length text.now ≤ MAX_DIGITS }
     ensures { result
         ≡ (if all_ascii_digits text.now then Some (digits_value 10 text.now) else None) }
 {
@@ -28,8 +28,8 @@ fn digits(text: &[u8]) -> Option<u64>
     Some(n)
 }
 
-/// The number that the text writes: one to ten decimal digits, without a sign or a leading zero.
-/// `None` for any other text, and past `max`.
+/// The number that a text writes: one to ten decimal digits, without a sign, a blank or a leading
+/// zero (the project's profile). `None` for any other text, and past `max`. It takes no memory.
 pub fn read_number(text: &[u8], max: u64) -> Option<u64>
     ensures value { result ≡ number_of text.now max }
     ensures within { IfSome result (λ n. n ≤ max) }
@@ -41,7 +41,7 @@ pub fn read_number(text: &[u8], max: u64) -> Option<u64>
     if n <= max { Some(n) } else { None }
 }
 
-/// The number in decimal. It takes no memory.
+/// The number in decimal, without a leading zero. It takes no memory.
 pub fn decimal_digits(n: u128) -> ArrayVec<u8, 39>
     ensures { result.items ≡ decimal n }
 {
@@ -50,16 +50,7 @@ pub fn decimal_digits(n: u128) -> ArrayVec<u8, 39>
     text
 }
 
-/// Appends a byte in decimal, which takes three digits at most.
-pub fn append_octet<const N: usize>(text: &mut ArrayVec<u8, N>, octet: u8)
-    requires { array_vec_len text.old + 3 ≤ N }
-    ensures items { text.new.items ≡ text.old.items ++ decimal octet }
-    ensures len { array_vec_len text.new ≤ array_vec_len text.old + 3 }
-{
-    append(text, Buffer::new().format(octet).as_bytes());
-}
-
-/// Appends the number in decimal.
+/// Appends the number in decimal, without a leading zero. Where memory is refused, nothing is added.
 pub fn put_number(out: &mut Vec<u8>, n: u128) -> Result<(), NoMemory>
     ensures ok { OnOk result (out.new.items ≡ out.old.items ++ decimal n) }
     ensures err { OnErr result (out.new.items ≡ out.old.items) }

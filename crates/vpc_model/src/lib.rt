@@ -4,6 +4,7 @@
 #![tactic(auto)]
 
 mod ids;
+pub mod laws;
 mod numbers;
 mod outcomes;
 mod places;

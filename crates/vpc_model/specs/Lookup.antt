@@ -1,0 +1,155 @@
+-- Rows by their numbers, and numbers by ids. A number is the place of a row in its list, from 0. In an
+-- accepted description every number that is asked for is in range and every id that is looked for is
+-- described; elsewhere the row is an empty one, and the number is the list's length.
+use Rattle.std.specs.Prelude.{ℕ, ◌==◌, ◌&&◌, Bool, true, false, List, [], Option, Some, None, bytes_eq, option_map, position, slice_index_or, unwrap_or}
+use Rattle.std.specs.List.{list_any, position_or_len}
+use Rattle.prefix_text.specs.Block.{Block}
+use Rattle.vpc_model.specs.declared.numbers.VpcNo.{VpcNo}
+use Rattle.vpc_model.specs.declared.numbers.SubnetNo.{SubnetNo}
+use Rattle.vpc_model.specs.declared.numbers.EniNo.{EniNo}
+use Rattle.vpc_model.specs.declared.numbers.TableNo.{TableNo}
+use Rattle.vpc_model.specs.declared.numbers.AclNo.{AclNo}
+use Rattle.vpc_model.specs.declared.numbers.GroupNo.{GroupNo}
+use Rattle.vpc_model.specs.declared.numbers.IgwNo.{IgwNo}
+use Rattle.vpc_model.specs.declared.numbers.NatNo.{NatNo}
+use Rattle.vpc_model.specs.declared.numbers.PeerNo.{PeerNo}
+use Rattle.vpc_model.specs.declared.numbers.AttNo.{AttNo}
+use Rattle.vpc_model.specs.declared.numbers.TgwTableNo.{TgwTableNo}
+use Rattle.vpc_model.specs.declared.rows.Description.{Description}
+use Rattle.vpc_model.specs.declared.rows.Vpc.{Vpc}
+use Rattle.vpc_model.specs.declared.rows.Subnet.{Subnet}
+use Rattle.vpc_model.specs.declared.rows.Interface.{Interface}
+use Rattle.vpc_model.specs.declared.rows.InterfaceKind.TheVariants.{Host}
+use Rattle.vpc_model.specs.declared.rows.RouteTable.{RouteTable}
+use Rattle.vpc_model.specs.declared.rows.PrefixList.{PrefixList}
+use Rattle.vpc_model.specs.declared.rows.Acl.{Acl}
+use Rattle.vpc_model.specs.declared.rows.Group.{Group}
+use Rattle.vpc_model.specs.declared.rows.InternetGateway.{InternetGateway}
+use Rattle.vpc_model.specs.declared.rows.NatGateway.{NatGateway}
+use Rattle.vpc_model.specs.declared.rows.NatLife.TheVariants.{Gone}
+use Rattle.vpc_model.specs.declared.rows.Peering.{Peering}
+use Rattle.vpc_model.specs.declared.rows.Attachment.{Attachment}
+use Rattle.vpc_model.specs.declared.rows.TgwTable.{TgwTable}
+use Rattle.vpc_model.specs.Choice.{or_else}
+
+-- the id stands in the list
+abbrev pub is_listed : List ℕ → List (List ℕ) → Bool
+is_listed id ids = list_any (λ i. bytes_eq i id) ids
+
+-- ---- rows by number
+
+abbrev pub vpc_at : Description → VpcNo → Vpc
+vpc_at d v = slice_index_or d.vpcs v.0 (record { id = []; blocks = [] })
+
+abbrev pub subnet_at : Description → SubnetNo → Subnet
+subnet_at d s = slice_index_or d.subnets s.0 (record { id = []; vpc = []; zone = [] })
+
+abbrev pub no_interface : Interface
+no_interface = record { id = []; subnet = []; primary = None; addresses = []; groups = []; checked = true; idle = true; kind = Host }
+
+abbrev pub interface_at : Description → EniNo → Interface
+interface_at d i = slice_index_or d.interfaces i.0 no_interface
+
+abbrev pub table_at : Description → TableNo → RouteTable
+table_at d t = slice_index_or d.tables t.0 (record { id = []; vpc = []; main = false; subnets = []; routes = [] })
+
+abbrev pub acl_at : Description → AclNo → Acl
+acl_at d a = slice_index_or d.acls a.0 (record { id = []; subnets = []; rows = [] })
+
+abbrev pub no_group : Group
+no_group = record { id = []; vpc = []; inward = []; outward = [] }
+
+abbrev pub group_at : Description → GroupNo → Group
+group_at d g = slice_index_or d.groups g.0 no_group
+
+abbrev pub igw_at : Description → IgwNo → InternetGateway
+igw_at d g = slice_index_or d.igws g.0 (record { id = []; vpcs = [] })
+
+abbrev pub nat_at : Description → NatNo → NatGateway
+nat_at d n = slice_index_or d.nats n.0 (record { id = []; life = Gone })
+
+abbrev pub peering_at : Description → PeerNo → Peering
+peering_at d x = slice_index_or d.peerings x.0 (record { id = []; pair = None })
+
+abbrev pub attachment_at : Description → AttNo → Attachment
+attachment_at d a = slice_index_or d.attachments a.0 (record { id = []; gateway = []; vpc = []; subnets = [] })
+
+abbrev pub tgw_table_at : Description → TgwTableNo → TgwTable
+tgw_table_at d t = slice_index_or d.tgw_tables t.0 (record { id = []; routes = [] })
+
+-- ---- numbers by id
+
+abbrev pub vpc_no : Description → List ℕ → VpcNo
+vpc_no d id = record { 0 = position_or_len (λ v. bytes_eq v.id id) d.vpcs }
+
+-- the VPC is described
+abbrev pub has_vpc : Description → List ℕ → Bool
+has_vpc d id = list_any (λ v. bytes_eq v.id id) d.vpcs
+
+abbrev pub subnet_no : Description → List ℕ → SubnetNo
+subnet_no d id = record { 0 = position_or_len (λ s. bytes_eq s.id id) d.subnets }
+
+abbrev pub eni_no : Description → List ℕ → EniNo
+eni_no d id = record { 0 = position_or_len (λ e. bytes_eq e.id id) d.interfaces }
+
+abbrev pub igw_no : Description → List ℕ → IgwNo
+igw_no d id = record { 0 = position_or_len (λ g. bytes_eq g.id id) d.igws }
+
+abbrev pub nat_no : Description → List ℕ → NatNo
+nat_no d id = record { 0 = position_or_len (λ n. bytes_eq n.id id) d.nats }
+
+abbrev pub peer_no : Description → List ℕ → PeerNo
+peer_no d id = record { 0 = position_or_len (λ x. bytes_eq x.id id) d.peerings }
+
+-- the number of a described group, attachment or transit gateway table
+abbrev pub group_of_id : Description → List ℕ → Option GroupNo
+group_of_id d id = option_map (λ k. record { 0 = k }) (position (λ g. bytes_eq g.id id) d.groups)
+
+abbrev pub attachment_of_id : Description → List ℕ → Option AttNo
+attachment_of_id d id = option_map (λ k. record { 0 = k }) (position (λ a. bytes_eq a.id id) d.attachments)
+
+abbrev pub tgw_table_of_id : Description → List ℕ → Option TgwTableNo
+tgw_table_of_id d id = option_map (λ k. record { 0 = k }) (position (λ t. bytes_eq t.id id) d.tgw_tables)
+
+-- the blocks of a prefix list
+abbrev pub entries_of : Description → List ℕ → List Block
+entries_of d id = let l = slice_index_or d.lists (position_or_len (λ l. bytes_eq l.id id) d.lists) (record { id = []; entries = [] }) in l.entries
+
+-- ---- what belongs to what
+
+abbrev pub vpc_of_subnet : Description → SubnetNo → VpcNo
+vpc_of_subnet d s = let row = subnet_at d s in vpc_no d row.vpc
+
+abbrev pub subnet_of : Description → EniNo → SubnetNo
+subnet_of d i = let e = interface_at d i in subnet_no d e.subnet
+
+-- the VPC of an interface's subnet, by its id
+abbrev pub vpc_of_interface : Description → Interface → List ℕ
+vpc_of_interface d e = let s = subnet_at d (subnet_no d e.subnet) in s.vpc
+
+-- the interface's subnet is in the VPC
+abbrev pub is_in_vpc : Description → VpcNo → Interface → Bool
+is_in_vpc d v e = let vpc = vpc_at d v in bytes_eq (vpc_of_interface d e) vpc.id
+
+-- the private address is one of the interface's
+abbrev pub has_address : Interface → ℕ → Bool
+has_address e a = list_any (λ x. x.0 == a) e.addresses
+
+-- the interface of a VPC with this private address
+abbrev pub host_of : Description → VpcNo → ℕ → Option EniNo
+host_of d v a = option_map (λ k. record { 0 = k }) (position (λ e. has_address e a && is_in_vpc d v e) d.interfaces)
+
+-- the table of a subnet: the one associated with it, else the main table of its VPC (VPC User Guide, "Subnet route tables")
+abbrev pub table_of : Description → SubnetNo → TableNo
+table_of d s =
+    let row = subnet_at d s in
+    let main = position_or_len (λ t. t.main && bytes_eq t.vpc row.vpc) d.tables in
+    record { 0 = unwrap_or (position (λ t. is_listed row.id t.subnets) d.tables) main }
+
+-- the ACL of a subnet
+abbrev pub acl_of : Description → SubnetNo → AclNo
+acl_of d s = let row = subnet_at d s in record { 0 = position_or_len (λ a. is_listed row.id a.subnets) d.acls }
+
+-- the internet gateway that is attached to a VPC
+abbrev pub gateway_of : Description → VpcNo → Option IgwNo
+gateway_of d v = let row = vpc_at d v in option_map (λ k. record { 0 = k }) (position (λ g. is_listed row.id g.vpcs) d.igws)

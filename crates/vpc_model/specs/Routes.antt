@@ -1,0 +1,47 @@
+-- The route that a table chooses for a destination (VPC User Guide, "Route priority").
+use Rattle.std.specs.Prelude.{ℕ, ◌==◌, ◌&&◌, ◌||◌, not, nat_lt, Bool, true, false, List, Option, Some, None, is_some, option_map, unwrap_or, if◌then◌else◌}
+use Rattle.std.specs.List.{list_any}
+use Rattle.prefix_text.specs.Block.{holds}
+use Rattle.vpc_model.specs.declared.rows.Description.{Description}
+use Rattle.vpc_model.specs.declared.rows.Route.{Route}
+use Rattle.vpc_model.specs.declared.rows.Reach.{Reach}
+use Rattle.vpc_model.specs.declared.rows.Reach.TheVariants.{Block, List as ByList}
+use Rattle.vpc_model.specs.declared.rows.Target.{Target}
+use Rattle.vpc_model.specs.declared.rows.Target.TheVariants.{Local}
+use Rattle.vpc_model.specs.Choice.{chosen, chosen_place}
+use Rattle.vpc_model.specs.Lookup.{entries_of}
+
+-- with what prefix length a reach matches the address: that of its block, or of the longest entry of its prefix list that holds the address
+abbrev pub match_length : Description → ℕ → Reach → Option ℕ
+match_length d a (Block b) = if holds a b then Some b.length else None
+match_length d a (ByList id) = option_map (λ b. b.length) (chosen (holds a) (λ x y. nat_lt y.length x.length) (entries_of d id))
+
+abbrev pub is_local : Target → Bool
+is_local Local = true
+is_local _ = false
+
+abbrev pub matches : Description → ℕ → Route → Bool
+matches d a r = is_some (match_length d a r.reach)
+
+-- a route that matches, unless it is propagated and a local route matches too
+abbrev pub is_candidate : Description → List Route → ℕ → Route → Bool
+is_candidate d routes a r = matches d a r && not ((r.propagated && not (is_local r.target)) && list_any (λ l. is_local l.target && matches d a l) routes)
+
+-- routes to blocks come before routes to prefix lists, and both before propagated routes (the last two are a choice of this project's profile)
+abbrev pub kind_of_reach : Reach → ℕ
+kind_of_reach (Block b) = 0
+kind_of_reach (ByList id) = 1
+
+abbrev pub kind_of : Route → ℕ
+kind_of r = if r.propagated then 2 else kind_of_reach r.reach
+
+-- the first route matches with a longer prefix, or with an equally long one and is of a kind that comes before
+abbrev pub beats : Description → ℕ → Route → Route → Bool
+beats d a r s =
+    let m = unwrap_or (match_length d a r.reach) 0 in
+    let n = unwrap_or (match_length d a s.reach) 0 in
+    nat_lt n m || (m == n && nat_lt (kind_of r) (kind_of s))
+
+-- the place of the chosen route; of equal ones the first
+abbrev pub chosen_route : Description → List Route → ℕ → Option ℕ
+chosen_route d routes a = chosen_place (is_candidate d routes a) (beats d a) routes
