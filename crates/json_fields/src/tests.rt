@@ -5,26 +5,34 @@ use serde_json::Value;
 use std::alloc::Global;
 use std::test::Fail;
 
-fn kind_of(fault: &FieldFault) -> &'static str {
+#[derive(Clone, Copy, Debug, PartialEq, Eq)]
+enum Kind {
+    Value,
+    WrongShape,
+    BadText,
+    Memory,
+}
+
+fn kind_of(fault: &FieldFault) -> Kind {
     match fault {
-        FieldFault::WrongShape(_) => "WrongShape",
-        FieldFault::BadText(_) => "BadText",
-        FieldFault::Memory => "Memory",
+        FieldFault::WrongShape(_) => Kind::WrongShape,
+        FieldFault::BadText(_) => Kind::BadText,
+        FieldFault::Memory => Kind::Memory,
     }
 }
 
-fn told<T: Drop>(answer: Result<T, FieldFault>) -> &'static str {
+fn kind_told<T: Drop>(answer: Result<T, FieldFault>) -> Kind {
     match answer {
-        Ok(_) => "Ok",
+        Ok(_) => Kind::Value,
         Err(fault) => kind_of(&fault),
     }
 }
 
-fn number_told(alloc: Global, text: &str) -> Result<(&'static str, Option<i64>), Fail> {
+fn number_told(alloc: Global, text: &str) -> Result<(Kind, Option<i64>), Fail> {
     let path = Path::row(alloc, "NetworkAcls", 12)?;
     let row = Value::from_str(alloc, text)?;
     match number_if(alloc, &row, &path, "From", -1, 65535) {
-        Ok(number) => Ok(("Ok", number)),
+        Ok(number) => Ok((Kind::Value, number)),
         Err(fault) => Ok((kind_of(&fault), None)),
     }
 }
@@ -32,22 +40,22 @@ fn number_told(alloc: Global, text: &str) -> Result<(&'static str, Option<i64>),
 #[test]
 fn numbers(rt: HostRuntime) -> Result<(), Fail> {
     let cases = [
-        ("{}", "Ok", None),
-        ("[]", "Ok", None),
-        ("{\"From\": null}", "Ok", None),
-        ("{\"From\": -1}", "Ok", Some(-1)),
-        ("{\"From\": 65535}", "Ok", Some(65535)),
-        ("{\"From\": 1, \"From\": 22}", "Ok", Some(22)),
-        ("{\"From\": -2}", "BadText", None),
-        ("{\"From\": 65536}", "BadText", None),
-        ("{\"From\": 9223372036854775808}", "BadText", None),
-        ("{\"From\": 18446744073709551615}", "BadText", None),
-        ("{\"From\": 18446744073709551616}", "WrongShape", None),
-        ("{\"From\": -9223372036854775809}", "WrongShape", None),
-        ("{\"From\": 22.0}", "WrongShape", None),
-        ("{\"From\": 1e2}", "WrongShape", None),
-        ("{\"From\": -0}", "WrongShape", None),
-        ("{\"From\": \"22\"}", "WrongShape", None),
+        ("{}", Kind::Value, None),
+        ("[]", Kind::Value, None),
+        ("{\"From\": null}", Kind::Value, None),
+        ("{\"From\": -1}", Kind::Value, Some(-1)),
+        ("{\"From\": 65535}", Kind::Value, Some(65535)),
+        ("{\"From\": 1, \"From\": 22}", Kind::Value, Some(22)),
+        ("{\"From\": -2}", Kind::BadText, None),
+        ("{\"From\": 65536}", Kind::BadText, None),
+        ("{\"From\": 9223372036854775808}", Kind::BadText, None),
+        ("{\"From\": 18446744073709551615}", Kind::BadText, None),
+        ("{\"From\": 18446744073709551616}", Kind::WrongShape, None),
+        ("{\"From\": -9223372036854775809}", Kind::WrongShape, None),
+        ("{\"From\": 22.0}", Kind::WrongShape, None),
+        ("{\"From\": 1e2}", Kind::WrongShape, None),
+        ("{\"From\": -0}", Kind::WrongShape, None),
+        ("{\"From\": \"22\"}", Kind::WrongShape, None),
     ];
     for (text, kind, number) in cases {
         assert_eq!(rt; number_told(rt.alloc(), text)?, (kind, number), "at {text}");
@@ -57,22 +65,22 @@ fn numbers(rt: HostRuntime) -> Result<(), Fail> {
 
 /// The kinds of a member as a flag, any text, an address, a prefix, an id, and an id that must be
 /// there.
-fn kinds_told(alloc: Global, text: &str) -> Result<[&'static str; 6], Fail> {
+fn kinds_told(alloc: Global, text: &str) -> Result<[Kind; 6], Fail> {
     let path = Path::row(alloc, "Vpcs", 0)?;
     let row = Value::from_str(alloc, text)?;
     Ok([
-        told(flag_if(alloc, &row, &path, "F")),
-        told(text_if(alloc, &row, &path, "F")),
-        told(addr_if(alloc, &row, &path, "F")),
-        told(prefix_if(alloc, &row, &path, "F")),
-        told(id_if(alloc, &row, &path, "F")),
-        told(id_at(alloc, &row, &path, "F")),
+        kind_told(flag_if(alloc, &row, &path, "F")),
+        kind_told(text_if(alloc, &row, &path, "F")),
+        kind_told(addr_if(alloc, &row, &path, "F")),
+        kind_told(prefix_if(alloc, &row, &path, "F")),
+        kind_told(id_if(alloc, &row, &path, "F")),
+        kind_told(id_at(alloc, &row, &path, "F")),
     ])
 }
 
 #[test]
 fn texts_and_flags(rt: HostRuntime) -> Result<(), Fail> {
-    let (ok, text, shape) = ("Ok", "BadText", "WrongShape");
+    let (ok, text, shape) = (Kind::Value, Kind::BadText, Kind::WrongShape);
     let cases = [
         ("{}", [ok, ok, ok, ok, ok, shape]),
         ("7", [ok, ok, ok, ok, ok, shape]),
@@ -94,10 +102,10 @@ fn texts_and_flags(rt: HostRuntime) -> Result<(), Fail> {
     Ok(())
 }
 
-fn rows_told(alloc: Global, text: &str) -> Result<(&'static str, usize), Fail> {
+fn rows_told(alloc: Global, text: &str) -> Result<(Kind, usize), Fail> {
     let bundle = Value::from_str(alloc, text)?;
     match rows_of(alloc, &bundle, "Vpcs") {
-        Ok(rows) => Ok(("Ok", rows.len())),
+        Ok(rows) => Ok((Kind::Value, rows.len())),
         Err(fault) => Ok((kind_of(&fault), 0)),
     }
 }
@@ -105,17 +113,17 @@ fn rows_told(alloc: Global, text: &str) -> Result<(&'static str, usize), Fail> {
 #[test]
 fn lists(rt: HostRuntime) -> Result<(), Fail> {
     let cases = [
-        ("{}", "Ok", 0),
-        ("[]", "Ok", 0),
-        ("{\"Vpcs\": null}", "Ok", 0),
-        ("{\"Vpcs\": [3, 1, 2], \"Tags\": 0}", "Ok", 3),
-        ("[{\"Vpcs\": [3]}, {}, {\"Vpcs\": [1, 2]}]", "Ok", 3),
-        ("{\"Vpcs\": {}}", "WrongShape", 0),
-        ("[{\"Vpcs\": [3]}, {\"Vpcs\": 3}]", "WrongShape", 0),
-        ("[1]", "WrongShape", 0),
-        ("[{\"Vpcs\": 3}, null]", "WrongShape", 0),
-        ("[[]]", "WrongShape", 0),
-        ("null", "WrongShape", 0),
+        ("{}", Kind::Value, 0),
+        ("[]", Kind::Value, 0),
+        ("{\"Vpcs\": null}", Kind::Value, 0),
+        ("{\"Vpcs\": [3, 1, 2], \"Tags\": 0}", Kind::Value, 3),
+        ("[{\"Vpcs\": [3]}, {}, {\"Vpcs\": [1, 2]}]", Kind::Value, 3),
+        ("{\"Vpcs\": {}}", Kind::WrongShape, 0),
+        ("[{\"Vpcs\": [3]}, {\"Vpcs\": 3}]", Kind::WrongShape, 0),
+        ("[1]", Kind::WrongShape, 0),
+        ("[{\"Vpcs\": 3}, null]", Kind::WrongShape, 0),
+        ("[[]]", Kind::WrongShape, 0),
+        ("null", Kind::WrongShape, 0),
     ];
     for (text, kind, rows) in cases {
         assert_eq!(rt; rows_told(rt.alloc(), text)?, (kind, rows), "at {text}");
