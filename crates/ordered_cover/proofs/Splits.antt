@@ -1,0 +1,216 @@
+-- Open boxes and rows that split the sides.
+use Rattle.std.proofs.Common.{◌≡◌, ◌≢◌, ◌≤◌, ◌<◌, ◌+◌, ℕ, Bool, true, false, List, [], ◌∷◌, ◌++◌, Option, Some, None, All, get_or, length, refl, sym, ap, ◌∙◌, subst, arith, sum_by}
+use Rattle.std.proofs.lemmas.List.Elements.{All-nil, All-cons, All-push, All-head, All-tail, All-append, All-weaker}
+use Rattle.std.proofs.lemmas.List.Folds.{Any-from_list_any}
+use Rattle.std.proofs.lemmas.List.Quantifiers.{all_pairs_push}
+use Rattle.std.proofs.lemmas.List.Sorted.{All-permutation, sum_by-IsPermutation}
+use Rattle.std.proofs.lemmas.List.Sums.{sum_by-append, sum_by-cons}
+use Rattle.std.proofs.Math.Nat.{mul-le-mul}
+use Rattle.std.specs.Option.{is_some}
+use Rattle.vpc_base.specs.Header.{IsBefore}
+use Rattle.vpc_base.specs.Cuts.{CutLists}
+use Rattle.vpc_base.specs.declared.headers.Header.{Header}
+use Rattle.header_boxes.specs.Boxes.{holds, IsValid, IsRangeWithin, IsWithin, AreDisjoint, low_of, width, volume_of}
+use Rattle.header_boxes.specs.Cells.{IsAligned}
+use Rattle.header_boxes.specs.declared.boxes.Box5.{Box5}
+use Rattle.ordered_cover.specs.Cover.{IsFirstThrough, NoneThrough, HasWord, is_covered, AreWhole}
+use Rattle.ordered_cover.specs.Open.{one_if, holders, row_holders, IsLeast, IsAsked, AreSplit, AreSplitBySome}
+use Rattle.ordered_cover.specs.declared.rows.Row.{Row}
+use Rattle.ordered_cover.proofs.Lists.{one_at, any_from_one, zero_from_all}
+use Rattle.ordered_cover.proofs.Order.{before_trans, before_upto, before_other}
+use Rattle.ordered_cover.proofs.Boxes.{holds_within, within_trans, within_itself, valid_within, holds_low, low_least, aligned_trans, aligned_itself}
+
+at_most_one : (b : Bool) → one_if b ≤ 1
+at_most_one true = omega arith
+at_most_one false = omega arith
+
+one_for : (b : Bool) → b ≡ true → one_if b ≡ 1
+one_for b h = ap one_if h
+
+is_one : (b : Bool) → 1 ≤ one_if b → b ≡ true
+is_one true h = refl
+is_one false h = absurd (omega arith)
+
+some_none : {W : Type 0} (o : Option W) (w : W) → o ≡ Some w → o ≢ None
+some_none o w e n = let k = sym e ∙ n in absurd (cc)
+
+holder_at : (boxes : List Box5) (h : Header) (k : ℕ) (d : Box5) → k < length boxes → holds h (get_or boxes k d) ≡ true → 1 ≤ holders boxes h
+holder_at boxes h = one_at (holds h) boxes
+
+row_holder_at : {W : Type 0} (rows : List (Row W)) (h : Header) (k : ℕ) (d : Row W) → k < length rows → holds h (get_or rows k d).part ≡ true → 1 ≤ row_holders rows h
+row_holder_at rows h = one_at (λ r. holds h r.part) rows
+
+-- a header before all open boxes is in no open box
+none_open : (open_boxes : List Box5) (b : Box5) → IsLeast b open_boxes → (k : Header) → IsBefore k (low_of b) → holders open_boxes k ≡ 0
+none_open open_boxes b least k before =
+    zero_from_all (holds k) open_boxes (λ i d lt h. least i d lt (before_upto k (low_of (get_or open_boxes i d)) (low_of b) (low_least k (get_or open_boxes i d) h) before))
+
+-- a header in a row doesn't get through
+clear_in_rows : {W : Type 0} {meaning : Header → Option W} (rows : List (Row W)) → All (HasWord meaning) rows → (k : Header) → is_covered rows k ≡ true → meaning k ≢ None
+clear_in_rows {meaning = meaning} rows words k covered =
+    let a = Any-from_list_any (λ r. holds k r.part) rows covered in
+    some_none (meaning k) a.1.word (subst (HasWord meaning) a.3 (words a.0 a.1 a.2) k a.4)
+
+-- ---- the lists before and after the first open box is asked
+module _ {W : Type 0} {meaning : Header → Option W} {cuts : CutLists} {old new : List Box5} {part : Box5} {word : Option W} where
+  of_whole : (P : Box5 → Type 0) (a : IsAsked meaning cuts old new part word) → All P old → P a.whole
+  of_whole P a all = All-head P a.whole a.others (All-permutation P old (a.whole ∷ a.others) a.taken all)
+
+  of_others : (P : Box5 → Type 0) (a : IsAsked meaning cuts old new part word) → All P old → All P a.others
+  of_others P a all = All-tail P a.whole a.others (All-permutation P old (a.whole ∷ a.others) a.taken all)
+
+  of_new : (P : Box5 → Type 0) (a : IsAsked meaning cuts old new part word) → All P a.others → All P a.pieces → All P new
+  of_new P a others pieces = All-permutation P (a.others ++ a.pieces) new a.left (All-append P a.others a.pieces others pieces)
+
+  holders_old : (a : IsAsked meaning cuts old new part word) (h : Header) → holders old h ≡ one_if (holds h a.whole) + holders a.others h
+  holders_old a h = sym (sum_by-IsPermutation (λ b. one_if (holds h b)) old (a.whole ∷ a.others) a.taken) ∙ sum_by-cons (λ b. one_if (holds h b)) a.whole a.others
+
+  holders_new : (a : IsAsked meaning cuts old new part word) (h : Header) → holders new h ≡ holders a.others h + holders a.pieces h
+  holders_new a h = sum_by-IsPermutation (λ b. one_if (holds h b)) (a.others ++ a.pieces) new a.left ∙ sum_by-append (λ b. one_if (holds h b)) a.others a.pieces
+
+-- ---- what is known of a split
+module _ {W : Type 0} {meaning : Header → Option W} {cuts : CutLists} {sides : Box5} where
+  -- before anything was asked
+  pub split_at_start : IsValid sides → AreSplit meaning cuts sides (sides ∷ []) []
+  split_at_start v = record {
+    are_true = record { within = All-nil _; aligned = All-nil _; word = All-nil _; disjoint = λ i j d lt inside. absurd (omega arith); ascending = λ i j d lt inside. absurd (omega arith) };
+    each = λ h. let s = sum_by-cons (λ b. one_if (holds h b)) sides [] in omega (arith, s);
+    within = All-cons (λ b. IsWithin b sides) sides [] (within_itself sides v) (All-nil _);
+    aligned = All-cons (λ b. IsAligned cuts b sides) sides [] (aligned_itself cuts sides) (All-nil _);
+    begun = All-nil _;
+  }
+
+  -- a header before all open boxes is in a row
+  before_open : (open_boxes : List Box5) (rows : List (Row W)) → AreSplit meaning cuts sides open_boxes rows → (b : Box5) → IsLeast b open_boxes
+      → (k : Header) → holds k sides ≡ true → IsBefore k (low_of b) → is_covered rows k ≡ true
+  before_open open_boxes rows s b least k inside before =
+      let e = s.each k in let o = one_for (holds k sides) inside in let z = none_open open_boxes b least k before in
+      let some : 1 ≤ row_holders rows k = omega (arith, e, o, z) in
+      any_from_one (λ r. holds k r.part) rows some
+
+  -- where nothing is open the rows hold every header
+  pub whole_from_split : (open_boxes : List Box5) (rows : List (Row W)) → open_boxes ≡ [] → AreSplit meaning cuts sides open_boxes rows → AreWhole sides rows
+  whole_from_split open_boxes rows none s h inside =
+      let e = s.each h in let o = one_for (holds h sides) inside in
+      let z : holders open_boxes h ≡ 0 = ap (λ v. holders v h) none in
+      let some : 1 ≤ row_holders rows h = omega (arith, e, o, z) in
+      any_from_one (λ r. holds h r.part) rows some
+
+  pub none_from_split : (open_boxes : List Box5) (rows : List (Row W)) → open_boxes ≡ [] → AreSplit meaning cuts sides open_boxes rows → NoneThrough meaning sides
+  none_from_split open_boxes rows none s h inside = clear_in_rows rows s.are_true.word h (whole_from_split open_boxes rows none s h inside)
+
+  -- ---- the first open box is asked
+  module _ {old new : List Box5} {part : Box5} {rows : List (Row W)} where
+    -- the header of the part that comes first gets through, where any of the part does
+    pub found_from_asked : AreSplit meaning cuts sides old rows → IsAsked meaning cuts old new part None → IsFirstThrough meaning sides (low_of part)
+    found_from_asked s a =
+        let whole : IsWithin a.whole sides = of_whole (λ b. IsWithin b sides) a s.within in
+        let here : holds (low_of part) part ≡ true = holds_low part (valid_within part a.whole a.within) in
+        record {
+          inside = holds_within (low_of part) part sides (within_trans part a.whole sides a.within whole) here;
+          through = a.means (low_of part) here;
+          first = λ k inside before. clear_in_rows rows s.are_true.word k (before_open old rows s a.whole a.least k inside (subst (IsBefore k) a.low before));
+        }
+
+    -- no other open box begins where the first begins
+    begins_elsewhere : {word : Option W} (s : AreSplit meaning cuts sides old rows) (a : IsAsked meaning cuts old new part word) → All (λ b. low_of a.whole ≢ low_of b) a.others
+    begins_elsewhere s a k d lt same =
+        let b = get_or a.others k d in
+        let within : IsWithin b sides = of_others (λ b. IsWithin b sides) a s.within k d lt in
+        let whole : IsWithin a.whole sides = of_whole (λ b. IsWithin b sides) a s.within in
+        let h = low_of a.whole in
+        let here = one_for (holds h a.whole) (holds_low a.whole (valid_within a.whole sides whole)) in
+        let there = holder_at a.others h k d lt (subst (λ v. holds v b ≡ true) (sym same) (holds_low b (valid_within b sides within))) in
+        let o = holders_old a h in let e = s.each h in let m = at_most_one (holds h sides) in
+        absurd (omega (arith, here, there, o, e, m))
+
+    -- the other open boxes begin after the part
+    others_after : {word : Option W} (s : AreSplit meaning cuts sides old rows) (a : IsAsked meaning cuts old new part word) → All (λ b. IsBefore (low_of part) (low_of b)) a.others
+    others_after s a k d lt =
+        let b = get_or a.others k d in
+        let least = of_others (λ o. ¬ (IsBefore (low_of o) (low_of a.whole))) a a.least k d lt in
+        subst (λ v. IsBefore v (low_of b)) (sym a.low) (before_other (low_of a.whole) (low_of b) least (begins_elsewhere s a k d lt))
+
+    -- the part becomes a row
+    pub split_after : (w : W) → AreSplit meaning cuts sides old rows → IsAsked meaning cuts old new part (Some w) → AreSplit meaning cuts sides new (rows ++ record { part = part; word = w } ∷ [])
+    split_after w s a =
+        let row : Row W = record { part = part; word = w } in
+        let whole : IsWithin a.whole sides = of_whole (λ b. IsWithin b sides) a s.within in
+        let whole_aligned : IsAligned cuts a.whole sides = of_whole (λ b. IsAligned cuts b sides) a s.aligned in
+        let whole_after : All (λ (r : Row W). IsBefore (low_of r.part) (low_of part)) rows =
+        (λ k d lt. subst (IsBefore (low_of (get_or rows k d).part)) (sym a.low) (of_whole (λ b. IsBefore (low_of (get_or rows k d).part) (low_of b)) a (s.begun k d lt))) in
+        let in_no_row : (k : ℕ) (d : Row W) → k < length rows → AreDisjoint (get_or rows k d).part part =
+        (λ k d lt h in_row in_part.
+        let r = row_holder_at rows h k d lt in_row in
+        let here = one_for (holds h a.whole) (holds_within h part a.whole a.within in_part) in
+        let o = holders_old a h in let e = s.each h in let m = at_most_one (holds h sides) in
+        absurd (omega (arith, r, here, o, e, m))) in
+        record {
+          are_true = record {
+            within = All-push (λ r. IsWithin r.part sides) rows row s.are_true.within (within_trans part a.whole sides a.within whole);
+            aligned = All-push (λ r. IsAligned cuts r.part sides) rows row s.are_true.aligned (aligned_trans cuts part a.whole sides a.aligned whole_aligned);
+            word = All-push (HasWord meaning) rows row s.are_true.word a.means;
+            disjoint = all_pairs_push (λ x y. AreDisjoint x.part y.part) rows row s.are_true.disjoint in_no_row;
+            ascending = all_pairs_push (λ x y. IsBefore (low_of x.part) (low_of y.part)) rows row s.are_true.ascending whole_after;
+          };
+          each = λ h.
+              let n = holders_new a h in let o = holders_old a h in let e = s.each h in let p = a.rest.each h in
+              let r1 = sum_by-append (λ (r : Row W). one_if (holds h r.part)) rows (row ∷ []) in
+              omega (arith, n, o, e, p, r1);
+          within = of_new (λ b. IsWithin b sides) a (of_others (λ b. IsWithin b sides) a s.within)
+              (All-weaker (λ b. IsWithin b a.whole) (λ b. IsWithin b sides) (λ b v. within_trans b a.whole sides v whole) a.pieces a.rest.within);
+          aligned = of_new (λ b. IsAligned cuts b sides) a (of_others (λ b. IsAligned cuts b sides) a s.aligned)
+              (All-weaker (λ b. IsAligned cuts b a.whole) (λ b. IsAligned cuts b sides) (λ b v. aligned_trans cuts b a.whole sides v whole_aligned) a.pieces a.rest.aligned);
+          begun = All-push (λ r. All (λ b. IsBefore (low_of r.part) (low_of b)) new) rows row
+              (λ k d lt.
+              let P : Box5 → Type 0 = (λ b. IsBefore (low_of (get_or rows k d).part) (low_of b)) in
+              of_new P a (of_others P a (s.begun k d lt))
+              (All-weaker (λ b. IsBefore (low_of part) (low_of b)) P (λ b v. before_trans (low_of (get_or rows k d).part) (low_of part) (low_of b) (whole_after k d lt) v) a.pieces a.rest.after))
+              (of_new (λ b. IsBefore (low_of part) (low_of b)) a (others_after s a) a.rest.after);
+        }
+
+-- ---- volumes
+width_some : (r w : ℕ × ℕ) → IsRangeWithin r w → 1 ≤ width r
+width_some r w within = let v = within.valid in omega arith
+
+volume_some : (c w : Box5) → IsWithin c w → 1 ≤ volume_of c
+volume_some c w within =
+    mul-le-mul (width_some c.proto w.proto within.proto) (mul-le-mul (width_some c.src w.src within.src) (mul-le-mul (width_some c.dst w.dst within.dst)
+    (mul-le-mul (width_some c.p w.p within.p) (width_some c.q w.q within.q))))
+
+-- the open boxes hold fewer headers once one was asked
+pub volume_falls : {W : Type 0} {meaning : Header → Option W} {cuts : CutLists} {old new : List Box5} {part : Box5} {word : Option W}
+    → IsAsked meaning cuts old new part word → sum_by volume_of new < sum_by volume_of old
+volume_falls {old = old} {new = new} {part = part} a =
+    let t = sum_by-IsPermutation volume_of old (a.whole ∷ a.others) a.taken in
+    let c = sum_by-cons volume_of a.whole a.others in
+    let l = sum_by-IsPermutation volume_of (a.others ++ a.pieces) new a.left in
+    let s = sum_by-append volume_of a.others a.pieces in
+    let r = a.rest.volume in
+    let v = volume_some part a.whole a.within in
+    omega (arith, t, c, l, s, r, v)
+
+valid_from_split : {W : Type 0} {meaning : Header → Option W} {cuts : CutLists} {sides : Box5} {open_boxes : List Box5} {rows : List (Row W)}
+    → AreSplit meaning cuts sides open_boxes rows → All IsValid open_boxes
+valid_from_split {sides = sides} {open_boxes = open_boxes} s = All-weaker (λ b. IsWithin b sides) IsValid (λ b v. valid_within b sides v) open_boxes s.within
+
+-- ---- a search that keeps no rows
+module _ {W : Type 0} {meaning : Header → Option W} {cuts : CutLists} {sides : Box5} where
+  pub some_at_start : IsValid sides → AreSplitBySome meaning cuts sides (sides ∷ [])
+  some_at_start v = record { rows = []; split = split_at_start v }
+
+  pub some_valid : {open_boxes : List Box5} → AreSplitBySome meaning cuts sides open_boxes → All IsValid open_boxes
+  some_valid s = valid_from_split s.split
+
+  pub some_found : {old new : List Box5} {part : Box5} {word : Option W} → AreSplitBySome meaning cuts sides old → IsAsked meaning cuts old new part word → is_some word ≡ false
+      → IsFirstThrough meaning sides (low_of part)
+  some_found {word = None} s a e = found_from_asked s.split a
+  some_found {word = Some w} s a e = absurd (cc)
+
+  pub some_after : {old new : List Box5} {part : Box5} {word : Option W} → AreSplitBySome meaning cuts sides old → IsAsked meaning cuts old new part word → is_some word ≡ true
+      → AreSplitBySome meaning cuts sides new
+  some_after {word = None} s a e = absurd (cc)
+  some_after {part = part} {word = Some w} s a e = record { rows = s.rows ++ record { part = part; word = w } ∷ []; split = split_after w s.split a }
+
+  pub some_none_through : {open_boxes : List Box5} → open_boxes ≡ [] → AreSplitBySome meaning cuts sides open_boxes → NoneThrough meaning sides
+  some_none_through {open_boxes = open_boxes} none s = none_from_split open_boxes s.rows none s.split
