@@ -1,16 +1,12 @@
 -- The order of headers.
-use Rattle.std.proofs.Common.{◌≡◌, ◌≢◌, ℕ, refl, arith, ap, sym, ◌∙◌}
+use Rattle.std.proofs.Common.{◌≡◌, ◌≢◌, ℕ, refl, arith, ap, ◌∙◌}
 use Rattle.std.proofs.lemmas.Bool.Decides.{nat_tests}
-use Rattle.std.proofs.lemmas.Cmp.{tied_itself}
 use Rattle.std.specs.Ordering.{ordering_reverse, ordering_then, nat_cmp}
 use Rattle.std.specs.declared.cmp.Ordering.{Ordering}
 use Rattle.std.specs.declared.cmp.Ordering.TheVariants.{Less, Equal, Greater}
 use Rattle.vpc_base.specs.Header.{order_of, IsBefore}
 use Rattle.vpc_base.specs.declared.headers.Header.{Header}
-use Rattle.ordered_cover.specs.Corner.{order_of_total}
-
-pub before_itself : (a : Header) → IsBefore a a → ⊥
-before_itself a h = let e : Less ≡ Equal = sym h ∙ tied_itself order_of_total a in cc
+use Rattle.header_boxes.proofs.Order.{order_of_total}
 
 pub before_trans : (a b c : Header) → IsBefore a b → IsBefore b c → IsBefore a c
 before_trans = order_of_total.trans

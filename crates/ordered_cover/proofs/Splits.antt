@@ -5,20 +5,24 @@ use Rattle.std.proofs.lemmas.List.Folds.{Any-from_list_any}
 use Rattle.std.proofs.lemmas.List.Quantifiers.{all_pairs_push}
 use Rattle.std.proofs.lemmas.List.Sorted.{All-permutation, sum_by-IsPermutation}
 use Rattle.std.proofs.lemmas.List.Sums.{sum_by-append, sum_by-cons}
-use Rattle.std.proofs.Math.Nat.{mul-le-mul}
 use Rattle.std.specs.Option.{is_some}
+use Rattle.std.specs.List.Sorted.{IsPermutation}
 use Rattle.vpc_base.specs.Header.{IsBefore}
 use Rattle.vpc_base.specs.Cuts.{CutLists}
 use Rattle.vpc_base.specs.declared.headers.Header.{Header}
-use Rattle.header_boxes.specs.Boxes.{holds, IsValid, IsRangeWithin, IsWithin, AreDisjoint, low_of, width, volume_of}
+use Rattle.header_boxes.specs.Boxes.{holds, IsValid, IsWithin, AreDisjoint, low_of, volume_of}
 use Rattle.header_boxes.specs.Cells.{IsAligned}
 use Rattle.header_boxes.specs.declared.boxes.Box5.{Box5}
-use Rattle.ordered_cover.specs.Cover.{IsFirstThrough, NoneThrough, HasWord, is_covered, AreWhole}
+use Rattle.header_boxes.proofs.BoxLaws.{low_is_least, volume_is_positive}
+use Rattle.header_boxes.proofs.CellNumbers.{aligned_through, aligned_to_itself}
+use Rattle.header_boxes.proofs.Held.{holds_low, holds_whole, valid_if_within, within_itself}
+use Rattle.ordered_cover.specs.Cover.{IsFirstThrough, NoneThrough, HasWord, is_covered, AreWhole, IsBlocked, IsMore}
 use Rattle.ordered_cover.specs.Open.{one_if, holders, row_holders, IsLeast, IsAsked, AreSplit, AreSplitBySome}
 use Rattle.ordered_cover.specs.declared.rows.Row.{Row}
-use Rattle.ordered_cover.proofs.Lists.{one_at, any_from_one, zero_from_all}
+use Rattle.ordered_cover.proofs.Lists.{one_at, any_from_one, none_from_zero, zero_from_all}
 use Rattle.ordered_cover.proofs.Order.{before_trans, before_upto, before_other}
-use Rattle.ordered_cover.proofs.Boxes.{holds_within, within_trans, within_itself, valid_within, holds_low, low_least, aligned_trans, aligned_itself}
+use Rattle.ordered_cover.proofs.Boxes.{within_trans}
+use Rattle.ordered_cover.proofs.Cells.{more_cells}
 
 at_most_one : (b : Bool) → one_if b ≤ 1
 at_most_one true = omega arith
@@ -43,7 +47,7 @@ row_holder_at rows h = one_at (λ r. holds h r.part) rows
 -- a header before all open boxes is in no open box
 none_open : (open_boxes : List Box5) (b : Box5) → IsLeast b open_boxes → (k : Header) → IsBefore k (low_of b) → holders open_boxes k ≡ 0
 none_open open_boxes b least k before =
-    zero_from_all (holds k) open_boxes (λ i d lt h. least i d lt (before_upto k (low_of (get_or open_boxes i d)) (low_of b) (low_least k (get_or open_boxes i d) h) before))
+    zero_from_all (holds k) open_boxes (λ i d lt h. least i d lt (before_upto k (low_of (get_or open_boxes i d)) (low_of b) (low_is_least (get_or open_boxes i d) k h) before))
 
 -- a header in a row doesn't get through
 clear_in_rows : {W : Type 0} {meaning : Header → Option W} (rows : List (Row W)) → All (HasWord meaning) rows → (k : Header) → is_covered rows k ≡ true → meaning k ≢ None
@@ -76,7 +80,7 @@ module _ {W : Type 0} {meaning : Header → Option W} {cuts : CutLists} {sides :
     are_true = record { within = All-nil _; aligned = All-nil _; word = All-nil _; disjoint = λ i j d lt inside. absurd (omega arith); ascending = λ i j d lt inside. absurd (omega arith) };
     each = λ h. let s = sum_by-cons (λ b. one_if (holds h b)) sides [] in omega (arith, s);
     within = All-cons (λ b. IsWithin b sides) sides [] (within_itself sides v) (All-nil _);
-    aligned = All-cons (λ b. IsAligned cuts b sides) sides [] (aligned_itself cuts sides) (All-nil _);
+    aligned = All-cons (λ b. IsAligned cuts b sides) sides [] (aligned_to_itself cuts sides) (All-nil _);
     begun = All-nil _;
   }
 
@@ -105,9 +109,9 @@ module _ {W : Type 0} {meaning : Header → Option W} {cuts : CutLists} {sides :
     pub found_from_asked : AreSplit meaning cuts sides old rows → IsAsked meaning cuts old new part None → IsFirstThrough meaning sides (low_of part)
     found_from_asked s a =
         let whole : IsWithin a.whole sides = of_whole (λ b. IsWithin b sides) a s.within in
-        let here : holds (low_of part) part ≡ true = holds_low part (valid_within part a.whole a.within) in
+        let here : holds (low_of part) part ≡ true = holds_low part (valid_if_within part a.whole a.within) in
         record {
-          inside = holds_within (low_of part) part sides (within_trans part a.whole sides a.within whole) here;
+          inside = holds_whole (low_of part) part sides (within_trans part a.whole sides a.within whole) here;
           through = a.means (low_of part) here;
           first = λ k inside before. clear_in_rows rows s.are_true.word k (before_open old rows s a.whole a.least k inside (subst (IsBefore k) a.low before));
         }
@@ -119,8 +123,8 @@ module _ {W : Type 0} {meaning : Header → Option W} {cuts : CutLists} {sides :
         let within : IsWithin b sides = of_others (λ b. IsWithin b sides) a s.within k d lt in
         let whole : IsWithin a.whole sides = of_whole (λ b. IsWithin b sides) a s.within in
         let h = low_of a.whole in
-        let here = one_for (holds h a.whole) (holds_low a.whole (valid_within a.whole sides whole)) in
-        let there = holder_at a.others h k d lt (subst (λ v. holds v b ≡ true) (sym same) (holds_low b (valid_within b sides within))) in
+        let here = one_for (holds h a.whole) (holds_low a.whole (valid_if_within a.whole sides whole)) in
+        let there = holder_at a.others h k d lt (subst (λ v. holds v b ≡ true) (sym same) (holds_low b (valid_if_within b sides within))) in
         let o = holders_old a h in let e = s.each h in let m = at_most_one (holds h sides) in
         absurd (omega (arith, here, there, o, e, m))
 
@@ -142,13 +146,13 @@ module _ {W : Type 0} {meaning : Header → Option W} {cuts : CutLists} {sides :
         let in_no_row : (k : ℕ) (d : Row W) → k < length rows → AreDisjoint (get_or rows k d).part part =
         (λ k d lt h in_row in_part.
         let r = row_holder_at rows h k d lt in_row in
-        let here = one_for (holds h a.whole) (holds_within h part a.whole a.within in_part) in
+        let here = one_for (holds h a.whole) (holds_whole h part a.whole a.within in_part) in
         let o = holders_old a h in let e = s.each h in let m = at_most_one (holds h sides) in
         absurd (omega (arith, r, here, o, e, m))) in
         record {
           are_true = record {
             within = All-push (λ r. IsWithin r.part sides) rows row s.are_true.within (within_trans part a.whole sides a.within whole);
-            aligned = All-push (λ r. IsAligned cuts r.part sides) rows row s.are_true.aligned (aligned_trans cuts part a.whole sides a.aligned whole_aligned);
+            aligned = All-push (λ r. IsAligned cuts r.part sides) rows row s.are_true.aligned (aligned_through cuts part a.whole sides a.aligned whole_aligned);
             word = All-push (HasWord meaning) rows row s.are_true.word a.means;
             disjoint = all_pairs_push (λ x y. AreDisjoint x.part y.part) rows row s.are_true.disjoint in_no_row;
             ascending = all_pairs_push (λ x y. IsBefore (low_of x.part) (low_of y.part)) rows row s.are_true.ascending whole_after;
@@ -160,7 +164,7 @@ module _ {W : Type 0} {meaning : Header → Option W} {cuts : CutLists} {sides :
           within = of_new (λ b. IsWithin b sides) a (of_others (λ b. IsWithin b sides) a s.within)
               (All-weaker (λ b. IsWithin b a.whole) (λ b. IsWithin b sides) (λ b v. within_trans b a.whole sides v whole) a.pieces a.rest.within);
           aligned = of_new (λ b. IsAligned cuts b sides) a (of_others (λ b. IsAligned cuts b sides) a s.aligned)
-              (All-weaker (λ b. IsAligned cuts b a.whole) (λ b. IsAligned cuts b sides) (λ b v. aligned_trans cuts b a.whole sides v whole_aligned) a.pieces a.rest.aligned);
+              (All-weaker (λ b. IsAligned cuts b a.whole) (λ b. IsAligned cuts b sides) (λ b v. aligned_through cuts b a.whole sides v whole_aligned) a.pieces a.rest.aligned);
           begun = All-push (λ r. All (λ b. IsBefore (low_of r.part) (low_of b)) new) rows row
               (λ k d lt.
               let P : Box5 → Type 0 = (λ b. IsBefore (low_of (get_or rows k d).part) (low_of b)) in
@@ -170,14 +174,6 @@ module _ {W : Type 0} {meaning : Header → Option W} {cuts : CutLists} {sides :
         }
 
 -- ---- volumes
-width_some : (r w : ℕ × ℕ) → IsRangeWithin r w → 1 ≤ width r
-width_some r w within = let v = within.valid in omega arith
-
-volume_some : (c w : Box5) → IsWithin c w → 1 ≤ volume_of c
-volume_some c w within =
-    mul-le-mul (width_some c.proto w.proto within.proto) (mul-le-mul (width_some c.src w.src within.src) (mul-le-mul (width_some c.dst w.dst within.dst)
-    (mul-le-mul (width_some c.p w.p within.p) (width_some c.q w.q within.q))))
-
 -- the open boxes hold fewer headers once one was asked
 pub volume_falls : {W : Type 0} {meaning : Header → Option W} {cuts : CutLists} {old new : List Box5} {part : Box5} {word : Option W}
     → IsAsked meaning cuts old new part word → sum_by volume_of new < sum_by volume_of old
@@ -187,12 +183,12 @@ volume_falls {old = old} {new = new} {part = part} a =
     let l = sum_by-IsPermutation volume_of (a.others ++ a.pieces) new a.left in
     let s = sum_by-append volume_of a.others a.pieces in
     let r = a.rest.volume in
-    let v = volume_some part a.whole a.within in
+    let v = volume_is_positive part (valid_if_within part a.whole a.within) in
     omega (arith, t, c, l, s, r, v)
 
 valid_from_split : {W : Type 0} {meaning : Header → Option W} {cuts : CutLists} {sides : Box5} {open_boxes : List Box5} {rows : List (Row W)}
     → AreSplit meaning cuts sides open_boxes rows → All IsValid open_boxes
-valid_from_split {sides = sides} {open_boxes = open_boxes} s = All-weaker (λ b. IsWithin b sides) IsValid (λ b v. valid_within b sides v) open_boxes s.within
+valid_from_split {sides = sides} {open_boxes = open_boxes} s = All-weaker (λ b. IsWithin b sides) IsValid (λ b v. valid_if_within b sides v) open_boxes s.within
 
 -- ---- a search that keeps no rows
 module _ {W : Type 0} {meaning : Header → Option W} {cuts : CutLists} {sides : Box5} where
@@ -214,3 +210,45 @@ module _ {W : Type 0} {meaning : Header → Option W} {cuts : CutLists} {sides :
 
   pub some_none_through : {open_boxes : List Box5} → open_boxes ≡ [] → AreSplitBySome meaning cuts sides open_boxes → NoneThrough meaning sides
   some_none_through {open_boxes = open_boxes} none s = none_from_split open_boxes s.rows none s.split
+
+-- ---- a search that keeps rows
+module _ {W : Type 0} {meaning : Header → Option W} {cuts : CutLists} {sides : Box5} where
+  pub valid_open : {open_boxes : List Box5} {rows : List (Row W)} → AreSplit meaning cuts sides open_boxes rows → All IsValid open_boxes
+  valid_open s = valid_from_split s
+
+  pub blocked_from_split : {open_boxes : List Box5} {rows : List (Row W)} (max : ℕ) → AreSplit meaning cuts sides open_boxes rows → open_boxes ≡ [] → length rows ≤ max
+      → IsBlocked meaning cuts sides max rows
+  blocked_from_split {open_boxes = open_boxes} {rows = rows} max s none few = record { are_true = s.are_true; whole = whole_from_split open_boxes rows none s; few = few }
+
+  -- the first open box begins at the first header outside the rows
+  pub more_from_split : {open_boxes others : List Box5} {rows : List (Row W)} (max : ℕ) (b : Box5) → AreSplit meaning cuts sides open_boxes rows
+      → IsPermutation open_boxes (b ∷ others) → IsLeast b open_boxes → length rows ≡ max → IsMore meaning cuts sides max rows (low_of b)
+  more_from_split {open_boxes = open_boxes} {others = others} {rows = rows} max b s taken least count =
+      let within : IsWithin b sides = All-head (λ o. IsWithin o sides) b others (All-permutation (λ o. IsWithin o sides) open_boxes (b ∷ others) taken s.within) in
+      let here : holds (low_of b) b ≡ true = holds_low b (valid_if_within b sides within) in
+      let e = s.each (low_of b) in
+      let m = at_most_one (holds (low_of b) sides) in
+      let o : holders open_boxes (low_of b) ≡ holders (b ∷ others) (low_of b) = sym (sum_by-IsPermutation (λ x. one_if (holds (low_of b) x)) open_boxes (b ∷ others) taken) in
+      let c = sum_by-cons (λ x. one_if (holds (low_of b) x)) b others in
+      let one = one_for (holds (low_of b) b) here in
+      let zero_rows : row_holders rows (low_of b) ≡ 0 = omega (arith, e, m, o, c, one) in
+      let covered : (k : Header) → holds k sides ≡ true → IsBefore k (low_of b) → is_covered rows k ≡ true = before_open open_boxes rows s b least in
+      record {
+        are_true = s.are_true;
+        count = count;
+        outside = record { inside = holds_whole (low_of b) b sides within here; outside = none_from_zero (λ r. holds (low_of b) r.part) rows zero_rows; first = covered };
+        begun = λ k d lt. let P : Box5 → Type 0 = (λ o. IsBefore (low_of (get_or rows k d).part) (low_of o)) in
+            All-head P b others (All-permutation P open_boxes (b ∷ others) taken (s.begun k d lt));
+        clear = λ h inside before. clear_in_rows rows s.are_true.word h (covered h inside before);
+        cells = λ ascending.
+            let b_aligned : IsAligned cuts b sides = All-head (λ o. IsAligned cuts o sides) b others (All-permutation (λ o. IsAligned cuts o sides) open_boxes (b ∷ others) taken s.aligned) in
+            let b_apart : All (λ (r : Row W). AreDisjoint b r.part) rows = (λ k d lt h in_b in_row.
+            let r = row_holder_at rows h k d lt in_row in
+            let here = one_for (holds h b) in_b in
+            let o : holders open_boxes h ≡ holders (b ∷ others) h = sym (sum_by-IsPermutation (λ x. one_if (holds h x)) open_boxes (b ∷ others) taken) in
+            let c = sum_by-cons (λ x. one_if (holds h x)) b others in
+            let e = s.each h in let m = at_most_one (holds h sides) in
+            absurd (omega (arith, r, here, o, c, e, m))) in
+            let l = more_cells (λ (r : Row W). r.part) cuts sides b rows s.are_true.within s.are_true.aligned s.are_true.disjoint within b_aligned b_apart in
+            omega (arith, l, count);
+      }

@@ -1,7 +1,7 @@
 //! The search for the first header that gets through. Boxes that are still open are asked in the order of
 //! their low corners, so what is known always reaches from the least header of the sides up to the least
 //! open low corner.
-ghost use Rattle.std.specs.Prelude.{◌≡◌, ◌≤◌, List, [], Option, All, IfOk, IfNone, IfSome};
+ghost use Rattle.std.specs.Prelude.{◌≡◌, ◌≤◌, ◌++◌, ◌∷◌, List, [], Option, All, IfOk, OnOk, IfNone, IfSome};
 ghost use Rattle.header_boxes.specs.Boxes.{IsValid};
 ghost use Rattle.ordered_cover.specs.Cover.{IsFirst, IsCover};
 ghost use Rattle.ordered_cover.specs.Open.{IsAsked};
@@ -43,4 +43,41 @@ pub fn first<P: Probe>(alloc: Global, p: &P, sides: Box5) -> Result<Option<Heade
         }
     }
     Ok(None)
+}
+
+// One more row.
+fn keep<W: Copy>(rows: &mut Vec<Row<W>>, part: Box5, word: W) -> Result<(), AllocError>
+    ensures { OnOk result (rows.new.items ≡ rows.old.items ++ record { part = part; word = word } ∷ []) }
+{
+    rows.push(Row { part, word })?;
+    Ok(())
+}
+
+/// What the probe says of all headers of the sides, in at most `max` rows: the first header that gets through,
+/// or rows that hold all headers, or as many rows as are allowed and the first header outside them.
+pub fn cover<P: Probe>(
+    alloc: Global,
+    p: &P,
+    sides: Box5,
+    max: u32,
+) -> Result<Cover<P::Word>, NoMemory>
+    requires valid { IsValid sides }
+    requires some { 1 ≤ max }
+    ensures { IfOk result (IsCover (P.meaning p.now) (P.cuts p.now) sides max) }
+{
+    let mut boxes = OpenBoxes::of(alloc, sides)?;
+    let mut rows = Vec::new(alloc);
+    'kept: while rows.len() < max as usize {
+        let Some((part, word)) = ask(p, &mut boxes)? else {
+            return Ok(Cover::Blocked(rows));
+        };
+        match word {
+            None => return Ok(Cover::Found(part.low())),
+            Some(word) => keep(&mut rows, part, word)?,
+        }
+    }
+    match boxes.take_first() {
+        None => Ok(Cover::Blocked(rows)),
+        Some(next) => Ok(Cover::More(rows, next.low())),
+    }
 }

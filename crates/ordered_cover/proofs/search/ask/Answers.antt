@@ -6,7 +6,7 @@ use Rattle.header_boxes.specs.Boxes.{IsValid, holds, low_of}
 use Rattle.header_boxes.specs.Cells.{IsAligned}
 use Rattle.header_boxes.specs.declared.boxes.Box5.{Box5}
 use Rattle.header_boxes.proofs.Held.{holds_low, valid_if_within}
-use Rattle.ordered_cover.proofs.Boxes.{aligned_grow}
+use Rattle.header_boxes.proofs.CellNumbers.{aligned_to_more}
 use Rattle.ordered_cover.proofs.Rests.{holders_rest}
 use Rattle.ordered_cover.proofs.search.ask.Goals as goal
 
@@ -19,7 +19,7 @@ returns-clause-asked g c =
     let part : Box5 = c.probe-word.result.0 in
     let cuts : CutLists = g.P.Probe.cuts c.args.p.now in
     let within = c.probe-word.ensures.within in
-    let aligned : IsAligned cuts part whole = aligned_grow _ cuts part whole (g.met.P.Probe.near_among c.args.p.now (low_of whole)) c.probe-word.ensures.aligned in
+    let aligned : IsAligned cuts part whole = aligned_to_more _ cuts part whole (g.met.P.Probe.near_among c.args.p.now (low_of whole)) c.probe-word.ensures.aligned in
     let begins : holds (low_of whole) part ≡ true = subst (λ h. holds h part ≡ true) c.probe-word.ensures.low (holds_low part (valid_if_within part whole within)) in
     record {
       whole = whole;
