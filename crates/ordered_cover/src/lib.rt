@@ -7,6 +7,8 @@ mod open;
 mod probe;
 mod rows;
 pub mod search;
+#[cfg(test)]
+mod tests;
 
 pub use probe::Probe;
 pub use rows::{Cover, Row};
