@@ -10,12 +10,13 @@ use header_boxes::Box5;
 use std::cmp::Ordering;
 use vpc_base::Header;
 
-/// A box that is the greater, the earlier its low corner comes: of the boxes in a heap the first comes out first.
+/// A box that is the greater, the earlier its low corner comes, so that a heap gives the earliest first.
 #[derive(Clone, Copy)]
 pub struct ByCorner {
     pub part: Box5,
 }
 
+// A comparison has no conditions, so this reads the low corner of any box, also of one that isn't valid.
 fn corner(b: &Box5) -> Header
     ensures { result ≡ low_of b.now }
 {

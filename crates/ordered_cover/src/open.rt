@@ -1,4 +1,4 @@
-// The open boxes of a search: what has not been asked yet.
+// The open boxes of a search: those that are still to be asked.
 ghost use Rattle.std.specs.Prelude.{◌≡◌, List, [], ◌∷◌, ◌++◌, IfOk, IfNone, IfSome, OnOk};
 ghost use Rattle.std.specs.List.Sorted.{IsPermutation};
 ghost use Rattle.header_boxes.specs.Boxes.{low_of};
@@ -47,9 +47,7 @@ impl OpenBoxes {
         let first = self.heap.pop()?;
         Some(first.part)
     }
-}
 
-impl OpenBoxes {
     pub fn push(&mut self, part: Box5) -> Result<(), AllocError>
         ensures { OnOk result (IsPermutation (part ∷ self.old) self.new) }
     {
