@@ -1,5 +1,5 @@
 -- Open boxes and rows that split the sides.
-use Rattle.std.proofs.Common.{◌≡◌, ◌≢◌, ◌≤◌, ◌<◌, ◌+◌, ℕ, Bool, true, false, List, [], ◌∷◌, ◌++◌, Option, Some, None, All, get_or, length, refl, sym, ap, ◌∙◌, subst, arith, sum_by}
+use Rattle.std.proofs.Common.{◌≡◌, ◌≢◌, ◌≤◌, ◌<◌, ◌+◌, ℕ, Bool, true, false, List, [], ◌∷◌, ◌++◌, Option, Some, None, All, get_or, length, sym, ap, ◌∙◌, subst, arith, sum_by}
 use Rattle.std.proofs.lemmas.List.Elements.{All-nil, All-cons, All-push, All-head, All-tail, All-append, All-weaker}
 use Rattle.std.proofs.lemmas.List.Folds.{Any-from_list_any}
 use Rattle.std.proofs.lemmas.List.Quantifiers.{all_pairs_push}
@@ -31,10 +31,6 @@ at_most_one false = omega arith
 one_for : (b : Bool) → b ≡ true → one_if b ≡ 1
 one_for b h = ap one_if h
 
-is_one : (b : Bool) → 1 ≤ one_if b → b ≡ true
-is_one true h = refl
-is_one false h = absurd (omega arith)
-
 some_none : {W : Type 0} (o : Option W) (w : W) → o ≡ Some w → o ≢ None
 some_none o w e n = let k = sym e ∙ n in absurd (cc)
 
@@ -54,6 +50,11 @@ clear_in_rows : {W : Type 0} {meaning : Header → Option W} (rows : List (Row W
 clear_in_rows {meaning = meaning} rows words k covered =
     let a = Any-from_list_any (λ r. holds k r.part) rows covered in
     some_none (meaning k) a.1.word (subst (HasWord meaning) a.3 (words a.0 a.1 a.2) k a.4)
+
+-- where rows hold every header none gets through
+pub none_through-from_blocked : {W : Type 0} {meaning : Header → Option W} {cuts : CutLists} {sides : Box5} {max : ℕ} {rows : List (Row W)}
+    → IsBlocked meaning cuts sides max rows → NoneThrough meaning sides
+none_through-from_blocked {rows = rows} blocked h inside = clear_in_rows rows blocked.are_true.word h (blocked.whole h inside)
 
 -- ---- the lists before and after the first open box is asked
 module _ {W : Type 0} {meaning : Header → Option W} {cuts : CutLists} {old new : List Box5} {part : Box5} {word : Option W} where
@@ -186,7 +187,7 @@ volume_falls {old = old} {new = new} {part = part} a =
     let v = volume_is_positive part (valid_if_within part a.whole a.within) in
     omega (arith, t, c, l, s, r, v)
 
-valid_from_split : {W : Type 0} {meaning : Header → Option W} {cuts : CutLists} {sides : Box5} {open_boxes : List Box5} {rows : List (Row W)}
+pub valid_from_split : {W : Type 0} {meaning : Header → Option W} {cuts : CutLists} {sides : Box5} {open_boxes : List Box5} {rows : List (Row W)}
     → AreSplit meaning cuts sides open_boxes rows → All IsValid open_boxes
 valid_from_split {sides = sides} {open_boxes = open_boxes} s = All-weaker (λ b. IsWithin b sides) IsValid (λ b v. valid_if_within b sides v) open_boxes s.within
 
@@ -213,9 +214,6 @@ module _ {W : Type 0} {meaning : Header → Option W} {cuts : CutLists} {sides :
 
 -- ---- a search that keeps rows
 module _ {W : Type 0} {meaning : Header → Option W} {cuts : CutLists} {sides : Box5} where
-  pub valid_open : {open_boxes : List Box5} {rows : List (Row W)} → AreSplit meaning cuts sides open_boxes rows → All IsValid open_boxes
-  valid_open s = valid_from_split s
-
   pub blocked_from_split : {open_boxes : List Box5} {rows : List (Row W)} (max : ℕ) → AreSplit meaning cuts sides open_boxes rows → open_boxes ≡ [] → length rows ≤ max
       → IsBlocked meaning cuts sides max rows
   blocked_from_split {open_boxes = open_boxes} {rows = rows} max s none few = record { are_true = s.are_true; whole = whole_from_split open_boxes rows none s; few = few }

@@ -3,7 +3,7 @@ use Rattle.std.proofs.lemmas.Grind.{common_steps}
 use Rattle.std.proofs.lemmas.List.Elements.{All-head}
 use Rattle.std.proofs.lemmas.List.Sorted.{All-permutation}
 use Rattle.header_boxes.specs.Boxes.{IsValid}
-use Rattle.ordered_cover.proofs.Splits.{split_at_start, found_from_asked, split_after, valid_open, blocked_from_split, more_from_split}
+use Rattle.ordered_cover.proofs.Splits.{split_at_start, found_from_asked, split_after, valid_from_split, blocked_from_split, more_from_split}
 use Rattle.ordered_cover.proofs.search.cover.Goals as goal
 
 pub kept-init : goal.kept-init
@@ -13,7 +13,7 @@ kept-init g c = record {
 }
 
 pub ask-requires : goal.ask-requires
-ask-requires g c = valid_open c.kept.invariant.split
+ask-requires g c = valid_from_split c.kept.invariant.split
 
 pub returns-in_default : goal.returns-in_default
 returns-in_default g c = blocked_from_split c.args.max c.kept.invariant.split (rw c.in_default.is at c.in_ok-part.ensures.none) c.kept.invariant.few
@@ -37,7 +37,7 @@ returns-in-None-take_first g c = blocked_from_split c.args.max c.kept.invariant.
 
 pub low-requires-in-Some-take_first : goal.low-requires-in-Some-take_first
 low-requires-in-Some-take_first g c =
-    All-head IsValid _ _ (All-permutation IsValid _ _ c.in-Some-take_first.ensures.taken (valid_open c.kept.invariant.split))
+    All-head IsValid _ _ (All-permutation IsValid _ _ c.in-Some-take_first.ensures.taken (valid_from_split c.kept.invariant.split))
 
 pub returns : goal.returns
 returns g c =
