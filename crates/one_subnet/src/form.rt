@@ -2,7 +2,7 @@
 ghost use Rattle.std.specs.Prelude.{◌≡◌, [], map, codes, option_map, IfOk};
 ghost use Rattle.serde_json.specs.View.{view};
 ghost use Rattle.serde_json.specs.Find.{get};
-ghost use Rattle.one_subnet.specs.Form.{are_new, are_new_numbers, frame_of, given, groups_of, hosts_of, is_absent_or, is_null_or_empty, local_block, no_edges, no_prefix_lists, no_rows_of, no_transit, only_item, only_row, site_of, some_rows, subnet_in, table_in, elements_at, has_text, is_text};
+ghost use Rattle.one_subnet.specs.Form.{all_differ, frame_of, given, groups_of, hosts_of, is_absent_or, is_null_or_empty, local_block, no_edges, no_prefix_lists, no_rows_of, no_transit, only_item, only_row, site_of, some_rows, subnet_in, table_in, elements_at, has_text, is_text};
 ghost use Rattle.std.specs.Prelude.{◌&&◌, List, ℕ};
 ghost use Rattle.prefix_text.specs.Block.{Block};
 ghost use Rattle.json_fields.specs.Bundle.{is_object};
