@@ -15,7 +15,7 @@ pub list_all-seen_more : {A : Type 0} (same : A → A → Bool) (seen : List A) 
 list_all-seen_more same seen x [] = refl
 list_all-seen_more same seen x (y ∷ ys) =
     rw (list_any-append (same y) seen (x ∷ []), list_all-seen_more same seen x ys)
-      (by (list_any (same y) seen) (same y x) (list_all (λ y. not (list_any (same y) seen)) ys) (list_any (λ y. same y x) ys))
+    (by (list_any (same y) seen) (same y x) (list_all (λ y. not (list_any (same y) seen)) ys) (list_any (λ y. same y x) ys))
   where
     by : (a b c d : Bool) → (not (a || (b || false)) && (c && not d)) ≡ ((not a && c) && not (b || d))
     by true b c d = refl
@@ -29,7 +29,7 @@ pub are_new-all_differ : {A : Type 0} (same : A → A → Bool) (seen xs : List 
 are_new-all_differ same seen [] = refl
 are_new-all_differ same seen (x ∷ xs) =
     rw (are_new-all_differ same (seen ++ x ∷ []) xs, list_all-seen_more same seen x xs)
-      (by (not (list_any (same x) seen)) (list_all (λ y. not (list_any (same y) seen)) xs) (not (list_any (λ y. same y x) xs)) (all_differ same xs))
+    (by (not (list_any (same x) seen)) (list_all (λ y. not (list_any (same y) seen)) xs) (not (list_any (λ y. same y x) xs)) (all_differ same xs))
   where
     by : (a b c d : Bool) → (a && ((b && c) && d)) ≡ ((a && b) && (c && d))
     by true true c d = refl

@@ -154,7 +154,8 @@ fn is_plain(bundle: &Value) -> bool
         && (has_no_prefix_lists(bundle) && (has_no_edges(bundle) && has_no_transit(bundle)))
 }
 
-/// The network that a value describes.
+/// The network that a value describes, as the EC2 API's Describe calls print it. It is `NotYet` exactly
+/// where the value is not of the form that the head of this crate tells.
 pub fn read_site(alloc: Global, bundle: &Value) -> Result<Site, FormFault>
     ensures { Forms (λ s. s) (site_of (view bundle.now)) result }
 {
