@@ -1,12 +1,11 @@
 -- The form of a description that is read so far: one VPC with one subnet, whose hosts are reached by the local
 -- route alone, and security groups whose rules name blocks of addresses alone. A member that is null is there:
 -- it isn't taken for an absent one.
-use Rattle.std.specs.Prelude.{ℕ, ◌==◌, ◌&&◌, not, nat_eq, nat_le, Bool, true, false, List, [], ◌∷◌, ◌++◌, Option, Some, None, bytes_eq, codes, is_none, length, map, option_and_then, option_map, if◌then◌else◌, Result, Ok, Err}
-use Rattle.std.specs.List.{list_any, list_all}
-use Rattle.serde_json.specs.Data.{Data, null, boolean, string, array, Items, no_items, item}
+use Rattle.std.specs.Prelude.{ℕ, ◌==◌, ◌&&◌, not, nat_eq, nat_le, Bool, true, false, List, [], ◌∷◌, Option, Some, None, bytes_eq, codes, is_none, length, map, option_and_then, if◌then◌else◌, Result, Ok, Err}
+use Rattle.std.specs.List.{list_any}
+use Rattle.serde_json.specs.Data.{Data, null, boolean, string}
 use Rattle.serde_json.specs.Find.{get, as_str, as_number, as_u64}
 use Rattle.json_fields.specs.Bundle.{is_object}
-use Rattle.json_fields.specs.FieldFault.{Reads}
 use Rattle.json_fields.specs.Fields.{array_of, id_of, addr_of_field, prefix_of_field}
 use Rattle.json_fields.specs.Paths.{bundle_path}
 use Rattle.json_fields.specs.declared.fault.FieldFault.{FieldFault}

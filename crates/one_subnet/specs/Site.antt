@@ -1,6 +1,6 @@
 -- The description of a network of one subnet: its table is the VPC's main table, the VPC has no blocks, the
 -- zone of the subnet is the subnet's id, and there are no other rows.
-use Rattle.std.specs.Prelude.{ℕ, true, false, List, [], ◌∷◌, Some, None, map}
+use Rattle.std.specs.Prelude.{true, false, [], ◌∷◌, Some, None, map}
 use Rattle.vpc_model.specs.declared.rows.Description.{Description}
 use Rattle.vpc_model.specs.declared.rows.Group.{Group}
 use Rattle.vpc_model.specs.declared.rows.Interface.{Interface}
