@@ -1,64 +1,140 @@
--- A small network, and what packets do in it.
-use Rattle.std.specs.Prelude.{ℕ, ◌≡◌, Bool, true, false, List, [], ◌∷◌, Option, Some, None, codes}
-use Rattle.prefix_text.specs.Block.{Block}
+-- What packets do in small networks.
+use Rattle.std.specs.Prelude.{ℕ, ◌≡◌, Bool, true, false, List, [], ◌∷◌, Option, Some, None, codes, map}
 use Rattle.vpc_base.specs.declared.headers.Header.{Header}
+use Rattle.vpc_base.specs.declared.headers.Dir.{Dir}
 use Rattle.vpc_base.specs.declared.headers.Dir.TheVariants.{Inward, Outward}
+use Rattle.vpc_base.specs.declared.headers.Label.{Label}
 use Rattle.vpc_base.specs.declared.headers.Label.TheVariants.{Opening, Answer}
+use Rattle.vpc_model.specs.declared.numbers.VpcNo.{VpcNo}
+use Rattle.vpc_model.specs.declared.numbers.SubnetNo.{SubnetNo}
+use Rattle.vpc_model.specs.declared.numbers.EniNo.{EniNo}
+use Rattle.vpc_model.specs.declared.numbers.GroupNo.{GroupNo}
+use Rattle.vpc_model.specs.declared.numbers.NatNo.{NatNo}
+use Rattle.vpc_model.specs.declared.numbers.PeerNo.{PeerNo}
+use Rattle.vpc_model.specs.declared.numbers.AttNo.{AttNo}
+use Rattle.vpc_model.specs.declared.numbers.AclNo.{AclNo}
+use Rattle.vpc_model.specs.declared.numbers.TgwTableNo.{TgwTableNo}
 use Rattle.vpc_model.specs.declared.rows.Description.{Description}
-use Rattle.vpc_model.specs.declared.rows.Interface.{Interface}
-use Rattle.vpc_model.specs.declared.rows.InterfaceKind.TheVariants.{Host}
-use Rattle.vpc_model.specs.declared.rows.Permission.{Permission}
-use Rattle.vpc_model.specs.declared.rows.Reach.TheVariants.{Block as ByBlock}
-use Rattle.vpc_model.specs.declared.rows.Target.TheVariants.{Local}
-use Rattle.vpc_model.specs.declared.places.Came.TheVariants.{Host as FromHost}
-use Rattle.vpc_model.specs.declared.places.End.TheVariants.{Interface as AtInterface}
-use Rattle.vpc_model.specs.declared.places.Place.TheVariants.{OutOf, Router, Into}
-use Rattle.vpc_model.specs.declared.outcomes.By.TheVariants.{Nothing, Rule}
-use Rattle.vpc_model.specs.declared.outcomes.Outcome.TheVariants.{Arrived, Stopped}
+use Rattle.vpc_model.specs.declared.places.Came.TheVariants.{Host as FromHost, Nat as FromNat, Transit as FromTransit}
+use Rattle.vpc_model.specs.declared.places.End.{End}
+use Rattle.vpc_model.specs.declared.places.End.TheVariants.{Interface as AtInterface, Internet as AtInternet}
+use Rattle.vpc_model.specs.declared.places.EnterBy.TheVariants.{Gateway as ByGateway}
+use Rattle.vpc_model.specs.declared.places.Place.{Place}
+use Rattle.vpc_model.specs.declared.places.Place.TheVariants.{OutOf, Router, Into, Enter, IgwOut, Internet, IgwIn, NatOut, NatIn, Tgw, TgwLeave}
+use Rattle.vpc_model.specs.declared.outcomes.By.{By}
+use Rattle.vpc_model.specs.declared.outcomes.By.TheVariants.{Nothing, Tracked, Rule}
 use Rattle.vpc_model.specs.declared.outcomes.Hop.{Hop}
-use Rattle.vpc_model.specs.declared.stops.Stop.TheVariants.{GroupsIn}
+use Rattle.vpc_model.specs.declared.outcomes.Outcome.{Outcome}
+use Rattle.vpc_model.specs.declared.outcomes.Outcome.TheVariants.{Arrived, Stopped}
+use Rattle.vpc_model.specs.declared.outcomes.Phase.TheVariants.{Request, Reply}
+use Rattle.vpc_model.specs.declared.outcomes.Verdict.TheVariants.{Through, Stopped as StoppedIn}
+use Rattle.vpc_model.specs.declared.stops.Stop.TheVariants.{AclOut, GroupsIn, GroupsOut, Loop, NatUnsolicited, PeerDestination, TgwBlackhole}
+use Rattle.vpc_model.specs.Connections.{Connection}
+use Rattle.vpc_model.specs.Nat.{Translation}
+use Rattle.vpc_model.specs.Networks.{v4, one_subnet, two_subnets, acl_1, high_ports_only, behind_nat, open_rows, low_ports_in, peered, transit, transit_loop}
+use Rattle.vpc_model.specs.Verdict.{request_walk, verdict_of}
 use Rattle.vpc_model.specs.Walk.{Walk, walk_of}
 
-abbrev pub anywhere : Block
-anywhere = record { first = 0; length = 0 }
+-- ---- rows by their places, and packets
 
-abbrev pub allow_all : Permission
-allow_all = record { proto = None; q_from = 0; q_to = 65535; blocks = anywhere ∷ []; lists = []; groups = [] }
+abbrev pub vpc : ℕ → VpcNo
+vpc k = record { 0 = k }
 
-abbrev pub https_from : Block → Permission
-https_from b = record { proto = Some 6; q_from = 443; q_to = 443; blocks = b ∷ []; lists = []; groups = [] }
+abbrev pub subnet : ℕ → SubnetNo
+subnet k = record { 0 = k }
 
-abbrev pub host : List ℕ → List ℕ → ℕ → List ℕ → Interface
-host id subnet address group = record { id = id; subnet = subnet; primary = Some address; addresses = (address, None) ∷ []; groups = group ∷ []; checked = true; idle = false; kind = Host }
+abbrev pub eni : ℕ → EniNo
+eni k = record { 0 = k }
 
--- one subnet with two hosts, 10.0.1.10 and 10.0.1.20
-abbrev pub one_subnet : Description
-one_subnet = record {
-  vpcs = record { id = codes "vpc-1"; blocks = [] } ∷ [];
-  subnets = record { id = codes "subnet-a"; vpc = codes "vpc-1"; zone = codes "subnet-a" } ∷ [];
-  interfaces = host (codes "eni-a") (codes "subnet-a") 167772426 (codes "sg-a") ∷ host (codes "eni-b") (codes "subnet-a") 167772436 (codes "sg-b") ∷ [];
-  tables = record { id = codes "rtb-1"; vpc = codes "vpc-1"; main = true; subnets = []; routes = record { reach = ByBlock (record { first = 167772160; length = 16 }); target = Local; blackhole = false; propagated = false } ∷ [] } ∷ [];
-  lists = [];
-  acls = [];
-  groups = record { id = codes "sg-a"; vpc = codes "vpc-1"; inward = []; outward = allow_all ∷ [] } ∷ record { id = codes "sg-b"; vpc = codes "vpc-1"; inward = https_from (record { first = 167772416; length = 24 }) ∷ []; outward = [] } ∷ [];
-  igws = [];
-  nats = [];
-  peerings = [];
-  attachments = [];
-  associations = [];
-  tgw_tables = [] }
+abbrev pub nat : ℕ → NatNo
+nat k = record { 0 = k }
+
+abbrev pub att : ℕ → AttNo
+att k = record { 0 = k }
+
+abbrev pub tcp : ℕ → ℕ → ℕ → ℕ → Header
+tcp src dst p q = record { proto = 6; src = src; dst = dst; p = p; q = q }
+
+abbrev pub rule : ℕ → Dir → ℕ → By
+rule group dir number = Rule (record { group = record { 0 = group }; dir = dir; number = number })
+
+abbrev pub hop : Place → Header → Hop
+hop p h = record { place = p; header = h; by = Nothing }
+
+abbrev pub hop_by : Place → Header → By → Hop
+hop_by p h by = record { place = p; header = h; by = by }
+
+abbrev pub connection : ℕ → Dir → Header → Connection
+connection k dir h = record { eni = eni k; dir = dir; header = h }
+
+-- the walk of a packet that starts at a place, with nothing remembered
+abbrev pub first_walk : Description → Label → Place → Header → Walk
+first_walk d label p h = walk_of d label (record { place = p; header = h; conns = []; nats = [] })
+
+-- the walk of a packet after another's
+abbrev pub walk_after : Description → Label → Walk → Place → Header → Walk
+walk_after d label w p h = walk_of d label (record { place = p; header = h; conns = w.conns; nats = w.nats })
+
+abbrev pub outcome_of : Walk → Outcome
+outcome_of w = w.outcome
+
+abbrev pub hops_of : Walk → List Hop
+hops_of w = w.hops
+
+abbrev pub places_of : Walk → List Place
+places_of w = map (λ h. h.place) w.hops
+
+-- ---- inside one subnet
 
 abbrev pub a_to_b : ℕ → Header
-a_to_b q = record { proto = 6; src = 167772426; dst = 167772436; p = 5000; q = q }
+a_to_b q = tcp (v4 10 0 1 10) (v4 10 0 1 20) 5000 q
 
 -- a request to port 443 is delivered, by the outbound rule of the one host and the inbound rule of the other
 abbrev pub IsDelivered : Type 0
 IsDelivered =
-    walk_of one_subnet Opening (record { place = OutOf (record { 0 = 0 }); header = a_to_b 443; conns = []; nats = [] }) ≡ record {
-      hops = record { place = OutOf (record { 0 = 0 }); header = a_to_b 443; by = Rule (record { group = record { 0 = 0 }; dir = Outward; number = 1 }) }
-        ∷ record { place = Router (record { 0 = 0 }) (FromHost (record { 0 = 0 })); header = a_to_b 443; by = Nothing }
-        ∷ record { place = Into (record { 0 = 1 }); header = a_to_b 443; by = Rule (record { group = record { 0 = 1 }; dir = Inward; number = 1 }) }
+    first_walk one_subnet Opening (OutOf (eni 0)) (a_to_b 443) ≡ record {
+      hops = hop_by (OutOf (eni 0)) (a_to_b 443) (rule 0 Outward 1)
+        ∷ hop (Router (subnet 0) (FromHost (eni 0))) (a_to_b 443)
+        ∷ hop_by (Into (eni 1)) (a_to_b 443) (rule 1 Inward 1)
         ∷ [];
-      outcome = Arrived (AtInterface (record { 0 = 1 })) (a_to_b 443);
-      conns = record { eni = record { 0 = 0 }; dir = Outward; header = a_to_b 443 } ∷ record { eni = record { 0 = 1 }; dir = Inward; header = a_to_b 443 } ∷ [];
+      outcome = Arrived (AtInterface (eni 1)) (a_to_b 443);
+      conns = connection 0 Outward (a_to_b 443) ∷ connection 1 Inward (a_to_b 443) ∷ [];
+      nats = [] }
+
+-- a request to port 80 is blocked by the groups of the other host; what passed on the way is remembered
+abbrev pub IsBlocked : Type 0
+IsBlocked =
+    first_walk one_subnet Opening (OutOf (eni 0)) (a_to_b 80) ≡ record {
+      hops = hop_by (OutOf (eni 0)) (a_to_b 80) (rule 0 Outward 1)
+        ∷ hop (Router (subnet 0) (FromHost (eni 0))) (a_to_b 80)
+        ∷ hop (Into (eni 1)) (a_to_b 80)
+        ∷ [];
+      outcome = Stopped (GroupsIn (eni 1));
+      conns = connection 0 Outward (a_to_b 80) ∷ [];
+      nats = [] }
+
+-- ---- between two subnets
+
+abbrev pub a_to_c : ℕ → Header
+a_to_c p = tcp (v4 10 0 1 10) (v4 10 0 2 20) p 443
+
+-- a request from a member of the group that the other host's rule names gets through
+abbrev pub GetsThrough : Type 0
+GetsThrough = verdict_of (two_subnets (acl_1 ∷ [])) (AtInterface (eni 0)) (AtInterface (eni 1)) (a_to_c 0) ≡ Through
+
+-- an ACL stops the reply to a low port by its last rule, and lets that to a high port through
+abbrev pub ReplyIsStopped : Type 0
+ReplyIsStopped = verdict_of high_ports_only (AtInterface (eni 0)) (AtInterface (eni 1)) (a_to_c 1024) ≡ StoppedIn Reply (AclOut (record { 0 = 1 }) 32767)
+
+abbrev pub ReplyIsAllowed : Type 0
+ReplyIsAllowed = verdict_of high_ports_only (AtInterface (eni 0)) (AtInterface (eni 1)) (a_to_c 32768) ≡ Through
+
+-- an answer to nothing is stopped by the groups
+abbrev pub StrayIsStopped : Type 0
+StrayIsStopped =
+    let h = tcp (v4 10 0 2 20) (v4 10 0 1 10) 443 0 in
+    first_walk (two_subnets (acl_1 ∷ [])) Answer (OutOf (eni 1)) h ≡ record {
+      hops = hop (OutOf (eni 1)) h ∷ [];
+      outcome = Stopped (GroupsOut (eni 1));
+      conns = [];
       nats = [] }

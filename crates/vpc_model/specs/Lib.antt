@@ -14,4 +14,5 @@ pub mod Transit
 pub mod Step
 pub mod Walk
 pub mod Verdict
+pub mod Networks
 pub mod Examples
