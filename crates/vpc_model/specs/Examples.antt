@@ -138,3 +138,100 @@ StrayIsStopped =
       outcome = Stopped (GroupsOut (eni 1));
       conns = [];
       nats = [] }
+
+-- ---- behind a NAT gateway
+
+-- from the first host, and from the second, to a server on the internet
+abbrev pub a_to_server : ℕ → Header
+a_to_server p = tcp (v4 10 0 1 10) (v4 198 51 100 7) p 443
+
+abbrev pub b_to_server : ℕ → Header
+b_to_server p = tcp (v4 10 0 2 20) (v4 198 51 100 7) p 443
+
+-- an answer of the server to this port: as it travels the internet, and inside the NAT gateway's VPC
+abbrev pub from_server : ℕ → Header
+from_server p = tcp (v4 198 51 100 7) (v4 203 0 113 5) 443 p
+
+abbrev pub from_server_inside : ℕ → Header
+from_server_inside p = tcp (v4 198 51 100 7) (v4 10 0 3 5) 443 p
+
+-- what the gateway makes of the request: inside its VPC, and as it travels the internet
+abbrev pub translated : ℕ → Header
+translated p = tcp (v4 10 0 3 5) (v4 198 51 100 7) p 443
+
+abbrev pub published : ℕ → Header
+published p = tcp (v4 203 0 113 5) (v4 198 51 100 7) p 443
+
+-- a request from port 0 leaves from port 1024, and its reply returns to port 0
+abbrev pub ReturnsThroughNat : Type 0
+ReturnsThroughNat = verdict_of (behind_nat low_ports_in) (AtInterface (eni 0)) AtInternet (a_to_server 0) ≡ Through
+
+abbrev pub LeavesThroughNat : Type 0
+LeavesThroughNat =
+    first_walk (behind_nat low_ports_in) Opening (OutOf (eni 0)) (a_to_server 0) ≡ record {
+      hops = hop_by (OutOf (eni 0)) (a_to_server 0) (rule 0 Outward 1)
+        ∷ hop (Router (subnet 0) (FromHost (eni 0))) (a_to_server 0)
+        ∷ hop (NatOut (nat 0)) (a_to_server 0)
+        ∷ hop (Router (subnet 2) (FromNat (nat 0))) (translated 1024)
+        ∷ hop (IgwOut (vpc 0)) (translated 1024)
+        ∷ hop Internet (published 1024)
+        ∷ [];
+      outcome = Arrived AtInternet (published 1024);
+      conns = connection 0 Outward (a_to_server 0) ∷ [];
+      nats = record { nat = nat 0; before = a_to_server 0; after = translated 1024 } ∷ [] }
+
+abbrev pub ComesBackThroughNat : Type 0
+ComesBackThroughNat =
+    let back = tcp (v4 198 51 100 7) (v4 10 0 1 10) 443 0 in
+    hops_of (walk_after (behind_nat low_ports_in) Answer (first_walk (behind_nat low_ports_in) Opening (OutOf (eni 0)) (a_to_server 0)) Internet (from_server 1024))
+      ≡ hop Internet (from_server 1024)
+        ∷ hop (IgwIn (vpc 0)) (from_server 1024)
+        ∷ hop (Enter (vpc 0) ByGateway) (from_server_inside 1024)
+        ∷ hop (NatIn (nat 0)) (from_server_inside 1024)
+        ∷ hop (Router (subnet 2) (FromNat (nat 0))) back
+        ∷ hop_by (Into (eni 0)) back Tracked
+        ∷ []
+
+-- two hosts send from one port to one server: the gateway gives the second the next port
+abbrev pub both_requests : Walk
+both_requests = walk_after (behind_nat open_rows) Opening (first_walk (behind_nat open_rows) Opening (OutOf (eni 0)) (a_to_server 5000)) (OutOf (eni 1)) (b_to_server 5000)
+
+abbrev pub PortsDiffer : Type 0
+PortsDiffer =
+    (outcome_of (first_walk (behind_nat open_rows) Opening (OutOf (eni 0)) (a_to_server 5000)) ≡ Arrived AtInternet (published 5000))
+    × (outcome_of both_requests ≡ Arrived AtInternet (published 5001))
+
+-- each answer reaches the host whose port it names, and one to another port is stopped
+abbrev pub AnswersFindTheirHosts : Type 0
+AnswersFindTheirHosts =
+    (outcome_of (walk_after (behind_nat open_rows) Answer both_requests Internet (from_server 5001)) ≡ Arrived (AtInterface (eni 1)) (tcp (v4 198 51 100 7) (v4 10 0 2 20) 443 5000))
+    × ((outcome_of (walk_after (behind_nat open_rows) Answer both_requests Internet (from_server 5000)) ≡ Arrived (AtInterface (eni 0)) (tcp (v4 198 51 100 7) (v4 10 0 1 10) 443 5000))
+    × (outcome_of (walk_after (behind_nat open_rows) Answer both_requests Internet (from_server 5002)) ≡ Stopped (NatUnsolicited (nat 0))))
+
+-- ---- between VPCs
+
+-- a peering carries nothing for a third VPC
+abbrev pub PeeringIsNotTransitive : Type 0
+PeeringIsNotTransitive = verdict_of peered (AtInterface (eni 0)) (AtInterface (eni 2)) (tcp (v4 10 1 1 10) (v4 10 3 1 10) 5000 443) ≡ StoppedIn Request (PeerDestination (record { 0 = 0 }))
+
+-- a transit gateway forwards between VPCs, but for what a longer route drops
+abbrev pub TransitForwards : Type 0
+TransitForwards = verdict_of transit (AtInterface (eni 0)) (AtInterface (eni 1)) (tcp (v4 10 1 1 10) (v4 10 2 1 10) 0 443) ≡ Through
+
+abbrev pub TransitDrops : Type 0
+TransitDrops = verdict_of transit (AtInterface (eni 0)) (AtInterface (eni 2)) (tcp (v4 10 1 1 10) (v4 10 2 9 10) 0 443) ≡ StoppedIn Request (TgwBlackhole (record { 0 = 0 }) 1)
+
+-- two transit tables that send everything to each other make a loop, seen at its ninth place
+abbrev pub TransitLoops : Type 0
+TransitLoops =
+    let w = first_walk transit_loop Opening (OutOf (eni 0)) (tcp (v4 10 1 1 10) (v4 172 20 0 1) 1 2) in
+    (places_of w ≡ OutOf (eni 0)
+      ∷ Router (subnet 0) (FromHost (eni 0))
+      ∷ Tgw (att 0) (subnet 2)
+      ∷ TgwLeave (att 1) (subnet 2)
+      ∷ Router (subnet 3) (FromTransit (att 1))
+      ∷ Tgw (att 1) (subnet 3)
+      ∷ TgwLeave (att 0) (subnet 3)
+      ∷ Router (subnet 2) (FromTransit (att 0))
+      ∷ [])
+    × (w.outcome ≡ Stopped (Loop (Tgw (att 0) (subnet 2))))

@@ -1,2 +1,3 @@
 // Laws of walks, and what packets do in small networks.
+pub mod gateways;
 pub mod subnets;
