@@ -28,10 +28,12 @@ use Rattle.vpc_model.specs.declared.outcomes.Outcome.{Outcome}
 use Rattle.vpc_model.specs.declared.outcomes.Outcome.TheVariants.{Arrived, Stopped}
 use Rattle.vpc_model.specs.declared.outcomes.Phase.TheVariants.{Request, Reply}
 use Rattle.vpc_model.specs.declared.outcomes.Verdict.TheVariants.{Through, Stopped as StoppedIn}
-use Rattle.vpc_model.specs.declared.stops.Stop.TheVariants.{AclOut, GroupsIn, GroupsOut, Loop, NatUnsolicited, PeerDestination, TgwBlackhole}
+use Rattle.vpc_model.specs.declared.stops.Stop.TheVariants.{AclIn, AclOut, GroupsIn, GroupsOut, Loop, NatUnsolicited, PeerDestination, TgwBlackhole}
+use Rattle.vpc_model.specs.Acls.{acl_verdict}
 use Rattle.vpc_model.specs.Connections.{Connection}
 use Rattle.vpc_model.specs.Nat.{Translation}
-use Rattle.vpc_model.specs.Networks.{v4, one_subnet, two_subnets, acl_1, high_ports_only, behind_nat, open_rows, low_ports_in, peered, transit, transit_loop}
+use Rattle.vpc_model.specs.Networks.{v4, block, https_from, https_from_group, three_routes, equal_routes, learnt_routes, one_list, rows_out_of_order, one_subnet, two_subnets, acl_1, high_ports_only, public_hosts, behind_nat, open_rows, low_ports_in, peered, transit, transit_loop, host_at_attachment, shut_attachment}
+use Rattle.vpc_model.specs.Routes.{chosen_route}
 use Rattle.vpc_model.specs.Verdict.{request_walk, verdict_of}
 use Rattle.vpc_model.specs.Walk.{Walk, walk_of}
 
@@ -84,6 +86,34 @@ hops_of w = w.hops
 abbrev pub places_of : Walk → List Place
 places_of w = map (λ h. h.place) w.hops
 
+-- ---- choices among rows
+
+-- the longest block wins wherever it stands, also where its target is gone
+abbrev pub LongestRouteIsChosen : Type 0
+LongestRouteIsChosen =
+    (chosen_route one_list three_routes (v4 10 0 2 20) ≡ Some 2)
+    × ((chosen_route one_list three_routes (v4 10 0 1 10) ≡ Some 1)
+    × (chosen_route one_list three_routes (v4 192 0 2 1) ≡ Some 0))
+
+-- of equally long ones a block wins over a prefix list, and both over a propagated route; a longer entry of a prefix list wins over a block
+abbrev pub TiesAreByKind : Type 0
+TiesAreByKind =
+    (chosen_route one_list equal_routes (v4 10 0 2 20) ≡ Some 2)
+    × (chosen_route one_list equal_routes (v4 10 0 1 10) ≡ Some 1)
+
+-- a propagated route doesn't stand beside a local one, however long it is; where nothing matches no route is chosen
+abbrev pub LocalRouteIsChosen : Type 0
+LocalRouteIsChosen =
+    (chosen_route one_list learnt_routes (v4 10 0 2 20) ≡ Some 0)
+    × (chosen_route one_list learnt_routes (v4 10 1 2 20) ≡ None)
+
+-- the least number decides, and of equal ones the first row; where no row matches the last rule refuses
+abbrev pub LeastNumberDecides : Type 0
+LeastNumberDecides =
+    (acl_verdict rows_out_of_order Inward (tcp (v4 10 0 1 10) (v4 10 0 2 20) 5000 443) ≡ (true, 100))
+    × ((acl_verdict rows_out_of_order Inward (tcp (v4 192 0 2 1) (v4 10 0 2 20) 5000 443) ≡ (false, 200))
+    × (acl_verdict rows_out_of_order Outward (tcp (v4 10 0 1 10) (v4 10 0 2 20) 5000 443) ≡ (false, 32767)))
+
 -- ---- inside one subnet
 
 abbrev pub a_to_b : ℕ → Header
@@ -128,6 +158,16 @@ ReplyIsStopped = verdict_of high_ports_only (AtInterface (eni 0)) (AtInterface (
 
 abbrev pub ReplyIsAllowed : Type 0
 ReplyIsAllowed = verdict_of high_ports_only (AtInterface (eni 0)) (AtInterface (eni 1)) (a_to_c 32768) ≡ Through
+
+-- a rule that names a group counts its members' private addresses alone: a request that comes by way of the internet
+-- has a public source, and needs a rule that names it
+abbrev pub a_to_public : Header
+a_to_public = tcp (v4 10 0 1 10) (v4 203 0 113 20) 0 443
+
+abbrev pub MembersArePrivate : Type 0
+MembersArePrivate =
+    (verdict_of (public_hosts (https_from_group (codes "sg-a"))) (AtInterface (eni 0)) (AtInterface (eni 1)) a_to_public ≡ StoppedIn Request (GroupsIn (eni 1)))
+    × (verdict_of (public_hosts (https_from (block (v4 203 0 113 10) 32))) (AtInterface (eni 0)) (AtInterface (eni 1)) a_to_public ≡ Through)
 
 -- an answer to nothing is stopped by the groups
 abbrev pub StrayIsStopped : Type 0
@@ -235,3 +275,23 @@ TransitLoops =
       ∷ Router (subnet 2) (FromTransit (att 0))
       ∷ [])
     × (w.outcome ≡ Stopped (Loop (Tgw (att 0) (subnet 2))))
+
+-- a router is another place where the packet came to it in another way: a host in the attachment's own subnet meets the router
+-- of its subnet again, and goes on to the gateway
+abbrev pub LoopsByPlace : Type 0
+LoopsByPlace =
+    let w = first_walk (host_at_attachment transit_loop) Opening (OutOf (eni 3)) (tcp (v4 10 1 3 10) (v4 172 20 0 1) 1 2) in
+    (places_of w ≡ OutOf (eni 3)
+      ∷ Router (subnet 2) (FromHost (eni 3))
+      ∷ Tgw (att 0) (subnet 2)
+      ∷ TgwLeave (att 1) (subnet 2)
+      ∷ Router (subnet 3) (FromTransit (att 1))
+      ∷ Tgw (att 1) (subnet 3)
+      ∷ TgwLeave (att 0) (subnet 3)
+      ∷ Router (subnet 2) (FromTransit (att 0))
+      ∷ [])
+    × (w.outcome ≡ Stopped (Loop (Tgw (att 0) (subnet 2))))
+
+-- the ACL of the attachment's subnet judges what enters the gateway there, also where it comes from that very subnet
+abbrev pub AttachmentIsJudged : Type 0
+AttachmentIsJudged = verdict_of (shut_attachment (host_at_attachment transit)) (AtInterface (eni 3)) (AtInterface (eni 1)) (tcp (v4 10 1 3 10) (v4 10 2 1 10) 0 443) ≡ StoppedIn Request (AclIn (record { 0 = 2 }) 32767)

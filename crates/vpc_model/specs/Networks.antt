@@ -10,12 +10,12 @@ use Rattle.vpc_model.specs.declared.rows.Interface.{Interface}
 use Rattle.vpc_model.specs.declared.rows.InterfaceKind.TheVariants.{Host, Gateway}
 use Rattle.vpc_model.specs.declared.rows.NatLife.TheVariants.{Live}
 use Rattle.vpc_model.specs.declared.rows.Permission.{Permission}
-use Rattle.vpc_model.specs.declared.rows.Reach.TheVariants.{Block as ByBlock}
+use Rattle.vpc_model.specs.declared.rows.Reach.TheVariants.{Block as ByBlock, List as ByList}
 use Rattle.vpc_model.specs.declared.rows.Route.{Route}
 use Rattle.vpc_model.specs.declared.rows.RouteTable.{RouteTable}
 use Rattle.vpc_model.specs.declared.rows.Subnet.{Subnet}
 use Rattle.vpc_model.specs.declared.rows.Target.{Target}
-use Rattle.vpc_model.specs.declared.rows.Target.TheVariants.{Local, Internet, Nat, Transit, Peer}
+use Rattle.vpc_model.specs.declared.rows.Target.TheVariants.{Local, Internet, Nat, Transit, Peer, Other}
 use Rattle.vpc_model.specs.declared.rows.TgwRoute.{TgwRoute}
 use Rattle.vpc_model.specs.declared.rows.TgwTable.{TgwTable}
 use Rattle.vpc_model.specs.declared.rows.Vpc.{Vpc}
@@ -66,6 +66,16 @@ group id vpc inward outward = record { id = id; vpc = vpc; inward = inward; outw
 abbrev pub route : Block → Target → Route
 route b target = record { reach = ByBlock b; target = target; blackhole = false; propagated = false }
 
+-- a route whose target is gone, a propagated one, and one to a prefix list
+abbrev pub gone_route : Block → Target → Route
+gone_route b target = record { reach = ByBlock b; target = target; blackhole = true; propagated = false }
+
+abbrev pub learnt_route : Block → Target → Route
+learnt_route b target = record { reach = ByBlock b; target = target; blackhole = false; propagated = true }
+
+abbrev pub list_route : List ℕ → Target → Route
+list_route id target = record { reach = ByList id; target = target; blackhole = false; propagated = false }
+
 -- a main table, and one of a subnet
 abbrev pub main_table : List ℕ → List ℕ → List Route → RouteTable
 main_table id vpc routes = record { id = id; vpc = vpc; main = true; subnets = []; routes = routes }
@@ -88,6 +98,28 @@ abbrev pub bare : List Vpc → List Subnet → Description
 bare vpcs subnets = record {
   vpcs = vpcs; subnets = subnets; interfaces = []; tables = []; lists = []; acls = []; groups = [];
   igws = []; nats = []; peerings = []; attachments = []; associations = []; tgw_tables = [] }
+
+-- ---- tables alone
+
+-- everything to an internet gateway, 10.0.0.0/16 to the VPC itself, and the route to 10.0.2.0/24 is gone
+abbrev pub three_routes : List Route
+three_routes = route anywhere (Internet (codes "igw-1")) ∷ route (block (v4 10 0 0 0) 16) Local ∷ gone_route (block (v4 10 0 2 0) 24) (Nat (codes "nat-1")) ∷ []
+
+-- three routes to 10.0.0.0/8: a propagated one, one by a prefix list with an entry of that length, and one to the block
+abbrev pub equal_routes : List Route
+equal_routes = learnt_route (block (v4 10 0 0 0) 8) (Other (codes "vgw-1")) ∷ list_route (codes "pl-1") (Other (codes "vgw-2")) ∷ route (block (v4 10 0 0 0) 8) (Other (codes "vgw-3")) ∷ []
+
+-- the local route to 10.0.0.0/16, and a propagated one to a part of it
+abbrev pub learnt_routes : List Route
+learnt_routes = route (block (v4 10 0 0 0) 16) Local ∷ learnt_route (block (v4 10 0 2 0) 24) (Other (codes "vgw-1")) ∷ []
+
+-- a prefix list with 10.0.0.0/8 and 10.0.1.0/24
+abbrev pub one_list : Description
+one_list = record (bare [] []) { lists = record { id = codes "pl-1"; entries = block (v4 10 0 0 0) 8 ∷ block (v4 10 0 1 0) 24 ∷ [] } ∷ [] }
+
+-- rows out of order: 200 denies HTTPS from anywhere, 100 allows it from 10.0.0.0/8, and so, with another verdict, does a second row 100
+abbrev pub rows_out_of_order : List AclRow
+rows_out_of_order = tcp_row 200 false false 443 443 anywhere ∷ tcp_row 100 false true 443 443 (block (v4 10 0 0 0) 8) ∷ tcp_row 100 false false 443 443 (block (v4 10 0 0 0) 8) ∷ []
 
 -- ---- one VPC
 
@@ -120,6 +152,14 @@ two_subnets acls = record (bare (vpc_1 ∷ []) (subnet (codes "subnet-a") (codes
 abbrev pub high_ports_only : Description
 high_ports_only = two_subnets (acl (codes "acl-1") (codes "subnet-a" ∷ []) open_rows
   ∷ acl (codes "acl-b") (codes "subnet-b" ∷ []) (allow_row 100 false anywhere ∷ tcp_row 100 true true 32768 65535 anywhere ∷ []) ∷ [])
+
+-- the same, where the hosts have the public addresses 203.0.113.10 and 203.0.113.20, and the second's group lets in HTTPS by this rule
+abbrev pub public_hosts : Permission → Description
+public_hosts p = record (two_subnets (acl_1 ∷ [])) {
+  interfaces = host_with (codes "eni-a") (codes "subnet-a") (v4 10 0 1 10) (Some (v4 203 0 113 10)) (codes "sg-a") ∷ host_with (codes "eni-b") (codes "subnet-b") (v4 10 0 2 20) (Some (v4 203 0 113 20)) (codes "sg-b") ∷ [];
+  tables = main_table (codes "rtb-1") (codes "vpc-1") (local_1 ∷ route anywhere (Internet (codes "igw-1")) ∷ []) ∷ [];
+  groups = group (codes "sg-a") (codes "vpc-1") [] (allow_all ∷ []) ∷ group (codes "sg-b") (codes "vpc-1") (p ∷ []) [] ∷ [];
+  igws = record { id = codes "igw-1"; vpcs = codes "vpc-1" ∷ [] } ∷ [] }
 
 -- the interface of the NAT gateway, 10.0.3.5 with the public address 203.0.113.5
 abbrev pub eni_n : Interface
@@ -187,6 +227,15 @@ attached from_a from_b = record (bare (site_vpc (codes "a") 1 ∷ site_vpc (code
   attachments = site_attachment (codes "a") ∷ site_attachment (codes "b") ∷ [];
   associations = record { attachment = codes "att-a"; table = codes "tgw-rtb-a" } ∷ record { attachment = codes "att-b"; table = codes "tgw-rtb-b" } ∷ [];
   tgw_tables = record { id = codes "tgw-rtb-a"; routes = from_a } ∷ record { id = codes "tgw-rtb-b"; routes = from_b } ∷ [] }
+
+-- the same with a third host, 10.1.3.10, in the subnet by which the first VPC is attached, whose ACL lets everything out and nothing in
+abbrev pub host_at_attachment : Description → Description
+host_at_attachment d = record d {
+  interfaces = d.interfaces ++ host (codes "eni-t") (codes "subnet-ta") (v4 10 1 3 10) (codes "sg-a") ∷ [] }
+
+abbrev pub shut_attachment : Description → Description
+shut_attachment d = record d {
+  acls = site_acl (codes "a") (codes "subnet-a" ∷ []) ∷ site_acl (codes "b") (codes "subnet-b" ∷ codes "subnet-tb" ∷ []) ∷ acl (codes "acl-t") (codes "subnet-ta" ∷ []) (allow_row 100 true anywhere ∷ []) ∷ [] }
 
 abbrev pub tgw_route : Block → List ℕ → Bool → TgwRoute
 tgw_route b attachment propagated = record { block = b; blackhole = false; propagated = propagated; attachment = Some attachment }

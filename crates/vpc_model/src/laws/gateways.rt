@@ -1,5 +1,5 @@
 // What packets do at NAT gateways, peerings and transit gateways.
-ghost use Rattle.vpc_model.specs.Examples.{ReturnsThroughNat, LeavesThroughNat, ComesBackThroughNat, PortsDiffer, AnswersFindTheirHosts, PeeringIsNotTransitive, TransitForwards, TransitDrops, TransitLoops};
+ghost use Rattle.vpc_model.specs.Examples.{ReturnsThroughNat, LeavesThroughNat, ComesBackThroughNat, PortsDiffer, AnswersFindTheirHosts, PeeringIsNotTransitive, TransitForwards, TransitDrops, TransitLoops, LoopsByPlace, AttachmentIsJudged};
 
 /// A request to the internet gets through a NAT gateway, and its reply returns.
 pub fn returns_through_nat()
@@ -52,5 +52,17 @@ pub fn transit_drops()
 /// Two transit tables that send a packet to each other are seen as a loop.
 pub fn transit_loops()
     ensures { TransitLoops }
+{
+}
+
+/// A place is met again only where the packet also came to it in the same way.
+pub fn loops_by_place()
+    ensures { LoopsByPlace }
+{
+}
+
+/// The network ACL of a transit gateway's subnet judges packets also inside that subnet.
+pub fn judges_at_the_attachment()
+    ensures { AttachmentIsJudged }
 {
 }

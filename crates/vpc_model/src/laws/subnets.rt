@@ -1,5 +1,29 @@
 // What packets do inside a VPC.
-ghost use Rattle.vpc_model.specs.Examples.{IsDelivered, IsBlocked, GetsThrough, ReplyIsStopped, ReplyIsAllowed, StrayIsStopped};
+ghost use Rattle.vpc_model.specs.Examples.{LongestRouteIsChosen, TiesAreByKind, LocalRouteIsChosen, LeastNumberDecides, IsDelivered, IsBlocked, GetsThrough, ReplyIsStopped, ReplyIsAllowed, MembersArePrivate, StrayIsStopped};
+
+/// The longest route is chosen, whether its target is there or gone.
+pub fn chooses_the_longest_route()
+    ensures { LongestRouteIsChosen }
+{
+}
+
+/// Of equally long routes the kind decides.
+pub fn chooses_by_kind()
+    ensures { TiesAreByKind }
+{
+}
+
+/// A propagated route doesn't stand beside a local one.
+pub fn chooses_the_local_route()
+    ensures { LocalRouteIsChosen }
+{
+}
+
+/// The matching row of a network ACL with the least number decides.
+pub fn decides_by_the_least_number()
+    ensures { LeastNumberDecides }
+{
+}
 
 /// A request to a port that the target's group allows is delivered inside a subnet.
 pub fn delivers_inside_a_subnet()
@@ -34,5 +58,11 @@ pub fn lets_the_reply_through()
 /// An answer that belongs to no connection needs a rule.
 pub fn stops_a_stray_answer()
     ensures { StrayIsStopped }
+{
+}
+
+/// The members of a group that a rule names are private addresses.
+pub fn counts_private_members_alone()
+    ensures { MembersArePrivate }
 {
 }
