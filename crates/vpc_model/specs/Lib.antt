@@ -14,5 +14,6 @@ pub mod Transit
 pub mod Step
 pub mod Walk
 pub mod Verdict
+pub mod Laws
 pub mod Networks
 pub mod Examples
