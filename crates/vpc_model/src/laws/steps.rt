@@ -1,5 +1,5 @@
 // Laws of one step.
-ghost use Rattle.vpc_model.specs.Laws.{StepAddsOwn, ConnectionsChangeAtInterfaces, StepAddsTranslation, StepKeeps, AnswerAddsNothing};
+ghost use Rattle.vpc_model.specs.Laws.{OpenKeepsFlow, StepAddsOwn, ConnectionsChangeAtInterfaces, StepAddsTranslation, StepKeeps, AnswerAddsNothing};
 
 /// A step adds at most one connection: that of an open at the interface where it is. It is kept also
 /// where the packet is then stopped.
@@ -29,5 +29,11 @@ pub fn keeps_what_was_there()
 /// An answer leaves no trace.
 pub fn answer_adds_nothing()
     ensures { AnswerAddsNothing }
+{
+}
+
+/// The protocol of an open, and its destination port or ICMP type, stay what they are.
+pub fn open_keeps_protocol_and_q()
+    ensures { OpenKeepsFlow }
 {
 }
