@@ -1,4 +1,5 @@
 // Laws of walks, and what packets do in small networks.
 pub mod gateways;
+pub mod nats;
 pub mod steps;
 pub mod subnets;
