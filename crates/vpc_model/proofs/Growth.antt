@@ -113,7 +113,7 @@ in_passing-nats : (i : EniNo) (m : Moment) (by : Option By) (conns : List Connec
 in_passing-nats i m None conns = refl
 in_passing-nats i m (Some by) conns = refl
 
-step_out-nats : (d : Description) (label : Label) (i : EniNo) (m : Moment) → (step_out d label i m).nats ≡ m.nats
+pub step_out-nats : (d : Description) (label : Label) (i : EniNo) (m : Moment) → (step_out d label i m).nats ≡ m.nats
 step_out-nats d label i m =
     let e = interface_at d i in
     let passing = passing_of d label i Outward m.header m.conns in
@@ -121,7 +121,7 @@ step_out-nats d label i m =
     (λ _. cond_both (e.checked && not (has_address e m.header.src)) _ _ (λ (s : Step). s.nats ≡ m.nats) (λ _. refl)
     (λ _. out_passing-nats d i m passing.by passing.conns))
 
-step_into-nats : (d : Description) (label : Label) (i : EniNo) (m : Moment) → (step_into d label i m).nats ≡ m.nats
+pub step_into-nats : (d : Description) (label : Label) (i : EniNo) (m : Moment) → (step_into d label i m).nats ≡ m.nats
 step_into-nats d label i m =
     let e = interface_at d i in
     let passing = passing_of d label i Inward m.header m.conns in
@@ -129,10 +129,10 @@ step_into-nats d label i m =
     (λ _. cond_both (e.checked && not (has_address e m.header.dst)) _ _ (λ (s : Step). s.nats ≡ m.nats) (λ _. refl)
     (λ _. in_passing-nats i m passing.by passing.conns))
 
-step_internet-nats : (d : Description) (m : Moment) → (step_internet d m).nats ≡ m.nats
+pub step_internet-nats : (d : Description) (m : Moment) → (step_internet d m).nats ≡ m.nats
 step_internet-nats d m = cond_both (is_unroutable m.header.src || is_unroutable m.header.dst) _ _ (λ (s : Step). s.nats ≡ m.nats) (λ _. refl) (λ _. refl)
 
-step_nat_in-nats : (d : Description) (label : Label) (n : NatNo) (m : Moment) → (step_nat_in d label n m).nats ≡ m.nats
+pub step_nat_in-nats : (d : Description) (label : Label) (n : NatNo) (m : Moment) → (step_nat_in d label n m).nats ≡ m.nats
 step_nat_in-nats d Opening n m = refl
 step_nat_in-nats d Answer n m = refl
 

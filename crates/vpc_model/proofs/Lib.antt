@@ -1,3 +1,4 @@
 pub mod Growth
 pub mod Flow
 pub mod Ports
+pub mod Books

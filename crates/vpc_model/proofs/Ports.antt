@@ -20,7 +20,7 @@ weight-le false false f = omega arith
 weight-less : (a b : Bool) → a ≡ false → b ≡ true → cond a 1 0 + 1 ≤ cond b 1 0
 weight-less a b fails passes = rw (fails, passes) (omega arith)
 
-count_by-le : {X : Type 0} (p q : X → Bool) → ((x : X) → p x ≡ true → q x ≡ true) → (xs : List X) → count_by p xs ≤ count_by q xs
+pub count_by-le : {X : Type 0} (p q : X → Bool) → ((x : X) → p x ≡ true → q x ≡ true) → (xs : List X) → count_by p xs ≤ count_by q xs
 count_by-le p q f [] = omega arith
 count_by-le p q f (x ∷ xs) =
     let by_p = sum_by-cons (λ y. cond (p y) 1 0) x xs in

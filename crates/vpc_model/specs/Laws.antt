@@ -10,7 +10,7 @@ use Rattle.vpc_model.specs.declared.outcomes.Hop.{Hop}
 use Rattle.vpc_model.specs.declared.places.Place.{Place}
 use Rattle.vpc_model.specs.declared.places.Place.TheVariants.{OutOf, Into, NatOut}
 use Rattle.vpc_model.specs.declared.rows.Description.{Description}
-use Rattle.vpc_model.specs.Connections.{Connection}
+use Rattle.vpc_model.specs.Connections.{Connection, same_header}
 use Rattle.vpc_model.specs.Nat.{Translation, is_taken, is_translatable, shares, first_port, free_port}
 use Rattle.vpc_model.specs.Step.{Moment, Next, go, arrive, stop, Step, step_of}
 use Rattle.vpc_model.specs.Walk.{Walk, walk_of, same_place}
@@ -45,10 +45,17 @@ pub record IsTranslation (t : Translation) : Type 0 where
 abbrev pub collide : Translation → Translation → Bool
 collide s t = shares t.nat t.after s && (s.after.p == t.after.p)
 
--- what the NAT gateways keep: each is a translation, and no two collide
+-- two translations are of one gateway and one header
+abbrev pub same_before : Translation → Translation → Bool
+same_before s t = (s.nat.0 == t.nat.0) && same_header s.before t.before
+
+-- what NAT gateways keep in order: each is a translation, of a header that no other translates, to a port that no other has
+-- there; and at most 55,000 share a gateway, protocol, destination and q
 pub record IsBook (ts : List Translation) : Type 0 where
   pub translations : AllByRecursion IsTranslation ts
+  pub once : IsDistinct same_before ts
   pub apart : IsDistinct collide ts
+  pub few : (n : NatNo) (h : Header) → count_by (shares n h) ts ≤ 55000
 
 -- the translations after a packet's step: those before it, or one more, of an open at that NAT gateway
 abbrev pub AddsTranslation : Label → Place → Header → List Translation → List Translation → Type 0
