@@ -129,3 +129,7 @@ step_at-book d label (TgwLeave a s) m fits book = book
 
 pub step_keeps_book : (d : Description) (label : Label) (m : Moment) → m.header.p < 2 ^ 16 → IsBook m.nats → IsBook (step_of d label m).nats
 step_keeps_book d label m fits book = step_at-book d label m.place m fits book
+
+pub IsBook-nil : IsBook []
+unfolding IsDistinct
+IsBook-nil = record { translations = tt; once = tt; apart = tt; few = λ n h. omega arith }

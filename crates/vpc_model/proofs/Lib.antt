@@ -2,3 +2,4 @@ pub mod Growth
 pub mod Flow
 pub mod Ports
 pub mod Books
+pub mod Walks

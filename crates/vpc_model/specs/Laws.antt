@@ -103,6 +103,10 @@ AnswerAddsNothing = (d : Description) (m : Moment) → let s = step_of d Answer 
 abbrev pub FreePortIsFree : Type 0
 FreePortIsFree = (ts : List Translation) (n : NatNo) (h : Header) → h.p < 2 ^ 16 → count_by (shares n h) ts < 64512 → is_taken ts n h (free_port ts (is_taken ts n h) (first_port h.p)) ≡ false
 
+-- nothing is in order
+abbrev pub NothingIsInOrder : Type 0
+NothingIsInOrder = IsBook []
+
 -- a step keeps what the NAT gateways keep in order
 abbrev pub StepKeepsBook : Type 0
 StepKeepsBook = (d : Description) (label : Label) (m : Moment) → m.header.p < 2 ^ 16 → IsBook m.nats → let s = step_of d label m in IsBook s.nats
@@ -129,6 +133,12 @@ abbrev pub LeftConnectionsAreOwn : Type 0
 LeftConnectionsAreOwn = (d : Description) (label : Label) (m : Moment) (c : Connection) →
     let w = walk_of d label m in
     Contains w.conns c → Contains m.conns c ⊎ ((label ≡ Opening) × ((h : Hop) × (Contains w.hops h × (own_connection h.place h.header ≡ Some c))))
+
+-- each translation that a walk leaves was there before, or is of an open at one of its places, its gateway
+abbrev pub LeftTranslationsAreOwn : Type 0
+LeftTranslationsAreOwn = (d : Description) (label : Label) (m : Moment) (t : Translation) →
+    let w = walk_of d label m in
+    Contains w.nats t → Contains m.nats t ⊎ ((label ≡ Opening) × ((h : Hop) × (Contains w.hops h × ((h.place ≡ NatOut t.nat) × (t.before ≡ h.header)))))
 
 -- a walk keeps what the NAT gateways keep in order
 abbrev pub WalkKeepsBook : Type 0

@@ -3,3 +3,4 @@ pub mod gateways;
 pub mod nats;
 pub mod steps;
 pub mod subnets;
+pub mod walks;

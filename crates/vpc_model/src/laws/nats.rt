@@ -1,9 +1,15 @@
 // Laws of NAT gateways.
-ghost use Rattle.vpc_model.specs.Laws.{FreePortIsFree, StepKeepsBook};
+ghost use Rattle.vpc_model.specs.Laws.{FreePortIsFree, NothingIsInOrder, StepKeepsBook};
 
 /// A gateway finds a port while its translations towards a destination are fewer than the ports.
 pub fn finds_a_free_port()
     ensures { FreePortIsFree }
+{
+}
+
+/// Where nothing is translated yet, all is in order.
+pub fn begins_in_order()
+    ensures { NothingIsInOrder }
 {
 }
 
