@@ -1,8 +1,8 @@
 -- Bounds of blocks.
-use Rattle.std.proofs.Common.{◌≡◌, ℕ, ◌≤◌, ◌<◌, ◌+◌, ◌-◌, ◌*◌, ◌/◌, ◌%◌, ◌^◌, arith, refl, sym, ap, subst, ◌∙◌}
+use Rattle.std.proofs.Common.{◌≡◌, ℕ, ◌≤◌, ◌<◌, ◌+◌, ◌-◌, ◌*◌, ◌/◌, ◌%◌, ◌^◌, arith, sym, ap, subst, ◌∙◌}
 use Rattle.std.proofs.Math.Nat.{mul-le-mul, div-lt_iff_lt-mul, mul-mod_left}
 use Rattle.std.proofs.lemmas.Nat.{pow-add}
-use Rattle.prefix_text.specs.Block.{IsBlock, block_of, size_of}
+use Rattle.prefix_text.specs.Block.{IsBlock, block_of}
 
 -- a multiple of s below m * s has room for s more
 block_fits : (a s m : ℕ) → 0 < s → a < m * s → a - a % s + (s - 1) < m * s

@@ -1,1 +1,4 @@
+pub mod Addr
 pub mod Block
+pub mod Number
+pub mod Range

@@ -1,8 +1,14 @@
 // Blocks of addresses.
-ghost use Rattle.std.specs.Prelude.{◌≡◌, ◌≤◌, ◌<◌, ◌^◌, ◌%◌, ◌-◌};
-ghost use Rattle.prefix_text.specs.Block.{size_of};
+ghost use Rattle.std.specs.Prelude.{◌≡◌, ◌≤◌, ◌<◌, ◌^◌, ◌%◌, ◌-◌, ◌++◌, OnOk, OnErr};
+ghost use Rattle.prefix_text.specs.Block.{size_of, prefix_of, block_text};
 
+use crate::addresses::{dotted_quad, read_addr};
+use crate::buffers::append;
+use crate::numbers::{decimal_digits, read_number};
+use crate::parts::parted;
+use arrayvec::ArrayVec;
 use std::marker::Model;
+use vpc_base::NoMemory;
 
 /// A block of IPv4 addresses in CIDR notation. Its host bits are clear.
 #[derive(Clone, Copy, Debug, PartialEq, Eq)]
@@ -41,7 +47,10 @@ impl Prefix {
         ensures { result ≡ block_of addr length }
     {
         let host = u64::from(addr) % size(length);
-        Prefix { first: addr - host as u32, length }
+        Prefix {
+            first: addr - host as u32,
+            length,
+        }
     }
 
     /// The least address.
@@ -73,4 +82,40 @@ impl Prefix {
     {
         self.first <= addr && addr <= self.last()
     }
+}
+
+/// The prefix that a text writes in CIDR notation (RFC 4632): an address, `/` and a decimal number up
+/// to 32. Host bits may be set and are cleared, as EC2's `CreateVpc` does with a block that it is
+/// given. `None` for any other text. It takes no memory.
+pub fn read_prefix(text: &[u8]) -> Option<Prefix>
+    ensures { result ≡ prefix_of text.now }
+{
+    let (addr, length) = parted(text, b'/');
+    let addr = read_addr(addr)?;
+    let length = read_number(length, 32)?;
+    Some(Prefix::of(addr, length as u8))
+}
+
+/// The prefix in CIDR notation. It takes no memory.
+#[tactic(auto, using(crate::proofs::NumberLaws::two_digits))]
+pub fn cidr_notation(prefix: &Prefix) -> ArrayVec<u8, 18>
+    ensures { result.items ≡ block_text prefix.now }
+{
+    let mut text = ArrayVec::new();
+    append(&mut text, dotted_quad(prefix.first()).as_slice());
+    text.push(b'/');
+    append(
+        &mut text,
+        decimal_digits(u128::from(prefix.length())).as_slice(),
+    );
+    text
+}
+
+/// Appends the prefix in CIDR notation. Where memory is refused, nothing is added.
+pub fn put_prefix(out: &mut Vec<u8>, x: &Prefix) -> Result<(), NoMemory>
+    ensures ok { OnOk result (out.new.items ≡ out.old.items ++ block_text x.now) }
+    ensures err { OnErr result (out.new.items ≡ out.old.items) }
+{
+    out.extend_from_slice(cidr_notation(x).as_slice())?;
+    Ok(())
 }

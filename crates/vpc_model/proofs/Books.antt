@@ -62,12 +62,12 @@ shares-over n k h g t s nat proto dst q at_t at_s =
     let t3 = and_parts (t.after.dst == g.dst) (t.after.q == g.q) t2.1 in
     let s3 = and_parts (s.after.dst == g.dst) (s.after.q == g.q) s2.1 in
     and_from (s.nat.0 == n.0) ((s.after.proto == h.proto) && ((s.after.dst == h.dst) && (s.after.q == h.q)))
-      (eq-eqb s.nat.0 n.0 (eqb-true s.nat.0 k.0 s1.0 ∙ sym (eqb-true t.nat.0 k.0 t1.0) ∙ nat))
-      (and_from (s.after.proto == h.proto) ((s.after.dst == h.dst) && (s.after.q == h.q))
-        (eq-eqb s.after.proto h.proto (eqb-true s.after.proto g.proto s2.0 ∙ sym (eqb-true t.after.proto g.proto t2.0) ∙ proto))
-        (and_from (s.after.dst == h.dst) (s.after.q == h.q)
-          (eq-eqb s.after.dst h.dst (eqb-true s.after.dst g.dst s3.0 ∙ sym (eqb-true t.after.dst g.dst t3.0) ∙ dst))
-          (eq-eqb s.after.q h.q (eqb-true s.after.q g.q s3.1 ∙ sym (eqb-true t.after.q g.q t3.1) ∙ q))))
+    (eq-eqb s.nat.0 n.0 (eqb-true s.nat.0 k.0 s1.0 ∙ sym (eqb-true t.nat.0 k.0 t1.0) ∙ nat))
+    (and_from (s.after.proto == h.proto) ((s.after.dst == h.dst) && (s.after.q == h.q))
+    (eq-eqb s.after.proto h.proto (eqb-true s.after.proto g.proto s2.0 ∙ sym (eqb-true t.after.proto g.proto t2.0) ∙ proto))
+    (and_from (s.after.dst == h.dst) (s.after.q == h.q)
+    (eq-eqb s.after.dst h.dst (eqb-true s.after.dst g.dst s3.0 ∙ sym (eqb-true t.after.dst g.dst t3.0) ∙ dst))
+    (eq-eqb s.after.q h.q (eqb-true s.after.q g.q s3.1 ∙ sym (eqb-true t.after.q g.q t3.1) ∙ q))))
 
 few-push : (ts : List Translation) (n : NatNo) (h : Header) (t : Translation) → t.nat.0 ≡ n.0 → t.after.proto ≡ h.proto → t.after.dst ≡ h.dst → t.after.q ≡ h.q
     → count_by (shares n h) ts < 55000 → ((k : NatNo) (g : Header) → count_by (shares k g) ts ≤ 55000) → (k : NatNo) (g : Header) → count_by (shares k g) (ts ++ t ∷ []) ≤ 55000
@@ -93,7 +93,8 @@ new-book ts n own h fits translatable none room book =
       translations = AllByRecursion-push IsTranslation ts t book.translations (record { proto = refl; dst = refl; q = refl; translatable = translatable; least = ports.0; most = λ _. ports.1 });
       once = IsDistinct-push_new same_before ts t book.once (find-none (λ s. (s.nat.0 == n.0) && same_header s.before h) ts none);
       apart = IsDistinct-push_new collide ts t book.apart (free_port_is_free ts n h fits (omega arith));
-      few = few-push ts n h t refl refl refl refl few book.few }
+      few = few-push ts n h t refl refl refl refl few book.few;
+    }
 
 -- ---- steps
 

@@ -185,7 +185,8 @@ same_header-fields a b e =
       src = eqb-true a.src b.src addresses.0;
       dst = eqb-true a.dst b.dst rest.0;
       p = eqb-true a.p b.p ports.0;
-      q = eqb-true a.q b.q ports.1 }
+      q = eqb-true a.q b.q ports.1;
+    }
 
 translate-flow : (d : Description) (n : NatNo) (m : Moment) (t : Option Translation) → Found IsTranslation (is_of n m.header) t → Flows m.header (translate d n m t).next
 translate-flow d n m None found =

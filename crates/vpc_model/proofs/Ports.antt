@@ -89,9 +89,10 @@ is_below-shares n h first k t e = (and_parts (shares n h t) (ltb (rank first t.a
 is_below-hit : (n : NatNo) (h : Header) (first port k : ℕ) → rank first port ≡ k → (t : Translation) → (shares n h t && (t.after.p == port)) ≡ true → (is_below n h first k t ≡ false) × (is_below n h first (k + 1) t ≡ true)
 is_below-hit n h first port k is t e =
     let parts = and_parts (shares n h t) (t.after.p == port) e in
-    let same : rank first t.after.p ≡ k = ap (rank first) (eqb-true t.after.p port parts.1) ∙ is in
-    (and_right (shares n h t) (ltb (rank first t.after.p) k) (le-ltb (rank first t.after.p) k (omega arith)),
-     and_from (shares n h t) (ltb (rank first t.after.p) (k + 1)) parts.0 (lt-ltb (rank first t.after.p) (k + 1) (omega arith)))
+    let same : rank first t.after.p ≡ k = ap (rank first) (eqb-true t.after.p port parts.1) ∙ is in (
+      and_right (shares n h t) (ltb (rank first t.after.p) k) (le-ltb (rank first t.after.p) k (omega arith)),
+      and_from (shares n h t) (ltb (rank first t.after.p) (k + 1)) parts.0 (lt-ltb (rank first t.after.p) (k + 1) (omega arith)),
+    )
 
 -- one more taken port is one more translation
 taken-counts : (ts : List Translation) (n : NatNo) (h : Header) (first port k : ℕ) → rank first port ≡ k → is_taken ts n h port ≡ true → count_by (is_below n h first k) ts + 1 ≤ count_by (is_below n h first (k + 1)) ts
@@ -109,12 +110,12 @@ search_exhausts [] ts n h first port k a b c d is met few taken =
 search_exhausts (x ∷ steps) ts n h first port k a b c d is met few taken =
     cond_both (is_taken ts n h port) (free_port steps (is_taken ts n h) (next_port port)) port (λ y. is_taken ts n h y ≡ true → k + suc (length steps) + 1 ≤ count_by (shares n h) ts)
     (λ here at_next.
-        let more = taken-counts ts n h first port k is here in
-        let all = count_by-le (is_below n h first (k + 1)) (shares n h) (is_below-shares n h first (k + 1)) ts in
-        let next = rank-next first port a b c d (omega arith) in
-        let fits = next_port-fits port c d in
-        let later = search_exhausts steps ts n h first (next_port port) (k + 1) a b fits.0 fits.1 (next ∙ ap (λ r. r + 1) is) (omega arith) few at_next in
-        omega arith)
+    let more = taken-counts ts n h first port k is here in
+    let all = count_by-le (is_below n h first (k + 1)) (shares n h) (is_below-shares n h first (k + 1)) ts in
+    let next = rank-next first port a b c d (omega arith) in
+    let fits = next_port-fits port c d in
+    let later = search_exhausts steps ts n h first (next_port port) (k + 1) a b fits.0 fits.1 (next ∙ ap (λ r. r + 1) is) (omega arith) few at_next in
+    omega arith)
     (λ free here. absurd (both_ways (is_taken ts n h port) free here))
     taken
 
@@ -122,8 +123,8 @@ pub free_port_is_free : (ts : List Translation) (n : NatNo) (h : Header) → h.p
 free_port_is_free ts n h fits few =
     false_from_ne_true (is_taken ts n h (free_port ts (is_taken ts n h) (first_port h.p)))
     (λ taken.
-        let first = first_port h.p in
-        let good = first_port-fits h.p fits in
-        let none = search_exhausts ts ts n h first first 0 good.0 good.1 good.0 good.1 (rank-first first) (omega arith) few taken in
-        let most = count_by-le-length (shares n h) ts in
-        omega arith)
+    let first = first_port h.p in
+    let good = first_port-fits h.p fits in
+    let none = search_exhausts ts ts n h first first 0 good.0 good.1 good.0 good.1 (rank-first first) (omega arith) few taken in
+    let most = count_by-le-length (shares n h) ts in
+    omega arith)

@@ -71,10 +71,10 @@ walk_on-length d label (suc n) hops h (go p k) conns nats =
     (λ (w : Walk). (length hops ≤ length w.hops) × (length w.hops ≤ length hops + suc n))
     (λ _. (omega arith, omega arith))
     (λ _.
-        let rest = walk_on-length d label n (hops ++ hop_at d label m ∷ []) k s.next s.conns s.nats in
-        let longer = length-append hops (hop_at d label m ∷ []) in
-        let one : length (hop_at d label m ∷ []) ≡ 1 = refl in
-        (omega arith, omega arith))
+    let rest = walk_on-length d label n (hops ++ hop_at d label m ∷ []) k s.next s.conns s.nats in
+    let longer = length-append hops (hop_at d label m ∷ []) in
+    let one : length (hop_at d label m ∷ []) ≡ 1 = refl in
+    (omega arith, omega arith))
 
 pub walk_is_short : (d : Description) (label : Label) (m : Moment) → let w = walk_of d label m in (1 ≤ length w.hops) × (length w.hops ≤ 64)
 walk_is_short d label m =

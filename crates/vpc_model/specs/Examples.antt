@@ -124,24 +124,26 @@ abbrev pub IsDelivered : Type 0
 IsDelivered =
     first_walk one_subnet Opening (OutOf (eni 0)) (a_to_b 443) ≡ record {
       hops = hop_by (OutOf (eni 0)) (a_to_b 443) (rule 0 Outward 1)
-        ∷ hop (Router (subnet 0) (FromHost (eni 0))) (a_to_b 443)
-        ∷ hop_by (Into (eni 1)) (a_to_b 443) (rule 1 Inward 1)
-        ∷ [];
+          ∷ hop (Router (subnet 0) (FromHost (eni 0))) (a_to_b 443)
+          ∷ hop_by (Into (eni 1)) (a_to_b 443) (rule 1 Inward 1)
+          ∷ [];
       outcome = Arrived (AtInterface (eni 1)) (a_to_b 443);
       conns = connection 0 Outward (a_to_b 443) ∷ connection 1 Inward (a_to_b 443) ∷ [];
-      nats = [] }
+      nats = [];
+    }
 
 -- a request to port 80 is blocked by the groups of the other host; what passed on the way is remembered
 abbrev pub IsBlocked : Type 0
 IsBlocked =
     first_walk one_subnet Opening (OutOf (eni 0)) (a_to_b 80) ≡ record {
       hops = hop_by (OutOf (eni 0)) (a_to_b 80) (rule 0 Outward 1)
-        ∷ hop (Router (subnet 0) (FromHost (eni 0))) (a_to_b 80)
-        ∷ hop (Into (eni 1)) (a_to_b 80)
-        ∷ [];
+          ∷ hop (Router (subnet 0) (FromHost (eni 0))) (a_to_b 80)
+          ∷ hop (Into (eni 1)) (a_to_b 80)
+          ∷ [];
       outcome = Stopped (GroupsIn (eni 1));
       conns = connection 0 Outward (a_to_b 80) ∷ [];
-      nats = [] }
+      nats = [];
+    }
 
 -- ---- between two subnets
 
@@ -177,7 +179,8 @@ StrayIsStopped =
       hops = hop (OutOf (eni 1)) h ∷ [];
       outcome = Stopped (GroupsOut (eni 1));
       conns = [];
-      nats = [] }
+      nats = [];
+    }
 
 -- ---- behind a NAT gateway
 
@@ -210,27 +213,28 @@ abbrev pub LeavesThroughNat : Type 0
 LeavesThroughNat =
     first_walk (behind_nat low_ports_in) Opening (OutOf (eni 0)) (a_to_server 0) ≡ record {
       hops = hop_by (OutOf (eni 0)) (a_to_server 0) (rule 0 Outward 1)
-        ∷ hop (Router (subnet 0) (FromHost (eni 0))) (a_to_server 0)
-        ∷ hop (NatOut (nat 0)) (a_to_server 0)
-        ∷ hop (Router (subnet 2) (FromNat (nat 0))) (translated 1024)
-        ∷ hop (IgwOut (vpc 0)) (translated 1024)
-        ∷ hop Internet (published 1024)
-        ∷ [];
+          ∷ hop (Router (subnet 0) (FromHost (eni 0))) (a_to_server 0)
+          ∷ hop (NatOut (nat 0)) (a_to_server 0)
+          ∷ hop (Router (subnet 2) (FromNat (nat 0))) (translated 1024)
+          ∷ hop (IgwOut (vpc 0)) (translated 1024)
+          ∷ hop Internet (published 1024)
+          ∷ [];
       outcome = Arrived AtInternet (published 1024);
       conns = connection 0 Outward (a_to_server 0) ∷ [];
-      nats = record { nat = nat 0; before = a_to_server 0; after = translated 1024 } ∷ [] }
+      nats = record { nat = nat 0; before = a_to_server 0; after = translated 1024 } ∷ [];
+    }
 
 abbrev pub ComesBackThroughNat : Type 0
 ComesBackThroughNat =
     let back = tcp (v4 198 51 100 7) (v4 10 0 1 10) 443 0 in
     hops_of (walk_after (behind_nat low_ports_in) Answer (first_walk (behind_nat low_ports_in) Opening (OutOf (eni 0)) (a_to_server 0)) Internet (from_server 1024))
-      ≡ hop Internet (from_server 1024)
-        ∷ hop (IgwIn (vpc 0)) (from_server 1024)
-        ∷ hop (Enter (vpc 0) ByGateway) (from_server_inside 1024)
-        ∷ hop (NatIn (nat 0)) (from_server_inside 1024)
-        ∷ hop (Router (subnet 2) (FromNat (nat 0))) back
-        ∷ hop_by (Into (eni 0)) back Tracked
-        ∷ []
+    ≡ hop Internet (from_server 1024)
+    ∷ hop (IgwIn (vpc 0)) (from_server 1024)
+    ∷ hop (Enter (vpc 0) ByGateway) (from_server_inside 1024)
+    ∷ hop (NatIn (nat 0)) (from_server_inside 1024)
+    ∷ hop (Router (subnet 2) (FromNat (nat 0))) back
+    ∷ hop_by (Into (eni 0)) back Tracked
+    ∷ []
 
 -- two hosts send from one port to one server: the gateway gives the second the next port
 abbrev pub both_requests : Walk
@@ -266,14 +270,14 @@ abbrev pub TransitLoops : Type 0
 TransitLoops =
     let w = first_walk transit_loop Opening (OutOf (eni 0)) (tcp (v4 10 1 1 10) (v4 172 20 0 1) 1 2) in
     (places_of w ≡ OutOf (eni 0)
-      ∷ Router (subnet 0) (FromHost (eni 0))
-      ∷ Tgw (att 0) (subnet 2)
-      ∷ TgwLeave (att 1) (subnet 2)
-      ∷ Router (subnet 3) (FromTransit (att 1))
-      ∷ Tgw (att 1) (subnet 3)
-      ∷ TgwLeave (att 0) (subnet 3)
-      ∷ Router (subnet 2) (FromTransit (att 0))
-      ∷ [])
+    ∷ Router (subnet 0) (FromHost (eni 0))
+    ∷ Tgw (att 0) (subnet 2)
+    ∷ TgwLeave (att 1) (subnet 2)
+    ∷ Router (subnet 3) (FromTransit (att 1))
+    ∷ Tgw (att 1) (subnet 3)
+    ∷ TgwLeave (att 0) (subnet 3)
+    ∷ Router (subnet 2) (FromTransit (att 0))
+    ∷ [])
     × (w.outcome ≡ Stopped (Loop (Tgw (att 0) (subnet 2))))
 
 -- a router is another place where the packet came to it in another way: a host in the attachment's own subnet meets the router
@@ -282,14 +286,14 @@ abbrev pub LoopsByPlace : Type 0
 LoopsByPlace =
     let w = first_walk (host_at_attachment transit_loop) Opening (OutOf (eni 3)) (tcp (v4 10 1 3 10) (v4 172 20 0 1) 1 2) in
     (places_of w ≡ OutOf (eni 3)
-      ∷ Router (subnet 2) (FromHost (eni 3))
-      ∷ Tgw (att 0) (subnet 2)
-      ∷ TgwLeave (att 1) (subnet 2)
-      ∷ Router (subnet 3) (FromTransit (att 1))
-      ∷ Tgw (att 1) (subnet 3)
-      ∷ TgwLeave (att 0) (subnet 3)
-      ∷ Router (subnet 2) (FromTransit (att 0))
-      ∷ [])
+    ∷ Router (subnet 2) (FromHost (eni 3))
+    ∷ Tgw (att 0) (subnet 2)
+    ∷ TgwLeave (att 1) (subnet 2)
+    ∷ Router (subnet 3) (FromTransit (att 1))
+    ∷ Tgw (att 1) (subnet 3)
+    ∷ TgwLeave (att 0) (subnet 3)
+    ∷ Router (subnet 2) (FromTransit (att 0))
+    ∷ [])
     × (w.outcome ≡ Stopped (Loop (Tgw (att 0) (subnet 2))))
 
 -- the ACL of the attachment's subnet judges what enters the gateway there, also where it comes from that very subnet

@@ -96,8 +96,20 @@ host id subnet address group = host_with id subnet address None group
 -- nothing but VPCs and subnets
 abbrev pub bare : List Vpc → List Subnet → Description
 bare vpcs subnets = record {
-  vpcs = vpcs; subnets = subnets; interfaces = []; tables = []; lists = []; acls = []; groups = [];
-  igws = []; nats = []; peerings = []; attachments = []; associations = []; tgw_tables = [] }
+  vpcs = vpcs;
+  subnets = subnets;
+  interfaces = [];
+  tables = [];
+  lists = [];
+  acls = [];
+  groups = [];
+  igws = [];
+  nats = [];
+  peerings = [];
+  attachments = [];
+  associations = [];
+  tgw_tables = [];
+}
 
 -- ---- tables alone
 
@@ -134,7 +146,8 @@ abbrev pub one_subnet : Description
 one_subnet = record (bare (vpc_1 ∷ []) (subnet (codes "subnet-a") (codes "vpc-1") (codes "z") ∷ [])) {
   interfaces = host (codes "eni-a") (codes "subnet-a") (v4 10 0 1 10) (codes "sg-a") ∷ host (codes "eni-b") (codes "subnet-a") (v4 10 0 1 20) (codes "sg-b") ∷ [];
   tables = main_table (codes "rtb-1") (codes "vpc-1") (local_1 ∷ []) ∷ [];
-  groups = group (codes "sg-a") (codes "vpc-1") [] (allow_all ∷ []) ∷ group (codes "sg-b") (codes "vpc-1") (https_from (block (v4 10 0 1 0) 24) ∷ []) [] ∷ [] }
+  groups = group (codes "sg-a") (codes "vpc-1") [] (allow_all ∷ []) ∷ group (codes "sg-b") (codes "vpc-1") (https_from (block (v4 10 0 1 0) 24) ∷ []) [] ∷ [];
+}
 
 -- the ACL of both subnets
 abbrev pub acl_1 : Acl
@@ -146,12 +159,13 @@ two_subnets acls = record (bare (vpc_1 ∷ []) (subnet (codes "subnet-a") (codes
   interfaces = host (codes "eni-a") (codes "subnet-a") (v4 10 0 1 10) (codes "sg-a") ∷ host (codes "eni-b") (codes "subnet-b") (v4 10 0 2 20) (codes "sg-b") ∷ [];
   tables = main_table (codes "rtb-1") (codes "vpc-1") (local_1 ∷ []) ∷ [];
   acls = acls;
-  groups = group (codes "sg-a") (codes "vpc-1") [] (allow_all ∷ []) ∷ group (codes "sg-b") (codes "vpc-1") (https_from_group (codes "sg-a") ∷ []) [] ∷ [] }
+  groups = group (codes "sg-a") (codes "vpc-1") [] (allow_all ∷ []) ∷ group (codes "sg-b") (codes "vpc-1") (https_from_group (codes "sg-a") ∷ []) [] ∷ [];
+}
 
 -- the same, where subnet-b has an ACL of its own that lets out TCP to the high half of the ports alone
 abbrev pub high_ports_only : Description
 high_ports_only = two_subnets (acl (codes "acl-1") (codes "subnet-a" ∷ []) open_rows
-  ∷ acl (codes "acl-b") (codes "subnet-b" ∷ []) (allow_row 100 false anywhere ∷ tcp_row 100 true true 32768 65535 anywhere ∷ []) ∷ [])
+    ∷ acl (codes "acl-b") (codes "subnet-b" ∷ []) (allow_row 100 false anywhere ∷ tcp_row 100 true true 32768 65535 anywhere ∷ []) ∷ [])
 
 -- the same, where the hosts have the public addresses 203.0.113.10 and 203.0.113.20, and the second's group lets in HTTPS by this rule
 abbrev pub public_hosts : Permission → Description
@@ -159,7 +173,8 @@ public_hosts p = record (two_subnets (acl_1 ∷ [])) {
   interfaces = host_with (codes "eni-a") (codes "subnet-a") (v4 10 0 1 10) (Some (v4 203 0 113 10)) (codes "sg-a") ∷ host_with (codes "eni-b") (codes "subnet-b") (v4 10 0 2 20) (Some (v4 203 0 113 20)) (codes "sg-b") ∷ [];
   tables = main_table (codes "rtb-1") (codes "vpc-1") (local_1 ∷ route anywhere (Internet (codes "igw-1")) ∷ []) ∷ [];
   groups = group (codes "sg-a") (codes "vpc-1") [] (allow_all ∷ []) ∷ group (codes "sg-b") (codes "vpc-1") (p ∷ []) [] ∷ [];
-  igws = record { id = codes "igw-1"; vpcs = codes "vpc-1" ∷ [] } ∷ [] }
+  igws = record { id = codes "igw-1"; vpcs = codes "vpc-1" ∷ [] } ∷ [];
+}
 
 -- the interface of the NAT gateway, 10.0.3.5 with the public address 203.0.113.5
 abbrev pub eni_n : Interface
@@ -170,11 +185,12 @@ abbrev pub behind_nat : List AclRow → Description
 behind_nat rows = record (bare (vpc_1 ∷ []) (subnet (codes "subnet-a") (codes "vpc-1") (codes "us-east-1a") ∷ subnet (codes "subnet-b") (codes "vpc-1") (codes "us-east-1a") ∷ subnet (codes "subnet-n") (codes "vpc-1") (codes "us-east-1a") ∷ [])) {
   interfaces = host (codes "eni-a") (codes "subnet-a") (v4 10 0 1 10) (codes "sg-a") ∷ host (codes "eni-b") (codes "subnet-b") (v4 10 0 2 20) (codes "sg-b") ∷ eni_n ∷ [];
   tables = main_table (codes "rtb-1") (codes "vpc-1") (local_1 ∷ route anywhere (Nat (codes "nat-1")) ∷ [])
-    ∷ subnet_table (codes "rtb-n") (codes "vpc-1") (codes "subnet-n") (local_1 ∷ route anywhere (Internet (codes "igw-1")) ∷ []) ∷ [];
+      ∷ subnet_table (codes "rtb-n") (codes "vpc-1") (codes "subnet-n") (local_1 ∷ route anywhere (Internet (codes "igw-1")) ∷ []) ∷ [];
   acls = acl_1 ∷ acl (codes "acl-n") (codes "subnet-n" ∷ []) rows ∷ [];
   groups = group (codes "sg-a") (codes "vpc-1") [] (allow_all ∷ []) ∷ group (codes "sg-b") (codes "vpc-1") (https_from_group (codes "sg-a") ∷ []) (allow_all ∷ []) ∷ [];
   igws = record { id = codes "igw-1"; vpcs = codes "vpc-1" ∷ [] } ∷ [];
-  nats = record { id = codes "nat-1"; life = Live (codes "subnet-n") (codes "eni-n") (v4 10 0 3 5) } ∷ [] }
+  nats = record { id = codes "nat-1"; life = Live (codes "subnet-n") (codes "eni-n") (v4 10 0 3 5) } ∷ [];
+}
 
 -- rows that let into the NAT gateway's subnet what comes from the VPC, and TCP to ports 1024 to 2047
 abbrev pub low_ports_in : List AclRow
@@ -208,7 +224,8 @@ peered = record (bare (site_vpc (codes "a") 1 ∷ site_vpc (codes "b") 2 ∷ sit
   tables = site_table (codes "a") 1 (route (block (v4 10 3 0 0) 16) (Peer (codes "pcx-ab")) ∷ []) ∷ site_table (codes "b") 2 [] ∷ site_table (codes "c") 3 [] ∷ [];
   acls = site_acl (codes "a") (codes "subnet-a" ∷ []) ∷ site_acl (codes "b") (codes "subnet-b" ∷ []) ∷ site_acl (codes "c") (codes "subnet-c" ∷ []) ∷ [];
   groups = site_group (codes "a") ∷ site_group (codes "b") ∷ site_group (codes "c") ∷ [];
-  peerings = record { id = codes "pcx-ab"; pair = Some (codes "vpc-a", codes "vpc-b") } ∷ record { id = codes "pcx-bc"; pair = Some (codes "vpc-b", codes "vpc-c") } ∷ [] }
+  peerings = record { id = codes "pcx-ab"; pair = Some (codes "vpc-a", codes "vpc-b") } ∷ record { id = codes "pcx-bc"; pair = Some (codes "vpc-b", codes "vpc-c") } ∷ [];
+}
 
 -- the attachment of a site to the transit gateway, through a subnet of its own
 abbrev pub site_attachment : List ℕ → Attachment
@@ -226,16 +243,19 @@ attached from_a from_b = record (bare (site_vpc (codes "a") 1 ∷ site_vpc (code
   groups = site_group (codes "a") ∷ site_group (codes "b") ∷ [];
   attachments = site_attachment (codes "a") ∷ site_attachment (codes "b") ∷ [];
   associations = record { attachment = codes "att-a"; table = codes "tgw-rtb-a" } ∷ record { attachment = codes "att-b"; table = codes "tgw-rtb-b" } ∷ [];
-  tgw_tables = record { id = codes "tgw-rtb-a"; routes = from_a } ∷ record { id = codes "tgw-rtb-b"; routes = from_b } ∷ [] }
+  tgw_tables = record { id = codes "tgw-rtb-a"; routes = from_a } ∷ record { id = codes "tgw-rtb-b"; routes = from_b } ∷ [];
+}
 
 -- the same with a third host, 10.1.3.10, in the subnet by which the first VPC is attached, whose ACL lets everything out and nothing in
 abbrev pub host_at_attachment : Description → Description
 host_at_attachment d = record d {
-  interfaces = d.interfaces ++ host (codes "eni-t") (codes "subnet-ta") (v4 10 1 3 10) (codes "sg-a") ∷ [] }
+  interfaces = d.interfaces ++ host (codes "eni-t") (codes "subnet-ta") (v4 10 1 3 10) (codes "sg-a") ∷ [];
+}
 
 abbrev pub shut_attachment : Description → Description
 shut_attachment d = record d {
-  acls = site_acl (codes "a") (codes "subnet-a" ∷ []) ∷ site_acl (codes "b") (codes "subnet-b" ∷ codes "subnet-tb" ∷ []) ∷ acl (codes "acl-t") (codes "subnet-ta" ∷ []) (allow_row 100 true anywhere ∷ []) ∷ [] }
+  acls = site_acl (codes "a") (codes "subnet-a" ∷ []) ∷ site_acl (codes "b") (codes "subnet-b" ∷ codes "subnet-tb" ∷ []) ∷ acl (codes "acl-t") (codes "subnet-ta" ∷ []) (allow_row 100 true anywhere ∷ []) ∷ [];
+}
 
 abbrev pub tgw_route : Block → List ℕ → Bool → TgwRoute
 tgw_route b attachment propagated = record { block = b; blackhole = false; propagated = propagated; attachment = Some attachment }
@@ -246,8 +266,8 @@ tgw_blackhole b = record { block = b; blackhole = true; propagated = false; atta
 -- each VPC is reached from the other, but for 10.2.9.0/24
 abbrev pub transit : Description
 transit = attached
-  (tgw_route (block (v4 10 2 0 0) 16) (codes "att-b") true ∷ tgw_blackhole (block (v4 10 2 9 0) 24) ∷ [])
-  (tgw_route (block (v4 10 1 0 0) 16) (codes "att-a") true ∷ [])
+    (tgw_route (block (v4 10 2 0 0) 16) (codes "att-b") true ∷ tgw_blackhole (block (v4 10 2 9 0) 24) ∷ [])
+    (tgw_route (block (v4 10 1 0 0) 16) (codes "att-a") true ∷ [])
 
 -- each table sends everything to the other VPC
 abbrev pub transit_loop : Description

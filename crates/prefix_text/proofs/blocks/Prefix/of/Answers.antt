@@ -1,5 +1,5 @@
 use Rattle.prefix_text.proofs.Bounds.{block_of_is_block}
-use Rattle.std.proofs.Common.{arith, ◌<◌, ◌-◌, ◌^◌, ap}
+use Rattle.std.proofs.Common.{◌<◌, ◌-◌, ◌^◌}
 use Rattle.prefix_text.proofs.blocks.Prefix.of.Goals as goal
 
 pub invariant_of-result : goal.invariant_of-result

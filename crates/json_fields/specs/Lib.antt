@@ -1,0 +1,4 @@
+pub mod Paths
+pub mod FieldFault
+pub mod Fields
+pub mod Bundle

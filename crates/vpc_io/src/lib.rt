@@ -1,0 +1,19 @@
+//! The outside: where files come from and where text goes, as traits, with devices in memory and over the system.
+#![tactic(auto)]
+
+mod file_shelf;
+mod memory_shelf;
+mod memory_sink;
+mod shelf;
+mod sink;
+mod write_sink;
+
+pub use file_shelf::FileShelf;
+pub use memory_shelf::{MemoryShelf, SafeShelf};
+pub use memory_sink::{CountSink, MemorySink};
+pub use shelf::{Shelf, ShelfFault};
+pub use sink::{Sink, WriteFailed, put_all};
+pub use write_sink::WriteSink;
+
+#[cfg(test)]
+mod tests;
