@@ -18,3 +18,4 @@ pub mod Text
 pub mod Laws
 pub mod Networks
 pub mod Examples
+pub mod Printed

@@ -3,4 +3,5 @@ pub mod gateways;
 pub mod nats;
 pub mod steps;
 pub mod subnets;
+pub mod texts;
 pub mod walks;
