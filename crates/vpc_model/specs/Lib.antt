@@ -19,3 +19,4 @@ pub mod Laws
 pub mod Networks
 pub mod Examples
 pub mod Printed
+pub mod Stops

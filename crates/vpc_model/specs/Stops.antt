@@ -1,0 +1,178 @@
+-- Where packets are stopped in small networks: each stop at least once.
+use Rattle.std.specs.Prelude.{ℕ, ◌≡◌, ◌+◌, ◌++◌, Bool, true, false, List, [], ◌∷◌, Option, Some, None, codes, map, length}
+use Rattle.vpc_base.specs.declared.headers.Header.{Header}
+use Rattle.vpc_base.specs.declared.headers.Label.TheVariants.{Opening, Answer}
+use Rattle.vpc_model.specs.declared.places.End.TheVariants.{Interface as AtInterface, Internet as AtInternet}
+use Rattle.vpc_model.specs.declared.places.Came.TheVariants.{Transit as FromTransit}
+use Rattle.vpc_model.specs.declared.places.Place.TheVariants.{OutOf, Router, Internet, Tgw}
+use Rattle.vpc_model.specs.declared.outcomes.Outcome.{Outcome}
+use Rattle.vpc_model.specs.declared.outcomes.Outcome.TheVariants.{Arrived, Stopped}
+use Rattle.vpc_model.specs.declared.outcomes.Phase.TheVariants.{Request, Reply}
+use Rattle.vpc_model.specs.declared.outcomes.Verdict.{Verdict}
+use Rattle.vpc_model.specs.declared.outcomes.Verdict.TheVariants.{Through, Stopped as StoppedIn}
+use Rattle.vpc_model.specs.declared.rows.Description.{Description}
+use Rattle.vpc_model.specs.declared.rows.Interface.{Interface}
+use Rattle.vpc_model.specs.declared.rows.NatLife.{NatLife}
+use Rattle.vpc_model.specs.declared.rows.NatLife.TheVariants.{Gone, Unmodelled as WithoutSubnet}
+use Rattle.vpc_model.specs.declared.rows.Route.{Route}
+use Rattle.vpc_model.specs.declared.rows.Target.TheVariants.{Nat as ToNat, Transit, Interface as ToInterface, Other}
+use Rattle.vpc_model.specs.declared.rows.TgwRoute.{TgwRoute}
+use Rattle.vpc_model.specs.declared.stops.Foreign.TheVariants.{Target as ForeignTarget, Nat as ForeignNat, Peering as ForeignPeering, Attachment as ForeignAttachment, Table as ForeignTable, FarAttachment}
+use Rattle.vpc_model.specs.declared.stops.Stop.{Stop}
+use Rattle.vpc_model.specs.declared.stops.Stop.TheVariants.{Detached, SourceCheck, DestCheck, GroupsOut, GroupsIn, NotAHost, NoRoute, Blackhole, AclIn, NoHost, NoGateway, GatewayDetached, NoPublic, PrivateAddress, NatNotAvailable, NatAnswer, NatProtocol, NatUnsolicited, PeerNotActive, PeerSource, TgwNoAttachment, TgwNoZone, TgwNoTable, TgwNoRoute, TooFar, Unmodelled, WrongPlace, WrongReturn, NoReply}
+use Rattle.vpc_model.specs.Examples.{a_to_c, a_to_server, att, b_to_server, eni, first_walk, from_server, nat, outcome_of, subnet, tcp, vpc}
+use Rattle.vpc_model.specs.Networks.{v4, block, acl, acl_1, allow_all, allow_row, anywhere, attached, bare, behind_nat, eni_n, gone_route, group, host, host_with, https_from, local_1, main_table, open_rows, peered, public_hosts, route, site_host, site_subnet, tcp_row, tgw_route, transit, transit_subnet, two_subnets}
+use Rattle.vpc_model.specs.Verdict.{verdict_of}
+
+-- where a first packet from the first host, or from the internet, ends
+abbrev pub open_from_a : Description → Header → Outcome
+open_from_a d h = outcome_of (first_walk d Opening (OutOf (eni 0)) h)
+
+abbrev pub open_from_internet : Description → Header → Outcome
+open_from_internet d h = outcome_of (first_walk d Opening Internet h)
+
+-- ---- one VPC, changed in one place
+
+abbrev pub plain_vpc : Description
+plain_vpc = two_subnets (acl_1 ∷ [])
+
+abbrev pub with_hosts : Interface → Interface → Description
+with_hosts a b = record plain_vpc { interfaces = a ∷ b ∷ [] }
+
+abbrev pub with_route : Route → Description
+with_route r = record plain_vpc { tables = main_table (codes "rtb-1") (codes "vpc-1") (local_1 ∷ r ∷ []) ∷ [] }
+
+abbrev pub eni_a : Interface
+eni_a = host (codes "eni-a") (codes "subnet-a") (v4 10 0 1 10) (codes "sg-a")
+
+abbrev pub eni_b : Interface
+eni_b = host (codes "eni-b") (codes "subnet-b") (v4 10 0 2 20) (codes "sg-b")
+
+-- an interface that is attached to nothing sends and receives nothing; one whose check is on sends from its own addresses and
+-- receives at them alone
+abbrev pub ChecksInterfaces : Type 0
+ChecksInterfaces =
+    (open_from_a (with_hosts (record eni_a { idle = true }) eni_b) (a_to_c 0) ≡ Stopped (Detached (eni 0)))
+    × ((open_from_a (with_hosts eni_a (record eni_b { idle = true })) (a_to_c 0) ≡ Stopped (Detached (eni 1)))
+    × ((open_from_a plain_vpc (tcp (v4 10 0 1 99) (v4 10 0 2 20) 0 443) ≡ Stopped (SourceCheck (eni 0)))
+    × ((open_from_a (with_hosts (record eni_a { checked = false }) eni_b) (tcp (v4 10 0 1 99) (v4 10 0 2 20) 0 443) ≡ Stopped (GroupsIn (eni 1)))
+    × ((open_from_a (with_route (route (block (v4 10 9 0 0) 16) (ToInterface (codes "eni-b")))) (tcp (v4 10 0 1 10) (v4 10 9 0 1) 0 443) ≡ Stopped (DestCheck (eni 1)))
+    × (outcome_of (first_walk plain_vpc Opening (OutOf (eni 1)) (tcp (v4 10 0 2 20) (v4 10 0 1 10) 0 443)) ≡ Stopped (GroupsOut (eni 1)))))))
+
+-- an interface of a gateway hosts nothing, whether it is found by its address or named by a route
+abbrev pub GatewaysHostNothing : Type 0
+GatewaysHostNothing =
+    let d = record (with_route (route (block (v4 10 9 0 0) 16) (ToInterface (codes "eni-b")))) { interfaces = eni_a ∷ record eni_n { id = codes "eni-b"; subnet = codes "subnet-b" } ∷ [] } in
+    (open_from_a d (tcp (v4 10 0 1 10) (v4 10 0 3 5) 0 443) ≡ Stopped (NotAHost (eni 1)))
+    × (open_from_a d (tcp (v4 10 0 1 10) (v4 10 9 0 1) 0 443) ≡ Stopped (NotAHost (eni 1)))
+
+-- a router without a route for the destination, with one whose target is gone, with one to nothing that is followed, and with
+-- one to the VPC, which has no such host
+abbrev pub ChecksRoutes : Type 0
+ChecksRoutes =
+    (open_from_a plain_vpc (a_to_server 0) ≡ Stopped (NoRoute (record { 0 = 0 })))
+    × ((open_from_a (with_route (gone_route anywhere (ToNat (codes "nat-1")))) (a_to_server 0) ≡ Stopped (Blackhole (record { 0 = 0 }) 1))
+    × ((open_from_a (with_route (route anywhere (Other (codes "vpce-1")))) (a_to_server 0) ≡ Stopped (Unmodelled (ForeignTarget (record { 0 = 0 }) 1)))
+    × (open_from_a plain_vpc (tcp (v4 10 0 1 10) (v4 10 0 9 9) 0 443) ≡ Stopped (NoHost (vpc 0)))))
+
+-- the ACL of the other subnet judges what enters it
+abbrev pub JudgesEntry : Type 0
+JudgesEntry =
+    open_from_a (two_subnets (acl (codes "acl-1") (codes "subnet-a" ∷ codes "subnet-b" ∷ []) (tcp_row 90 false false 443 443 (block (v4 10 0 1 10) 32) ∷ open_rows) ∷ [])) (a_to_c 0)
+    ≡ Stopped (AclIn (record { 0 = 0 }) 90)
+
+-- ---- the internet gateway
+
+abbrev pub published : Description
+published = public_hosts (https_from (block (v4 203 0 113 10) 32))
+
+-- a route to a gateway that isn't attached, a source without a public address, a public address of a VPC without a gateway, and
+-- private addresses on the internet
+abbrev pub ChecksInternetGateways : Type 0
+ChecksInternetGateways =
+    (open_from_a (record published { igws = record { id = codes "igw-1"; vpcs = [] } ∷ [] }) (a_to_server 0) ≡ Stopped (GatewayDetached (record { 0 = 0 })))
+    × ((open_from_a (record published { interfaces = eni_a ∷ eni_b ∷ [] }) (a_to_server 0) ≡ Stopped (NoPublic (record { 0 = 0 })))
+    × ((open_from_internet (record published { igws = [] }) (tcp (v4 198 51 100 7) (v4 203 0 113 20) 0 443) ≡ Stopped (NoGateway (vpc 0)))
+    × ((open_from_internet published (tcp (v4 192 168 1 1) (v4 203 0 113 20) 0 443) ≡ Stopped PrivateAddress)
+    × (open_from_a published (tcp (v4 10 0 1 10) (v4 172 31 0 1) 0 443) ≡ Stopped PrivateAddress))))
+
+-- ---- the NAT gateway
+
+abbrev pub with_life : NatLife → Description
+with_life life = record (behind_nat open_rows) { nats = record { id = codes "nat-1"; life = life } ∷ [] }
+
+-- a gateway that is gone, one without a subnet, a protocol that isn't translated, an answer on the way out, a first packet on
+-- the way in
+abbrev pub ChecksNatGateways : Type 0
+ChecksNatGateways =
+    (open_from_a (with_life Gone) (a_to_server 0) ≡ Stopped (NatNotAvailable (nat 0)))
+    × ((open_from_a (with_life WithoutSubnet) (a_to_server 0) ≡ Stopped (Unmodelled (ForeignNat (nat 0))))
+    × ((open_from_a (behind_nat open_rows) (record { proto = 50; src = v4 10 0 1 10; dst = v4 198 51 100 7; p = 0; q = 0 }) ≡ Stopped (NatProtocol (nat 0)))
+    × ((outcome_of (first_walk (behind_nat open_rows) Answer (OutOf (eni 0)) (a_to_server 0)) ≡ Stopped (NatAnswer (nat 0)))
+    × (open_from_internet (behind_nat open_rows) (from_server 5000) ≡ Stopped (NatUnsolicited (nat 0))))))
+
+-- ---- between VPCs
+
+-- a peering that isn't active, one to a VPC that isn't described, and a source that isn't the sending VPC's
+abbrev pub ChecksPeerings : Type 0
+ChecksPeerings =
+    let h = tcp (v4 10 1 1 10) (v4 10 3 1 10) 0 443 in
+    (open_from_a (record peered { peerings = record { id = codes "pcx-ab"; pair = None } ∷ [] }) h ≡ Stopped (PeerNotActive (record { 0 = 0 })))
+    × ((open_from_a (record peered { peerings = record { id = codes "pcx-ab"; pair = Some (codes "vpc-a", codes "vpc-x") } ∷ [] }) h ≡ Stopped (Unmodelled (ForeignPeering (record { 0 = 0 }))))
+    × (open_from_a (record peered { interfaces = record (site_host (codes "a") 1) { checked = false } ∷ [] }) (tcp (v4 10 9 9 9) (v4 10 3 1 10) 0 443) ≡ Stopped (PeerSource (record { 0 = 0 }))))
+
+abbrev pub a_over_transit : Header
+a_over_transit = tcp (v4 10 1 1 10) (v4 10 2 1 10) 0 443
+
+-- the transit gateway isn't attached to the VPC, or not in the zone; the attachment has no table, or the table no route
+abbrev pub ChecksTransitEntry : Type 0
+ChecksTransitEntry =
+    (open_from_a (record transit { attachments = [] }) a_over_transit ≡ Stopped (TgwNoAttachment (record { 0 = 0 }) 1))
+    × ((open_from_a (record transit { subnets = record (site_subnet (codes "a")) { zone = codes "y" } ∷ site_subnet (codes "b") ∷ transit_subnet (codes "a") ∷ transit_subnet (codes "b") ∷ [] }) a_over_transit ≡ Stopped (TgwNoZone (att 0)))
+    × ((open_from_a (record transit { associations = [] }) a_over_transit ≡ Stopped (TgwNoTable (att 0)))
+    × (open_from_a (attached [] []) a_over_transit ≡ Stopped (TgwNoRoute (record { 0 = 0 })))))
+
+-- the route of the table has no attachment, or one that isn't described, or one of a VPC that isn't described
+abbrev pub ChecksTransitExit : Type 0
+ChecksTransitExit =
+    (open_from_a (attached (record (tgw_route anywhere [] false) { attachment = None } ∷ []) []) a_over_transit ≡ Stopped (Unmodelled (ForeignTable (record { 0 = 0 }))))
+    × ((open_from_a (attached (tgw_route anywhere (codes "att-x") false ∷ []) []) a_over_transit ≡ Stopped (Unmodelled (FarAttachment (record { 0 = 0 }) 0)))
+    × (open_from_a (record transit { attachments = record { id = codes "att-a"; gateway = codes "tgw-1"; vpc = codes "vpc-a"; subnets = codes "subnet-ta" ∷ [] } ∷ record { id = codes "att-b"; gateway = codes "tgw-1"; vpc = codes "vpc-x"; subnets = codes "subnet-tb" ∷ [] } ∷ [] }) a_over_transit ≡ Stopped (Unmodelled (ForeignAttachment (att 1)))))
+
+-- ---- requests and replies
+
+-- a request that arrives elsewhere, a reply that arrives elsewhere, and a request that has no reply
+abbrev pub ChecksReturns : Type 0
+ChecksReturns =
+    (verdict_of published AtInternet (AtInterface (eni 0)) (tcp (v4 198 51 100 7) (v4 203 0 113 11) 0 22) ≡ StoppedIn Request (WrongPlace AtInternet))
+    × ((verdict_of (record published { groups = group (codes "sg-a") (codes "vpc-1") (allow_all ∷ []) [] ∷ group (codes "sg-b") (codes "vpc-1") (https_from anywhere ∷ []) [] ∷ [] }) AtInternet (AtInterface (eni 0)) (tcp (v4 203 0 113 20) (v4 203 0 113 10) 443 22) ≡ StoppedIn Reply (WrongReturn (AtInterface (eni 1))))
+    × ((verdict_of (record plain_vpc { groups = group (codes "sg-a") (codes "vpc-1") [] (allow_all ∷ []) ∷ group (codes "sg-b") (codes "vpc-1") (allow_all ∷ []) [] ∷ [] }) (AtInterface (eni 0)) (AtInterface (eni 1)) (record { proto = 1; src = v4 10 0 1 10; dst = v4 10 0 2 20; p = 0; q = 0 }) ≡ StoppedIn Reply (NoReply (AtInterface (eni 1))))
+    × (verdict_of (record plain_vpc { groups = group (codes "sg-a") (codes "vpc-1") [] (allow_all ∷ []) ∷ group (codes "sg-b") (codes "vpc-1") (allow_all ∷ []) [] ∷ [] }) (AtInterface (eni 0)) (AtInterface (eni 1)) (record { proto = 1; src = v4 10 0 1 10; dst = v4 10 0 2 20; p = 0; q = 2048 }) ≡ Through)))
+
+-- ---- long walks
+
+-- the id of the VPC, the subnet, the attachment and the tables of the site with this number
+abbrev pub site : ℕ → List ℕ
+site k = (65 + k) ∷ []
+
+abbrev pub sites : List ℕ
+sites = 0 ∷ 1 ∷ 2 ∷ 3 ∷ 4 ∷ 5 ∷ 6 ∷ 7 ∷ 8 ∷ 9 ∷ 10 ∷ 11 ∷ 12 ∷ 13 ∷ 14 ∷ 15 ∷ 16 ∷ 17 ∷ 18 ∷ 19 ∷ 20 ∷ 21 ∷ []
+
+abbrev pub to_all_at : List ℕ → Route
+to_all_at gateway = route anywhere (Transit gateway)
+
+-- 22 VPCs at a transit gateway, which sends what comes from each to the next one
+abbrev pub row_of_sites : Description
+row_of_sites = record (bare (map (λ k. record { id = site k; blocks = [] }) sites) (map (λ k. record { id = site k; vpc = site k; zone = site 0 }) sites)) {
+  interfaces = record (host (site 0) (site 0) (v4 10 1 1 10) (site 0)) { groups = [] } ∷ [];
+  tables = map (λ k. main_table (site k) (site k) (to_all_at (site 0) ∷ [])) sites;
+  acls = acl (site 0) (map site sites) open_rows ∷ [];
+  attachments = map (λ k. record { id = site k; gateway = site 0; vpc = site k; subnets = site k ∷ [] }) sites;
+  associations = map (λ k. record { attachment = site k; table = site k }) sites;
+  tgw_tables = map (λ k. record { id = site k; routes = tgw_route anywhere (site (k + 1)) false ∷ [] }) sites }
+
+-- a walk is stopped before its 65th place
+abbrev pub LongWalksEnd : Type 0
+LongWalksEnd =
+    let w = first_walk row_of_sites Opening (OutOf (eni 0)) (tcp (v4 10 1 1 10) (v4 198 51 100 7) 0 443) in
+    (length w.hops ≡ 64) × (w.outcome ≡ Stopped (TooFar (Router (subnet 21) (FromTransit (att 21)))))

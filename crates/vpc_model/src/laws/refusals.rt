@@ -1,0 +1,57 @@
+// Where packets are stopped in small networks.
+ghost use Rattle.vpc_model.specs.Stops.{ChecksInterfaces, GatewaysHostNothing, ChecksRoutes, JudgesEntry, ChecksInternetGateways, ChecksNatGateways, ChecksPeerings, ChecksTransitEntry, ChecksTransitExit, ChecksReturns, LongWalksEnd};
+
+/// Idle interfaces, and the source/destination check.
+pub fn checks_interfaces()
+    ensures { ChecksInterfaces }
+{}
+
+/// Interfaces of gateways host nothing.
+pub fn gateways_host_nothing()
+    ensures { GatewaysHostNothing }
+{}
+
+/// Routers without a usable route.
+pub fn checks_routes()
+    ensures { ChecksRoutes }
+{}
+
+/// Network ACLs judge what enters a subnet.
+pub fn judges_entry()
+    ensures { JudgesEntry }
+{}
+
+/// Internet gateways and public addresses.
+pub fn checks_internet_gateways()
+    ensures { ChecksInternetGateways }
+{}
+
+/// NAT gateways.
+pub fn checks_nat_gateways()
+    ensures { ChecksNatGateways }
+{}
+
+/// Peerings.
+pub fn checks_peerings()
+    ensures { ChecksPeerings }
+{}
+
+/// The way into a transit gateway.
+pub fn checks_transit_entry()
+    ensures { ChecksTransitEntry }
+{}
+
+/// The way out of a transit gateway.
+pub fn checks_transit_exit()
+    ensures { ChecksTransitExit }
+{}
+
+/// Requests and replies that arrive elsewhere, and requests without a reply.
+pub fn checks_returns()
+    ensures { ChecksReturns }
+{}
+
+/// A walk that would never end is stopped before its 65th place.
+pub fn ends_long_walks()
+    ensures { LongWalksEnd }
+{}
