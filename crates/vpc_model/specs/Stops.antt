@@ -1,10 +1,14 @@
 -- Where packets are stopped in small networks: each stop at least once.
 use Rattle.std.specs.Prelude.{ℕ, ◌≡◌, ◌+◌, ◌++◌, Bool, true, false, List, [], ◌∷◌, Option, Some, None, codes, map, length}
 use Rattle.vpc_base.specs.declared.headers.Header.{Header}
+use Rattle.vpc_base.specs.declared.headers.Dir.TheVariants.{Inward}
 use Rattle.vpc_base.specs.declared.headers.Label.TheVariants.{Opening, Answer}
 use Rattle.vpc_model.specs.declared.places.End.TheVariants.{Interface as AtInterface, Internet as AtInternet}
-use Rattle.vpc_model.specs.declared.places.Came.TheVariants.{Transit as FromTransit}
-use Rattle.vpc_model.specs.declared.places.Place.TheVariants.{OutOf, Router, Internet, Tgw}
+use Rattle.vpc_model.specs.declared.places.Came.TheVariants.{Host as FromHost, Transit as FromTransit}
+use Rattle.vpc_model.specs.declared.places.Place.TheVariants.{OutOf, Router, Into, Internet}
+use Rattle.vpc_model.specs.declared.numbers.SubnetNo.{SubnetNo}
+use Rattle.vpc_model.specs.declared.outcomes.By.TheVariants.{NoGroups}
+use Rattle.vpc_model.specs.declared.outcomes.RuleRef.{RuleRef}
 use Rattle.vpc_model.specs.declared.outcomes.Outcome.{Outcome}
 use Rattle.vpc_model.specs.declared.outcomes.Outcome.TheVariants.{Arrived, Stopped}
 use Rattle.vpc_model.specs.declared.outcomes.Phase.TheVariants.{Request, Reply}
@@ -14,14 +18,18 @@ use Rattle.vpc_model.specs.declared.rows.Description.{Description}
 use Rattle.vpc_model.specs.declared.rows.Interface.{Interface}
 use Rattle.vpc_model.specs.declared.rows.NatLife.{NatLife}
 use Rattle.vpc_model.specs.declared.rows.NatLife.TheVariants.{Gone, Unmodelled as WithoutSubnet}
+use Rattle.vpc_model.specs.declared.rows.Peering.{Peering}
 use Rattle.vpc_model.specs.declared.rows.Route.{Route}
 use Rattle.vpc_model.specs.declared.rows.Target.TheVariants.{Nat as ToNat, Transit, Interface as ToInterface, Other}
 use Rattle.vpc_model.specs.declared.rows.TgwRoute.{TgwRoute}
 use Rattle.vpc_model.specs.declared.stops.Foreign.TheVariants.{Target as ForeignTarget, Nat as ForeignNat, Peering as ForeignPeering, Attachment as ForeignAttachment, Table as ForeignTable, FarAttachment}
 use Rattle.vpc_model.specs.declared.stops.Stop.{Stop}
 use Rattle.vpc_model.specs.declared.stops.Stop.TheVariants.{Detached, SourceCheck, DestCheck, GroupsOut, GroupsIn, NotAHost, NoRoute, Blackhole, AclIn, NoHost, NoGateway, GatewayDetached, NoPublic, PrivateAddress, NatNotAvailable, NatAnswer, NatProtocol, NatUnsolicited, PeerNotActive, PeerSource, TgwNoAttachment, TgwNoZone, TgwNoTable, TgwNoRoute, TooFar, Unmodelled, WrongPlace, WrongReturn, NoReply}
-use Rattle.vpc_model.specs.Examples.{a_to_c, a_to_server, att, b_to_server, eni, first_walk, from_server, nat, outcome_of, subnet, tcp, vpc}
-use Rattle.vpc_model.specs.Networks.{v4, block, acl, acl_1, allow_all, allow_row, anywhere, attached, bare, behind_nat, eni_n, gone_route, group, host, host_with, https_from, local_1, main_table, open_rows, peered, public_hosts, route, site_host, site_subnet, tcp_row, tgw_route, transit, transit_subnet, two_subnets}
+use Rattle.vpc_model.specs.Examples.{hop, hop_by, a_to_c, a_to_server, att, b_to_server, eni, first_walk, from_server, nat, outcome_of, subnet, tcp, vpc}
+use Rattle.vpc_model.specs.Networks.{v4, block, acl, acl_1, allow_all, allow_row, anywhere, attached, bare, behind_nat, eni_n, gone_route, group, host, host_with, https_from, https_from_group, local_1, main_table, open_rows, peered, public_hosts, route, site_group, site_host, site_subnet, tcp_row, tgw_route, transit, transit_subnet, two_subnets}
+use Rattle.vpc_model.specs.Groups.{first_rule}
+use Rattle.vpc_model.specs.Lookup.{interface_at}
+use Rattle.vpc_model.specs.Transit.{chosen_tgw_route, leave_subnet}
 use Rattle.vpc_model.specs.Verdict.{verdict_of}
 
 -- where a first packet from the first host, or from the internet, ends
@@ -81,6 +89,57 @@ JudgesEntry =
     open_from_a (two_subnets (acl (codes "acl-1") (codes "subnet-a" ∷ codes "subnet-b" ∷ []) (tcp_row 90 false false 443 443 (block (v4 10 0 1 10) 32) ∷ open_rows) ∷ [])) (a_to_c 0)
     ≡ Stopped (AclIn (record { 0 = 0 }) 90)
 
+-- ---- rules of groups
+
+-- the first group's rule lets in SSH, the second's DNS and then HTTPS from a prefix list
+abbrev pub two_groups : Description
+two_groups = record (with_hosts eni_a (record eni_b { groups = codes "sg-1" ∷ codes "sg-2" ∷ [] })) {
+  lists = record { id = codes "pl-1"; entries = block (v4 10 0 0 0) 8 ∷ [] } ∷ [];
+  groups = group (codes "sg-2") (codes "vpc-1") (record allow_all { proto = Some 17; q_from = 53; q_to = 53 } ∷ record (https_from anywhere) { blocks = []; lists = codes "pl-1" ∷ [] } ∷ []) []
+      ∷ group (codes "sg-1") (codes "vpc-1") (record allow_all { proto = Some 6; q_from = 22; q_to = 22 } ∷ []) [] ∷ [];
+}
+
+abbrev pub inward_rule : Description → ℕ → Header → Option RuleRef
+inward_rule d k h = first_rule d (interface_at d (eni k)) Inward h
+
+-- a rule is told by its group and its number there, in the order of the interface's groups
+abbrev pub FindsFirstRule : Type 0
+FindsFirstRule =
+    (inward_rule two_groups 1 (tcp (v4 10 0 1 10) (v4 10 0 2 20) 0 443) ≡ Some (record { group = record { 0 = 0 }; dir = Inward; number = 2 }))
+    × ((inward_rule two_groups 1 (tcp (v4 10 0 1 10) (v4 10 0 2 20) 0 22) ≡ Some (record { group = record { 0 = 1 }; dir = Inward; number = 1 }))
+    × ((inward_rule two_groups 1 (tcp (v4 192 0 2 1) (v4 10 0 2 20) 0 443) ≡ None)
+    × (inward_rule two_groups 1 (tcp (v4 10 0 1 10) (v4 10 0 2 20) 0 80) ≡ None)))
+
+-- the second site's group lets in HTTPS from the members of the first's
+abbrev pub refers_across : List Peering → Description
+refers_across peerings = record peered {
+  groups = site_group (codes "a") ∷ group (codes "sg-b") (codes "vpc-b") (https_from_group (codes "sg-a") ∷ []) [] ∷ [];
+  peerings = peerings;
+}
+
+-- a rule may name a group of a VPC that an active peering joins to its own, and of no other
+abbrev pub CountsReferences : Type 0
+CountsReferences =
+    let h = tcp (v4 10 1 1 10) (v4 10 2 1 10) 0 443 in
+    (inward_rule (refers_across (record { id = codes "pcx-ab"; pair = Some (codes "vpc-a", codes "vpc-b") } ∷ [])) 1 h ≡ Some (record { group = record { 0 = 1 }; dir = Inward; number = 1 }))
+    × ((inward_rule (refers_across (record { id = codes "pcx-ba"; pair = Some (codes "vpc-b", codes "vpc-a") } ∷ [])) 1 h ≡ Some (record { group = record { 0 = 1 }; dir = Inward; number = 1 }))
+    × ((inward_rule (refers_across (record { id = codes "pcx-ab"; pair = None } ∷ [])) 1 h ≡ None)
+    × ((inward_rule (refers_across (record { id = codes "pcx-ac"; pair = Some (codes "vpc-a", codes "vpc-c") } ∷ [])) 1 h ≡ None)
+    × (inward_rule (refers_across (record { id = codes "pcx-ab"; pair = Some (codes "vpc-a", codes "vpc-b") } ∷ [])) 1 (tcp (v4 10 1 9 9) (v4 10 2 1 10) 0 443) ≡ None))))
+
+-- an interface without groups is judged by none, and makes no connection
+abbrev pub NeedsNoGroups : Type 0
+NeedsNoGroups =
+    first_walk (with_hosts (record eni_a { groups = [] }) (record eni_b { groups = [] })) Opening (OutOf (eni 0)) (a_to_c 0) ≡ record {
+      hops = hop_by (OutOf (eni 0)) (a_to_c 0) NoGroups
+          ∷ hop (Router (subnet 0) (FromHost (eni 0))) (a_to_c 0)
+          ∷ hop_by (Into (eni 1)) (a_to_c 0) NoGroups
+          ∷ [];
+      outcome = Arrived (AtInterface (eni 1)) (a_to_c 0);
+      conns = [];
+      nats = [];
+    }
+
 -- ---- the internet gateway
 
 abbrev pub published : Description
@@ -139,6 +198,27 @@ ChecksTransitExit =
     × ((open_from_a (attached (tgw_route anywhere (codes "att-x") false ∷ []) []) a_over_transit ≡ Stopped (Unmodelled (FarAttachment (record { 0 = 0 }) 0)))
     × (open_from_a (record transit { attachments = record { id = codes "att-a"; gateway = codes "tgw-1"; vpc = codes "vpc-a"; subnets = codes "subnet-ta" ∷ [] } ∷ record { id = codes "att-b"; gateway = codes "tgw-1"; vpc = codes "vpc-x"; subnets = codes "subnet-tb" ∷ [] } ∷ [] }) a_over_transit ≡ Stopped (Unmodelled (ForeignAttachment (att 1)))))
 
+-- the second VPC is attached by two subnets, in the zones z and y
+abbrev pub two_zones : List ℕ → Description
+two_zones zone = record transit {
+  subnets = record (site_subnet (codes "a")) { zone = zone } ∷ site_subnet (codes "b") ∷ record (transit_subnet (codes "a")) { zone = zone } ∷ transit_subnet (codes "b") ∷ record (transit_subnet (codes "b")) { id = codes "subnet-y"; zone = codes "y" } ∷ [];
+  attachments = record { id = codes "att-a"; gateway = codes "tgw-1"; vpc = codes "vpc-a"; subnets = codes "subnet-ta" ∷ [] } ∷ record { id = codes "att-b"; gateway = codes "tgw-1"; vpc = codes "vpc-b"; subnets = codes "subnet-tb" ∷ codes "subnet-y" ∷ [] } ∷ [];
+}
+
+abbrev pub leaves_to : List ℕ → Option SubnetNo
+leaves_to zone = leave_subnet (two_zones zone) (att 1) (subnet 2)
+
+-- a packet leaves a transit gateway in the zone in which it entered, and else by the first subnet
+abbrev pub LeavesByZone : Type 0
+LeavesByZone = (leaves_to (codes "y") ≡ Some (subnet 4)) × ((leaves_to (codes "z") ≡ Some (subnet 3)) × (leaves_to (codes "x") ≡ Some (subnet 3)))
+
+-- of equally long routes of a transit table the static one is chosen, and of equal ones the first
+abbrev pub StaticRouteIsChosen : Type 0
+StaticRouteIsChosen =
+    let b = block (v4 10 2 0 0) 16 in
+    (chosen_tgw_route (tgw_route b (codes "att-a") true ∷ tgw_route b (codes "att-b") false ∷ tgw_route b (codes "att-c") false ∷ []) (v4 10 2 1 10) ≡ Some 1)
+    × (chosen_tgw_route (tgw_route anywhere (codes "att-a") false ∷ tgw_route b (codes "att-b") true ∷ []) (v4 10 2 1 10) ≡ Some 1)
+
 -- ---- requests and replies
 
 -- a request that arrives elsewhere, a reply that arrives elsewhere, and a request that has no reply
@@ -169,7 +249,8 @@ row_of_sites = record (bare (map (λ k. record { id = site k; blocks = [] }) sit
   acls = acl (site 0) (map site sites) open_rows ∷ [];
   attachments = map (λ k. record { id = site k; gateway = site 0; vpc = site k; subnets = site k ∷ [] }) sites;
   associations = map (λ k. record { attachment = site k; table = site k }) sites;
-  tgw_tables = map (λ k. record { id = site k; routes = tgw_route anywhere (site (k + 1)) false ∷ [] }) sites }
+  tgw_tables = map (λ k. record { id = site k; routes = tgw_route anywhere (site (k + 1)) false ∷ [] }) sites;
+}
 
 -- a walk is stopped before its 65th place
 abbrev pub LongWalksEnd : Type 0

@@ -1,5 +1,5 @@
 // Where packets are stopped in small networks.
-ghost use Rattle.vpc_model.specs.Stops.{ChecksInterfaces, GatewaysHostNothing, ChecksRoutes, JudgesEntry, ChecksInternetGateways, ChecksNatGateways, ChecksPeerings, ChecksTransitEntry, ChecksTransitExit, ChecksReturns, LongWalksEnd};
+ghost use Rattle.vpc_model.specs.Stops.{ChecksInterfaces, GatewaysHostNothing, ChecksRoutes, JudgesEntry, FindsFirstRule, CountsReferences, NeedsNoGroups, ChecksInternetGateways, ChecksNatGateways, ChecksPeerings, ChecksTransitEntry, ChecksTransitExit, LeavesByZone, StaticRouteIsChosen, ChecksReturns, LongWalksEnd};
 
 /// Idle interfaces, and the source/destination check.
 pub fn checks_interfaces()
@@ -19,6 +19,21 @@ pub fn checks_routes()
 /// Network ACLs judge what enters a subnet.
 pub fn judges_entry()
     ensures { JudgesEntry }
+{}
+
+/// The first rule of an interface's groups that allows a packet.
+pub fn finds_the_first_rule()
+    ensures { FindsFirstRule }
+{}
+
+/// Which groups a rule may name.
+pub fn counts_references()
+    ensures { CountsReferences }
+{}
+
+/// Interfaces without groups.
+pub fn needs_no_groups()
+    ensures { NeedsNoGroups }
 {}
 
 /// Internet gateways and public addresses.
@@ -44,6 +59,16 @@ pub fn checks_transit_entry()
 /// The way out of a transit gateway.
 pub fn checks_transit_exit()
     ensures { ChecksTransitExit }
+{}
+
+/// By which subnet a packet leaves a transit gateway.
+pub fn leaves_by_zone()
+    ensures { LeavesByZone }
+{}
+
+/// Static and propagated routes of a transit table.
+pub fn chooses_the_static_route()
+    ensures { StaticRouteIsChosen }
 {}
 
 /// Requests and replies that arrive elsewhere, and requests without a reply.
