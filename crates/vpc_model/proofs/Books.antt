@@ -1,7 +1,7 @@
 -- A step keeps the translations in order.
-use Rattle.std.proofs.Common.{◌≡◌, ℕ, ◌+◌, ◌≤◌, ◌<◌, ◌^◌, ◌==◌, ◌&&◌, ◌||◌, not, Bool, true, false, List, [], ◌∷◌, ◌++◌, Option, Some, None, refl, cond, ◌∙◌, sym, ap, arith, subst, length, leb, inl, inr, ◌⊎◌}
+use Rattle.std.proofs.Common.{◌≡◌, ℕ, ◌+◌, ◌≤◌, ◌<◌, ◌^◌, ◌==◌, ◌&&◌, Bool, true, false, List, [], ◌∷◌, ◌++◌, Option, Some, None, refl, cond, ◌∙◌, sym, arith, subst, inl, inr}
 use Rattle.std.specs.List.{list_any, count_by, find, AllByRecursion, IsDistinct}
-use Rattle.std.proofs.lemmas.Bool.{cond_both, and_parts, and_from, eqb-true, eq-eqb, or_parts, or_from, leb-false, cases_Bool, cond-false}
+use Rattle.std.proofs.lemmas.Bool.{cond_both, and_parts, and_from, eqb-true, eq-eqb, or_parts, or_from, leb-false, cases_Bool}
 use Rattle.std.proofs.lemmas.List.Sums.{sum_by-cons}
 use Rattle.vpc_base.specs.declared.headers.Header.{Header}
 use Rattle.vpc_base.specs.declared.headers.Label.{Label}
@@ -12,7 +12,7 @@ use Rattle.vpc_model.specs.declared.places.Place.TheVariants.{OutOf, Router, Ent
 use Rattle.vpc_model.specs.declared.rows.Description.{Description}
 use Rattle.vpc_model.specs.Connections.{same_header}
 use Rattle.vpc_model.specs.Lookup.{nat_at}
-use Rattle.vpc_model.specs.Nat.{Translation, first_port, free_port, is_full, is_taken, is_translatable, new_translation, shares, translation_of}
+use Rattle.vpc_model.specs.Nat.{Translation, is_full, is_translatable, new_translation, shares, translation_of}
 use Rattle.vpc_model.specs.Step.{Moment, Step, own_address, step_at, step_nat_out, step_of, translate}
 use Rattle.vpc_model.specs.Laws.{IsBook, IsTranslation, collide, same_before}
 use Rattle.vpc_model.proofs.Growth.{step_out-nats, step_into-nats, step_internet-nats, step_nat_in-nats}

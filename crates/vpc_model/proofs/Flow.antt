@@ -1,10 +1,10 @@
 -- An open keeps its protocol and q.
-use Rattle.std.proofs.Common.{◌≡◌, ℕ, ◌<◌, ◌^◌, ◌==◌, ◌&&◌, ◌||◌, not, Bool, true, false, List, [], ◌∷◌, Option, Some, None, refl, cond, ◌∙◌, is_none, unwrap_or}
+use Rattle.std.proofs.Common.{◌≡◌, ℕ, ◌<◌, ◌^◌, ◌==◌, ◌&&◌, ◌||◌, not, Bool, true, List, [], ◌∷◌, Option, Some, None, refl, ◌∙◌, is_none}
 use Rattle.std.specs.List.{AllByRecursion, find, slice_index_or}
 use Rattle.std.proofs.lemmas.Bool.{cond_both, and_parts, eqb-true}
 use Rattle.vpc_base.specs.declared.headers.Header.{Header}
 use Rattle.vpc_base.specs.declared.headers.Dir.TheVariants.{Inward, Outward}
-use Rattle.vpc_base.specs.declared.headers.Label.TheVariants.{Opening, Answer}
+use Rattle.vpc_base.specs.declared.headers.Label.TheVariants.{Opening}
 use Rattle.vpc_model.specs.declared.numbers.VpcNo.{VpcNo}
 use Rattle.vpc_model.specs.declared.numbers.SubnetNo.{SubnetNo}
 use Rattle.vpc_model.specs.declared.numbers.EniNo.{EniNo}
@@ -24,7 +24,7 @@ use Rattle.vpc_model.specs.declared.rows.Target.{Target}
 use Rattle.vpc_model.specs.declared.rows.Target.TheVariants.{Local, Internet as ToInternet, Nat as ToNat, Transit as ToTransit, Peer as ToPeer, Interface as ToInterface, Other}
 use Rattle.vpc_model.specs.declared.stops.Stop.{Stop}
 use Rattle.vpc_model.specs.declared.stops.Stop.TheVariants.{NotAHost}
-use Rattle.vpc_model.specs.Connections.{Connection, Passing, passing_of, same_header}
+use Rattle.vpc_model.specs.Connections.{Connection, passing_of, same_header}
 use Rattle.vpc_model.specs.Internet.{is_unroutable, owner_of, public_of}
 use Rattle.vpc_model.specs.Lookup.{attachment_of_id, eni_no, gateway_of, has_address, has_vpc, host_of, igw_no, interface_at, nat_at, nat_no, peer_no, peering_at, subnet_no, subnet_of, table_at, table_of, tgw_table_at, vpc_at, vpc_no, vpc_of_subnet}
 use Rattle.vpc_model.specs.Nat.{Translation, is_full, is_translatable, translation_of}

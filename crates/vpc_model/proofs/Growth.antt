@@ -1,5 +1,5 @@
 -- What a step adds to connections and translations.
-use Rattle.std.proofs.Common.{◌≡◌, ℕ, ◌&&◌, ◌||◌, not, Bool, true, false, List, [], ◌∷◌, ◌++◌, Option, Some, None, refl, inl, inr, cond, ◌⊎◌, ◌∙◌, sym}
+use Rattle.std.proofs.Common.{◌≡◌, ℕ, ◌&&◌, ◌||◌, not, List, [], ◌∷◌, ◌++◌, Option, Some, None, refl, inl, inr, ◌∙◌, sym}
 use Rattle.std.specs.List.{list_any}
 use Rattle.std.proofs.lemmas.Bool.{cond_both}
 use Rattle.std.proofs.lemmas.List.{append-nil}
@@ -18,7 +18,7 @@ use Rattle.vpc_model.specs.declared.rows.Description.{Description}
 use Rattle.vpc_model.specs.Connections.{Connection, Passing, added, same_connection, open_passing, answer_passing, label_passing, passing_groups, passing_of, is_tracked}
 use Rattle.vpc_model.specs.Groups.{first_rule}
 use Rattle.vpc_model.specs.Internet.{is_unroutable}
-use Rattle.vpc_model.specs.Lookup.{interface_at, has_address, nat_at}
+use Rattle.vpc_model.specs.Lookup.{interface_at, has_address}
 use Rattle.vpc_model.specs.Nat.{Translation, is_translatable, is_full, translation_of}
 use Rattle.vpc_model.specs.Step.{Moment, Step, step_at, step_of, step_out, step_into, step_internet, step_nat_out, step_nat_in, out_passing, in_passing, translate}
 use Rattle.vpc_model.specs.Laws.{AddsOwn, AddsTranslation, own_connection, Begins}

@@ -1,13 +1,12 @@
 -- A port that isn't taken is found: among c + 1 ports one isn't, where c translations share them.
-use Rattle.std.proofs.Common.{◌≡◌, ℕ, zero, suc, ◌+◌, ◌-◌, ◌≤◌, ◌<◌, ◌^◌, ◌==◌, ◌&&◌, ◌||◌, not, Bool, true, false, List, [], ◌∷◌, ◌++◌, refl, cond, ◌∙◌, sym, ap, arith, length, ltb, leb, inl, inr, nat_le, nat_lt}
-use Rattle.std.specs.List.{list_any, count_by, AllByRecursion, IsDistinct}
-use Rattle.std.proofs.lemmas.Bool.{cond_both, and_parts, and_from, and_right, eqb-true, or_cases, or_parts, both_ways, false_from_ne_true, false≢true, ltb-true, lt-ltb, le-ltb}
+use Rattle.std.proofs.Common.{◌≡◌, ℕ, suc, ◌+◌, ◌-◌, ◌≤◌, ◌<◌, ◌^◌, ◌==◌, ◌&&◌, Bool, true, false, List, [], ◌∷◌, refl, cond, ◌∙◌, ap, arith, length, ltb, leb, inl, inr}
+use Rattle.std.specs.List.{list_any, count_by}
+use Rattle.std.proofs.lemmas.Bool.{cond_both, and_parts, and_from, and_right, eqb-true, or_cases, both_ways, false_from_ne_true, false≢true, ltb-true, lt-ltb, le-ltb}
 use Rattle.std.proofs.lemmas.Bool.Decides.{nat_tests}
 use Rattle.std.proofs.lemmas.List.Sums.{sum_by-cons, count_by-le-length}
 use Rattle.vpc_base.specs.declared.headers.Header.{Header}
 use Rattle.vpc_model.specs.declared.numbers.NatNo.{NatNo}
-use Rattle.vpc_model.specs.Nat.{Translation, first_port, free_port, is_full, is_taken, is_translatable, new_translation, next_port, shares}
-use Rattle.vpc_model.specs.Laws.{IsBook, IsTranslation, collide}
+use Rattle.vpc_model.specs.Nat.{Translation, first_port, free_port, is_taken, new_translation, next_port, shares}
 
 -- ---- counts
 

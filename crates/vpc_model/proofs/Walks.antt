@@ -1,23 +1,23 @@
 -- Walks: what each of their steps keeps, they keep.
-use Rattle.std.proofs.Common.{◌≡◌, ℕ, zero, suc, ◌+◌, ◌≤◌, ◌<◌, ◌^◌, ◌||◌, Bool, true, false, List, [], ◌∷◌, ◌++◌, Option, Some, None, refl, ◌∙◌, sym, ap, arith, subst, length, length-append, append_assoc, inl, inr, ◌⊎◌, map}
-use Rattle.std.specs.List.{list_any, IsDistinct, AllByRecursion, Contains}
+use Rattle.std.proofs.Common.{◌≡◌, ℕ, zero, suc, ◌+◌, ◌≤◌, ◌<◌, ◌^◌, ◌||◌, false, List, [], ◌∷◌, ◌++◌, Some, refl, ◌∙◌, sym, ap, arith, subst, length, length-append, append_assoc, inl, inr, ◌⊎◌}
+use Rattle.std.specs.List.{list_any, IsDistinct, Contains}
 use Rattle.std.proofs.lemmas.Bool.{cond_both}
 use Rattle.std.proofs.lemmas.List.Elements.{Contains-append_left, Contains-push, Contains-push_cases}
 use Rattle.vpc_base.specs.declared.headers.Header.{Header}
 use Rattle.vpc_base.specs.declared.headers.Label.{Label}
 use Rattle.vpc_base.specs.declared.headers.Label.TheVariants.{Opening, Answer}
 use Rattle.vpc_model.specs.declared.outcomes.Hop.{Hop}
-use Rattle.vpc_model.specs.declared.outcomes.Outcome.TheVariants.{Arrived, Stopped}
+use Rattle.vpc_model.specs.declared.outcomes.Outcome.TheVariants.{Stopped}
 use Rattle.vpc_model.specs.declared.places.Place.{Place}
 use Rattle.vpc_model.specs.declared.places.Place.TheVariants.{NatOut}
 use Rattle.vpc_model.specs.declared.rows.Description.{Description}
 use Rattle.vpc_model.specs.declared.stops.Stop.TheVariants.{Loop}
 use Rattle.vpc_model.specs.Connections.{Connection}
 use Rattle.vpc_model.specs.Nat.{Translation}
-use Rattle.vpc_model.specs.Step.{Moment, Next, Step, go, arrive, stop, step_of}
-use Rattle.vpc_model.specs.Walk.{Walk, ended, is_visited, same_place, turned_back, walk_of, walk_on}
+use Rattle.vpc_model.specs.Step.{Moment, Next, go, arrive, stop, step_of}
+use Rattle.vpc_model.specs.Walk.{Walk, ended, is_visited, same_place, walk_of, walk_on}
 use Rattle.vpc_model.specs.Laws.{AddsOwn, AddsTranslation, Begins, IsBook, own_connection, places_of}
-use Rattle.vpc_model.proofs.Books.{AllByRecursion-push, IsDistinct-push_new, step_keeps_book}
+use Rattle.vpc_model.proofs.Books.{IsDistinct-push_new, step_keeps_book}
 use Rattle.vpc_model.proofs.Flow.{Flows, step_at-flow}
 use Rattle.vpc_model.proofs.Growth.{answer_adds_nothing, step_adds_own, step_adds_translation, step_keeps}
 

@@ -1,5 +1,5 @@
 -- What packets do in small networks.
-use Rattle.std.specs.Prelude.{ℕ, ◌≡◌, Bool, true, false, List, [], ◌∷◌, Option, Some, None, codes, map}
+use Rattle.std.specs.Prelude.{ℕ, ◌≡◌, true, false, List, [], ◌∷◌, Some, None, codes, map}
 use Rattle.vpc_base.specs.declared.headers.Header.{Header}
 use Rattle.vpc_base.specs.declared.headers.Dir.{Dir}
 use Rattle.vpc_base.specs.declared.headers.Dir.TheVariants.{Inward, Outward}
@@ -8,15 +8,10 @@ use Rattle.vpc_base.specs.declared.headers.Label.TheVariants.{Opening, Answer}
 use Rattle.vpc_model.specs.declared.numbers.VpcNo.{VpcNo}
 use Rattle.vpc_model.specs.declared.numbers.SubnetNo.{SubnetNo}
 use Rattle.vpc_model.specs.declared.numbers.EniNo.{EniNo}
-use Rattle.vpc_model.specs.declared.numbers.GroupNo.{GroupNo}
 use Rattle.vpc_model.specs.declared.numbers.NatNo.{NatNo}
-use Rattle.vpc_model.specs.declared.numbers.PeerNo.{PeerNo}
 use Rattle.vpc_model.specs.declared.numbers.AttNo.{AttNo}
-use Rattle.vpc_model.specs.declared.numbers.AclNo.{AclNo}
-use Rattle.vpc_model.specs.declared.numbers.TgwTableNo.{TgwTableNo}
 use Rattle.vpc_model.specs.declared.rows.Description.{Description}
 use Rattle.vpc_model.specs.declared.places.Came.TheVariants.{Host as FromHost, Nat as FromNat, Transit as FromTransit}
-use Rattle.vpc_model.specs.declared.places.End.{End}
 use Rattle.vpc_model.specs.declared.places.End.TheVariants.{Interface as AtInterface, Internet as AtInternet}
 use Rattle.vpc_model.specs.declared.places.EnterBy.TheVariants.{Gateway as ByGateway}
 use Rattle.vpc_model.specs.declared.places.Place.{Place}
@@ -31,10 +26,9 @@ use Rattle.vpc_model.specs.declared.outcomes.Verdict.TheVariants.{Through, Stopp
 use Rattle.vpc_model.specs.declared.stops.Stop.TheVariants.{AclIn, AclOut, GroupsIn, GroupsOut, Loop, NatUnsolicited, PeerDestination, TgwBlackhole}
 use Rattle.vpc_model.specs.Acls.{acl_verdict}
 use Rattle.vpc_model.specs.Connections.{Connection}
-use Rattle.vpc_model.specs.Nat.{Translation}
 use Rattle.vpc_model.specs.Networks.{v4, block, https_from, https_from_group, three_routes, equal_routes, learnt_routes, one_list, rows_out_of_order, one_subnet, two_subnets, acl_1, high_ports_only, public_hosts, behind_nat, open_rows, low_ports_in, peered, transit, transit_loop, host_at_attachment, shut_attachment}
 use Rattle.vpc_model.specs.Routes.{chosen_route}
-use Rattle.vpc_model.specs.Verdict.{request_walk, verdict_of}
+use Rattle.vpc_model.specs.Verdict.{verdict_of}
 use Rattle.vpc_model.specs.Walk.{Walk, walk_of}
 
 -- ---- rows by their places, and packets

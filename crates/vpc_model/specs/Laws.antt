@@ -1,5 +1,5 @@
 -- Laws of steps and walks.
-use Rattle.std.specs.Prelude.{ℕ, ◌≡◌, ◌≤◌, ◌<◌, ◌^◌, ◌==◌, ◌&&◌, ◌⊎◌, Bool, true, false, List, [], ◌∷◌, ◌++◌, Option, Some, None, Contains, count_by, length, map}
+use Rattle.std.specs.Prelude.{◌≡◌, ◌≤◌, ◌<◌, ◌^◌, ◌==◌, ◌&&◌, ◌⊎◌, Bool, true, false, List, [], ◌∷◌, ◌++◌, Option, Some, None, Contains, count_by, length, map}
 use Rattle.std.specs.List.{AllByRecursion, IsDistinct}
 use Rattle.vpc_base.specs.declared.headers.Header.{Header}
 use Rattle.vpc_base.specs.declared.headers.Dir.TheVariants.{Inward, Outward}
@@ -12,8 +12,8 @@ use Rattle.vpc_model.specs.declared.places.Place.TheVariants.{OutOf, Into, NatOu
 use Rattle.vpc_model.specs.declared.rows.Description.{Description}
 use Rattle.vpc_model.specs.Connections.{Connection, same_header}
 use Rattle.vpc_model.specs.Nat.{Translation, is_taken, is_translatable, shares, first_port, free_port}
-use Rattle.vpc_model.specs.Step.{Moment, Next, go, arrive, stop, Step, step_of}
-use Rattle.vpc_model.specs.Walk.{Walk, walk_of, same_place}
+use Rattle.vpc_model.specs.Step.{Moment, Next, go, arrive, stop, step_of}
+use Rattle.vpc_model.specs.Walk.{walk_of, same_place}
 
 -- ---- words
 

@@ -17,7 +17,6 @@ use Rattle.vpc_model.specs.declared.rows.Subnet.{Subnet}
 use Rattle.vpc_model.specs.declared.rows.Target.{Target}
 use Rattle.vpc_model.specs.declared.rows.Target.TheVariants.{Local, Internet, Nat, Transit, Peer, Other}
 use Rattle.vpc_model.specs.declared.rows.TgwRoute.{TgwRoute}
-use Rattle.vpc_model.specs.declared.rows.TgwTable.{TgwTable}
 use Rattle.vpc_model.specs.declared.rows.Vpc.{Vpc}
 
 -- ---- addresses, rules and routes

@@ -1,12 +1,12 @@
 -- What is printed of packets in small networks.
 use Rattle.std.specs.Prelude.{ℕ, ◌≡◌, ◌++◌, List, [], ◌∷◌, codes}
 use Rattle.vpc_base.specs.declared.headers.Label.TheVariants.{Opening, Answer}
-use Rattle.vpc_model.specs.declared.places.Place.TheVariants.{OutOf, Router, Internet, Tgw}
+use Rattle.vpc_model.specs.declared.places.Place.TheVariants.{OutOf, Internet, Tgw}
 use Rattle.vpc_model.specs.declared.rows.Description.{Description}
-use Rattle.vpc_model.specs.declared.stops.Foreign.TheVariants.{Target as ForeignTarget, Attachment as ForeignAttachment}
-use Rattle.vpc_model.specs.declared.stops.Stop.TheVariants.{AclOut, Blackhole, GroupsIn, PeerDestination, TgwBlackhole, TgwNoAttachment, TooFar, Unmodelled}
+use Rattle.vpc_model.specs.declared.stops.Foreign.TheVariants.{Attachment as ForeignAttachment}
+use Rattle.vpc_model.specs.declared.stops.Stop.TheVariants.{AclOut, GroupsIn, PeerDestination, TgwBlackhole, TgwNoAttachment, TooFar, Unmodelled}
 use Rattle.vpc_model.specs.Examples.{a_to_c, a_to_server, att, eni, first_walk, from_server, subnet, tcp, walk_after}
-use Rattle.vpc_model.specs.Networks.{v4, acl_1, behind_nat, bare, high_ports_only, low_ports_in, main_table, peered, three_routes, transit, transit_loop, two_subnets}
+use Rattle.vpc_model.specs.Networks.{v4, acl_1, behind_nat, high_ports_only, low_ports_in, peered, transit, transit_loop, two_subnets}
 use Rattle.vpc_model.specs.Text.{stop_text, walk_text}
 use Rattle.vpc_model.specs.Walk.{Walk}
 

@@ -1,5 +1,5 @@
 -- Where packets are stopped in small networks: each stop at least once.
-use Rattle.std.specs.Prelude.{ℕ, ◌≡◌, ◌+◌, ◌++◌, Bool, true, false, List, [], ◌∷◌, Option, Some, None, codes, map, length}
+use Rattle.std.specs.Prelude.{ℕ, ◌≡◌, ◌+◌, true, false, List, [], ◌∷◌, Option, Some, None, codes, map, length}
 use Rattle.vpc_base.specs.declared.headers.Header.{Header}
 use Rattle.vpc_base.specs.declared.headers.Dir.TheVariants.{Inward}
 use Rattle.vpc_base.specs.declared.headers.Label.TheVariants.{Opening, Answer}
@@ -12,7 +12,6 @@ use Rattle.vpc_model.specs.declared.outcomes.RuleRef.{RuleRef}
 use Rattle.vpc_model.specs.declared.outcomes.Outcome.{Outcome}
 use Rattle.vpc_model.specs.declared.outcomes.Outcome.TheVariants.{Arrived, Stopped}
 use Rattle.vpc_model.specs.declared.outcomes.Phase.TheVariants.{Request, Reply}
-use Rattle.vpc_model.specs.declared.outcomes.Verdict.{Verdict}
 use Rattle.vpc_model.specs.declared.outcomes.Verdict.TheVariants.{Through, Stopped as StoppedIn}
 use Rattle.vpc_model.specs.declared.rows.Description.{Description}
 use Rattle.vpc_model.specs.declared.rows.Interface.{Interface}
@@ -21,12 +20,10 @@ use Rattle.vpc_model.specs.declared.rows.NatLife.TheVariants.{Gone, Unmodelled a
 use Rattle.vpc_model.specs.declared.rows.Peering.{Peering}
 use Rattle.vpc_model.specs.declared.rows.Route.{Route}
 use Rattle.vpc_model.specs.declared.rows.Target.TheVariants.{Nat as ToNat, Transit, Interface as ToInterface, Other}
-use Rattle.vpc_model.specs.declared.rows.TgwRoute.{TgwRoute}
 use Rattle.vpc_model.specs.declared.stops.Foreign.TheVariants.{Target as ForeignTarget, Nat as ForeignNat, Peering as ForeignPeering, Attachment as ForeignAttachment, Table as ForeignTable, FarAttachment}
-use Rattle.vpc_model.specs.declared.stops.Stop.{Stop}
 use Rattle.vpc_model.specs.declared.stops.Stop.TheVariants.{Detached, SourceCheck, DestCheck, GroupsOut, GroupsIn, NotAHost, NoRoute, Blackhole, AclIn, NoHost, NoGateway, GatewayDetached, NoPublic, PrivateAddress, NatNotAvailable, NatAnswer, NatProtocol, NatUnsolicited, PeerNotActive, PeerSource, TgwNoAttachment, TgwNoZone, TgwNoTable, TgwNoRoute, TooFar, Unmodelled, WrongPlace, WrongReturn, NoReply}
-use Rattle.vpc_model.specs.Examples.{hop, hop_by, a_to_c, a_to_server, att, b_to_server, eni, first_walk, from_server, nat, outcome_of, subnet, tcp, vpc}
-use Rattle.vpc_model.specs.Networks.{v4, block, acl, acl_1, allow_all, allow_row, anywhere, attached, bare, behind_nat, eni_n, gone_route, group, host, host_with, https_from, https_from_group, local_1, main_table, open_rows, peered, public_hosts, route, site_group, site_host, site_subnet, tcp_row, tgw_route, transit, transit_subnet, two_subnets}
+use Rattle.vpc_model.specs.Examples.{hop, hop_by, a_to_c, a_to_server, att, eni, first_walk, from_server, nat, outcome_of, subnet, tcp, vpc}
+use Rattle.vpc_model.specs.Networks.{v4, block, acl, acl_1, allow_all, anywhere, attached, bare, behind_nat, eni_n, gone_route, group, host, https_from, https_from_group, local_1, main_table, open_rows, peered, public_hosts, route, site_group, site_host, site_subnet, tcp_row, tgw_route, transit, transit_subnet, two_subnets}
 use Rattle.vpc_model.specs.Groups.{first_rule}
 use Rattle.vpc_model.specs.Lookup.{interface_at}
 use Rattle.vpc_model.specs.Transit.{chosen_tgw_route, leave_subnet}
