@@ -3,3 +3,4 @@ pub mod Flow
 pub mod Ports
 pub mod Books
 pub mod Walks
+pub mod Replies

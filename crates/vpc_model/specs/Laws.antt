@@ -1,6 +1,7 @@
 -- Laws of steps and walks.
 use Rattle.std.specs.Prelude.{◌≡◌, ◌≤◌, ◌<◌, ◌^◌, ◌==◌, ◌&&◌, ◌⊎◌, Bool, true, false, List, [], ◌∷◌, ◌++◌, Option, Some, None, Contains, count_by, length, map}
 use Rattle.std.specs.List.{AllByRecursion, IsDistinct}
+use Rattle.vpc_base.specs.Header.{reply_of}
 use Rattle.vpc_base.specs.declared.headers.Header.{Header}
 use Rattle.vpc_base.specs.declared.headers.Dir.TheVariants.{Inward, Outward}
 use Rattle.vpc_base.specs.declared.headers.Label.{Label}
@@ -10,9 +11,10 @@ use Rattle.vpc_model.specs.declared.outcomes.Hop.{Hop}
 use Rattle.vpc_model.specs.declared.places.Place.{Place}
 use Rattle.vpc_model.specs.declared.places.Place.TheVariants.{OutOf, Into, NatOut}
 use Rattle.vpc_model.specs.declared.rows.Description.{Description}
+use Rattle.vpc_model.specs.declared.stops.Stop.TheVariants.{NatFull}
 use Rattle.vpc_model.specs.Connections.{Connection, same_header}
-use Rattle.vpc_model.specs.Nat.{Translation, is_taken, is_translatable, shares, first_port, free_port}
-use Rattle.vpc_model.specs.Step.{Moment, Next, go, arrive, stop, step_of}
+use Rattle.vpc_model.specs.Nat.{Translation, inward, translation_of, is_taken, is_translatable, shares, first_port, free_port}
+use Rattle.vpc_model.specs.Step.{from_nat, Moment, Next, go, arrive, stop, step_of}
 use Rattle.vpc_model.specs.Walk.{walk_of, same_place}
 
 -- ---- words
@@ -102,6 +104,25 @@ AnswerAddsNothing = (d : Description) (m : Moment) → let s = step_of d Answer 
 -- while not all 64,512 ports from 1,024 on are taken, the port that is given isn't
 abbrev pub FreePortIsFree : Type 0
 FreePortIsFree = (ts : List Translation) (n : NatNo) (h : Header) → h.p < 2 ^ 16 → count_by (shares n h) ts < 64512 → is_taken ts n h (free_port ts (is_taken ts n h) (first_port h.p)) ≡ false
+
+-- an answer to a translated open becomes the answer to that open as it was before
+abbrev pub AnswerFindsItsOpen : Type 0
+AnswerFindsItsOpen = (ts : List Translation) (t : Translation) (r : Header) → IsBook ts → Contains ts t → reply_of t.after ≡ Some r → inward ts t.nat r ≡ reply_of t.before
+
+-- an open that a gateway has translated before gets the same translation, and nothing is added
+abbrev pub KnownOpenIsReused : Type 0
+KnownOpenIsReused =
+    (d : Description) (n : NatNo) (h : Header) (conns : List Connection) (nats : List Translation) (t : Translation)
+      → is_translatable h.proto ≡ true → translation_of nats n h ≡ Some t
+      → let s = step_of d Opening (record { place = NatOut n; header = h; conns = conns; nats = nats }) in
+        (s.next ≡ from_nat d n t.after) × (s.nats ≡ nats)
+
+-- another one is stopped where 55,000 translations share the gateway, its protocol, destination and q
+abbrev pub FullGatewayStops : Type 0
+FullGatewayStops =
+    (d : Description) (n : NatNo) (h : Header) (conns : List Connection) (nats : List Translation)
+      → is_translatable h.proto ≡ true → translation_of nats n h ≡ None → 55000 ≤ count_by (shares n h) nats
+      → let s = step_of d Opening (record { place = NatOut n; header = h; conns = conns; nats = nats }) in s.next ≡ stop (NatFull n)
 
 -- nothing is in order
 abbrev pub NothingIsInOrder : Type 0

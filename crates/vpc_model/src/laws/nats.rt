@@ -1,5 +1,5 @@
 // Laws of NAT gateways.
-ghost use Rattle.vpc_model.specs.Laws.{FreePortIsFree, NothingIsInOrder, StepKeepsBook};
+ghost use Rattle.vpc_model.specs.Laws.{AnswerFindsItsOpen, FreePortIsFree, FullGatewayStops, KnownOpenIsReused, NothingIsInOrder, StepKeepsBook};
 
 /// A gateway finds a port while its translations towards a destination are fewer than the ports.
 pub fn finds_a_free_port()
@@ -15,4 +15,19 @@ pub fn begins_in_order()
 /// destination, and each changes the source and p alone.
 pub fn keeps_translations_in_order()
     ensures { StepKeepsBook }
+{}
+
+/// An answer that comes back to a gateway reaches the host whose open it answers.
+pub fn answer_finds_its_open()
+    ensures { AnswerFindsItsOpen }
+{}
+
+/// An open that was translated before gets the same port again.
+pub fn reuses_a_translation()
+    ensures { KnownOpenIsReused }
+{}
+
+/// A gateway keeps 55,000 translations towards one destination.
+pub fn stops_at_a_full_gateway()
+    ensures { FullGatewayStops }
 {}
