@@ -1,7 +1,7 @@
 -- Answers at a NAT gateway.
-use Rattle.std.proofs.Common.{◌≡◌, ℕ, ◌≤◌, ◌==◌, ◌&&◌, Bool, true, false, List, [], ◌∷◌, ◌++◌, Option, Some, None, refl, cond, ◌∙◌, sym, ap, arith, subst, length, inl, inr, ◌⊎◌, option_and_then, leb}
-use Rattle.std.specs.List.{list_any, count_by, find, AllByRecursion, IsDistinct, Contains}
-use Rattle.std.proofs.lemmas.Bool.{and_parts, and_from, eqb-true, eqb-false, eq-eqb, cases_Bool, both_ways, le-leb, true≢false}
+use Rattle.std.proofs.Common.{◌≡◌, ◌≤◌, ◌<◌, ◌==◌, ◌&&◌, Bool, true, false, List, [], ◌∷◌, ◌++◌, Option, Some, None, refl, ◌∙◌, sym, ap, arith, subst, inl, inr, ◌⊎◌, option_and_then}
+use Rattle.std.specs.List.{count_by, find, AllByRecursion, IsDistinct, Contains}
+use Rattle.std.proofs.lemmas.Bool.{and_parts, and_from, eqb-true, eq-eqb, cases_Bool, both_ways, le-leb, lt-leb, true≢false}
 use Rattle.std.proofs.lemmas.List.Elements.{Contains-append_cases, Contains-push_cases}
 use Rattle.std.proofs.lemmas.Map.Keys.{IsDistinct-head, IsDistinct-tail}
 use Rattle.vpc_base.specs.Header.{reply_of, echo_reply, exchanged}
@@ -12,8 +12,9 @@ use Rattle.vpc_model.specs.declared.places.Place.TheVariants.{NatOut}
 use Rattle.vpc_model.specs.declared.rows.Description.{Description}
 use Rattle.vpc_model.specs.declared.stops.Stop.TheVariants.{NatFull}
 use Rattle.vpc_model.specs.Connections.{Connection, is_header, same_header}
-use Rattle.vpc_model.specs.Nat.{Translation, inward, is_translatable, shares, translation_of}
-use Rattle.vpc_model.specs.Step.{from_nat, step_of, stop}
+use Rattle.vpc_model.specs.Lookup.{nat_at}
+use Rattle.vpc_model.specs.Nat.{Translation, inward, is_translatable, new_translation, shares, translation_of}
+use Rattle.vpc_model.specs.Step.{from_nat, own_address, step_of, stop}
 use Rattle.vpc_model.specs.Laws.{IsBook, collide}
 use Rattle.vpc_model.proofs.Flow.{IsSame, same_header-fields}
 
@@ -31,11 +32,11 @@ reply_of-tells : (a r : Header) → reply_of a ≡ Some r → IsReply a r
 reply_of-tells a r e =
     elim (cases_Bool (a.proto == 1)) [
       | inl icmp ↦ elim (cases_Bool (a.q == 2048)) [
-          | inl asks ↦
-              let same : echo_reply a ≡ r = Some-same _ _ (rw (icmp, asks) at e) in
-              echo (eqb-true a.proto 1 icmp) (eqb-true a.q 2048 asks) (sym (ap (λ (h : Header). h.proto) same)) (sym (ap (λ (h : Header). h.src) same)) (sym (ap (λ (h : Header). h.p) same))
-          | inr says ↦ let none = (rw (icmp, says) at e) in cc
-        ]
+        | inl asks ↦
+            let same : echo_reply a ≡ r = Some-same _ _ (rw (icmp, asks) at e) in
+            echo (eqb-true a.proto 1 icmp) (eqb-true a.q 2048 asks) (sym (ap (λ (h : Header). h.proto) same)) (sym (ap (λ (h : Header). h.src) same)) (sym (ap (λ (h : Header). h.p) same))
+        | inr says ↦ let none = (rw (icmp, says) at e) in cc
+      ]
       | inr not_icmp ↦
           let same : exchanged a ≡ r = Some-same _ _ (rw not_icmp at e) in
           other not_icmp (sym (ap (λ (h : Header). h.proto) same)) (sym (ap (λ (h : Header). h.src) same)) (sym (ap (λ (h : Header). h.p) same)) (sym (ap (λ (h : Header). h.q) same))
@@ -98,10 +99,10 @@ answered-collide s t r e hit =
     let found = is_header-some r (reply_of s.after) parts.1 in
     let twin = twins s.after t.after found.0 r (reply_of-tells s.after found.0 (found.1).0) (reply_of-tells t.after r e) (same_header-fields found.0 r (found.1).1) in
     and_from (shares t.nat t.after s) (s.after.p == t.after.p)
-      (and_from (s.nat.0 == t.nat.0) ((s.after.proto == t.after.proto) && ((s.after.dst == t.after.dst) && (s.after.q == t.after.q))) parts.0
-        (and_from (s.after.proto == t.after.proto) ((s.after.dst == t.after.dst) && (s.after.q == t.after.q)) (eq-eqb s.after.proto t.after.proto twin.proto)
-          (and_from (s.after.dst == t.after.dst) (s.after.q == t.after.q) (eq-eqb s.after.dst t.after.dst twin.dst) (eq-eqb s.after.q t.after.q twin.q))))
-      (eq-eqb s.after.p t.after.p twin.p)
+    (and_from (s.nat.0 == t.nat.0) ((s.after.proto == t.after.proto) && ((s.after.dst == t.after.dst) && (s.after.q == t.after.q))) parts.0
+    (and_from (s.after.proto == t.after.proto) ((s.after.dst == t.after.dst) && (s.after.q == t.after.q)) (eq-eqb s.after.proto t.after.proto twin.proto)
+    (and_from (s.after.dst == t.after.dst) (s.after.q == t.after.q) (eq-eqb s.after.dst t.after.dst twin.dst) (eq-eqb s.after.q t.after.q twin.q))))
+    (eq-eqb s.after.p t.after.p twin.p)
 
 find-own : (ts : List Translation) (t : Translation) (r : Header) → IsDistinct collide ts → Contains ts t → reply_of t.after ≡ Some r → find (is_answered t.nat r) ts ≡ Some t
 find-own [] t r apart (k, below, at) e = absurd (omega arith)
@@ -109,9 +110,9 @@ find-own (s ∷ ts) t r apart has e =
     elim (Contains-cases s t ts has) [
       | inl same ↦ rw (same, answers-own t r e)
       | inr later ↦ elim (cases_Bool (is_answered t.nat r s)) [
-          | inl hit ↦ absurd (both_ways (collide s t) (AllByRecursion-at (λ u. collide s u ≡ false) ts t (IsDistinct-head collide s ts apart) later) (answered-collide s t r e hit))
-          | inr miss ↦ rw miss (find-own ts t r (IsDistinct-tail collide s ts apart) later e)
-        ]
+        | inl hit ↦ absurd (both_ways (collide s t) (AllByRecursion-at (λ u. collide s u ≡ false) ts t (IsDistinct-head collide s ts apart) later) (answered-collide s t r e hit))
+        | inr miss ↦ rw miss (find-own ts t r (IsDistinct-tail collide s ts apart) later e)
+      ]
     ]
 
 pub answer_finds_its_open : (ts : List Translation) (t : Translation) (r : Header) → IsBook ts → Contains ts t → reply_of t.after ≡ Some r → inward ts t.nat r ≡ reply_of t.before
@@ -128,3 +129,13 @@ pub full_gateway_stops : (d : Description) (n : NatNo) (h : Header) (conns : Lis
     → is_translatable h.proto ≡ true → translation_of nats n h ≡ None → 55000 ≤ count_by (shares n h) nats
     → let s = step_of d Opening (record { place = NatOut n; header = h; conns = conns; nats = nats }) in s.next ≡ stop (NatFull n)
 full_gateway_stops d n h conns nats translatable new full = rw (translatable, new, le-leb 55000 (count_by (shares n h) nats) full) refl
+
+pub roomy_gateway_translates : (d : Description) (n : NatNo) (h : Header) (conns : List Connection) (nats : List Translation)
+    → is_translatable h.proto ≡ true → translation_of nats n h ≡ None → count_by (shares n h) nats < 55000
+    → let s = step_of d Opening (record { place = NatOut n; header = h; conns = conns; nats = nats }) in
+    let row = nat_at d n in
+    let t = new_translation nats n (own_address row.life) h in
+    (s.next ≡ from_nat d n t.after) × (s.nats ≡ nats ++ t ∷ [])
+roomy_gateway_translates d n h conns nats translatable new room =
+    let few = lt-leb 55000 (count_by (shares n h) nats) room in
+    (rw (translatable, new, few) refl, rw (translatable, new, few) refl)

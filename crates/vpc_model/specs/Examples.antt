@@ -11,6 +11,7 @@ use Rattle.vpc_model.specs.declared.numbers.EniNo.{EniNo}
 use Rattle.vpc_model.specs.declared.numbers.NatNo.{NatNo}
 use Rattle.vpc_model.specs.declared.numbers.AttNo.{AttNo}
 use Rattle.vpc_model.specs.declared.rows.Description.{Description}
+use Rattle.vpc_model.specs.declared.rows.Target.TheVariants.{Local}
 use Rattle.vpc_model.specs.declared.places.Came.TheVariants.{Host as FromHost, Nat as FromNat, Transit as FromTransit}
 use Rattle.vpc_model.specs.declared.places.End.TheVariants.{Interface as AtInterface, Internet as AtInternet}
 use Rattle.vpc_model.specs.declared.places.EnterBy.TheVariants.{Gateway as ByGateway}
@@ -25,8 +26,9 @@ use Rattle.vpc_model.specs.declared.outcomes.Phase.TheVariants.{Request, Reply}
 use Rattle.vpc_model.specs.declared.outcomes.Verdict.TheVariants.{Through, Stopped as StoppedIn}
 use Rattle.vpc_model.specs.declared.stops.Stop.TheVariants.{AclIn, AclOut, GroupsIn, GroupsOut, Loop, NatUnsolicited, PeerDestination, TgwBlackhole}
 use Rattle.vpc_model.specs.Acls.{acl_verdict}
-use Rattle.vpc_model.specs.Connections.{Connection}
-use Rattle.vpc_model.specs.Networks.{v4, block, https_from, https_from_group, three_routes, equal_routes, learnt_routes, one_list, rows_out_of_order, one_subnet, two_subnets, acl_1, high_ports_only, public_hosts, behind_nat, open_rows, low_ports_in, peered, transit, transit_loop, host_at_attachment, shut_attachment}
+use Rattle.vpc_model.specs.Connections.{Connection, is_tracked}
+use Rattle.vpc_model.specs.Nat.{Translation, new_translation}
+use Rattle.vpc_model.specs.Networks.{v4, anywhere, block, learnt_route, route, tcp_row, https_from, https_from_group, three_routes, equal_routes, learnt_routes, one_list, rows_out_of_order, one_subnet, two_subnets, acl_1, high_ports_only, public_hosts, behind_nat, open_rows, low_ports_in, peered, transit, transit_loop, host_at_attachment, shut_attachment}
 use Rattle.vpc_model.specs.Routes.{chosen_route}
 use Rattle.vpc_model.specs.Verdict.{verdict_of}
 use Rattle.vpc_model.specs.Walk.{Walk, walk_of}
@@ -101,6 +103,10 @@ LocalRouteIsChosen =
     (chosen_route one_list learnt_routes (v4 10 0 2 20) ≡ Some 0)
     × (chosen_route one_list learnt_routes (v4 10 1 2 20) ≡ None)
 
+-- a propagated route to the VPC itself counts like a static one
+abbrev pub PropagatedLocalCounts : Type 0
+PropagatedLocalCounts = chosen_route one_list (route (block (v4 10 0 0 0) 16) Local ∷ learnt_route (block (v4 10 0 2 0) 24) Local ∷ []) (v4 10 0 2 20) ≡ Some 1
+
 -- the least number decides, and of equal ones the first row; where no row matches the last rule refuses
 abbrev pub LeastNumberDecides : Type 0
 LeastNumberDecides =
@@ -108,10 +114,39 @@ LeastNumberDecides =
     × ((acl_verdict rows_out_of_order Inward (tcp (v4 192 0 2 1) (v4 10 0 2 20) 5000 443) ≡ (false, 200))
     × (acl_verdict rows_out_of_order Outward (tcp (v4 10 0 1 10) (v4 10 0 2 20) 5000 443) ≡ (false, 32767)))
 
+-- rows for TCP say nothing of UDP, nor of the ports beside their range
+abbrev pub RowsAreOfOneProtocol : Type 0
+RowsAreOfOneProtocol =
+    let rows = tcp_row 100 false true 80 443 anywhere ∷ [] in
+    let h = tcp (v4 192 0 2 1) (v4 10 0 2 20) 5000 in
+    (acl_verdict rows Inward (record (h 443) { proto = 17 }) ≡ (false, 32767))
+    × ((acl_verdict rows Inward (h 79) ≡ (false, 32767))
+    × ((acl_verdict rows Inward (h 80) ≡ (true, 100))
+    × ((acl_verdict rows Inward (h 443) ≡ (true, 100))
+    × (acl_verdict rows Inward (h 444) ≡ (false, 32767)))))
+
 -- ---- inside one subnet
 
 abbrev pub a_to_b : ℕ → Header
 a_to_b q = tcp (v4 10 0 1 10) (v4 10 0 1 20) 5000 q
+
+-- an answer is tracked where the open that it answers passed, in the other direction, and nowhere else
+abbrev pub AnswersAreTracked : Type 0
+AnswersAreTracked =
+    let answer = tcp (v4 10 0 1 20) (v4 10 0 1 10) 443 5000 in
+    let conns = connection 0 Outward (a_to_b 443) ∷ [] in
+    (is_tracked conns (eni 0) Inward answer ≡ true)
+    × ((is_tracked conns (eni 0) Outward answer ≡ false)
+    × ((is_tracked conns (eni 1) Inward answer ≡ false)
+    × ((is_tracked conns (eni 0) Inward (record answer { q = 5001 }) ≡ false)
+    × (is_tracked conns (eni 0) Inward (a_to_b 443) ≡ false))))
+
+-- the same open once more is remembered once
+abbrev pub RemembersOnce : Type 0
+RemembersOnce =
+    let w = first_walk one_subnet Opening (OutOf (eni 0)) (a_to_b 443) in
+    let again = walk_after one_subnet Opening w (OutOf (eni 0)) (a_to_b 443) in
+    again.conns ≡ w.conns
 
 -- a request to port 443 is delivered, by the outbound rule of the one host and the inbound rule of the other
 abbrev pub IsDelivered : Type 0
@@ -238,6 +273,27 @@ abbrev pub PortsDiffer : Type 0
 PortsDiffer =
     (outcome_of (first_walk (behind_nat open_rows) Opening (OutOf (eni 0)) (a_to_server 5000)) ≡ Arrived AtInternet (published 5000))
     × (outcome_of both_requests ≡ Arrived AtInternet (published 5001))
+
+-- a well-known port is moved by 1,024, a taken port gives the next one, and 1,024 follows the last
+abbrev pub port_after : List Translation → ℕ → ℕ
+port_after ts p = let t = new_translation ts (nat 0) (v4 10 0 3 5) (a_to_server p) in t.after.p
+
+abbrev pub taken_by_b : ℕ → Translation
+taken_by_b p = record { nat = nat 0; before = b_to_server p; after = translated p }
+
+abbrev pub PortsAreGivenInOrder : Type 0
+PortsAreGivenInOrder =
+    (map (port_after []) (0 ∷ 1023 ∷ 1024 ∷ 65535 ∷ []) ≡ 1024 ∷ 2047 ∷ 1024 ∷ 65535 ∷ [])
+    × ((port_after (taken_by_b 65535 ∷ []) 65535 ≡ 1024)
+    × ((port_after (taken_by_b 65535 ∷ taken_by_b 1024 ∷ []) 65535 ≡ 1025)
+    × ((port_after (record (taken_by_b 5000) { nat = nat 1 } ∷ []) 5000 ≡ 5000)
+    × (port_after (record (taken_by_b 5000) { after = record (translated 5000) { q = 80 } } ∷ []) 5000 ≡ 5000))))
+
+-- the ACL of the gateway's subnet lets in answers to ports up to 2047
+abbrev pub AnswersMeetTheAcl : Type 0
+AnswersMeetTheAcl =
+    (verdict_of (behind_nat low_ports_in) (AtInterface (eni 0)) AtInternet (a_to_server 2047) ≡ Through)
+    × (verdict_of (behind_nat low_ports_in) (AtInterface (eni 0)) AtInternet (a_to_server 2048) ≡ StoppedIn Reply (AclIn (record { 0 = 1 }) 32767))
 
 -- each answer reaches the host whose port it names, and one to another port is stopped
 abbrev pub AnswersFindTheirHosts : Type 0

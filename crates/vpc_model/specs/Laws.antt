@@ -13,8 +13,9 @@ use Rattle.vpc_model.specs.declared.places.Place.TheVariants.{OutOf, Into, NatOu
 use Rattle.vpc_model.specs.declared.rows.Description.{Description}
 use Rattle.vpc_model.specs.declared.stops.Stop.TheVariants.{NatFull}
 use Rattle.vpc_model.specs.Connections.{Connection, same_header}
-use Rattle.vpc_model.specs.Nat.{Translation, inward, translation_of, is_taken, is_translatable, shares, first_port, free_port}
-use Rattle.vpc_model.specs.Step.{from_nat, Moment, Next, go, arrive, stop, step_of}
+use Rattle.vpc_model.specs.Lookup.{nat_at}
+use Rattle.vpc_model.specs.Nat.{Translation, inward, new_translation, translation_of, is_taken, is_translatable, shares, first_port, free_port}
+use Rattle.vpc_model.specs.Step.{from_nat, own_address, Moment, Next, go, arrive, stop, step_of}
 use Rattle.vpc_model.specs.Walk.{walk_of, same_place}
 
 -- ---- words
@@ -113,16 +114,26 @@ AnswerFindsItsOpen = (ts : List Translation) (t : Translation) (r : Header) → 
 abbrev pub KnownOpenIsReused : Type 0
 KnownOpenIsReused =
     (d : Description) (n : NatNo) (h : Header) (conns : List Connection) (nats : List Translation) (t : Translation)
-      → is_translatable h.proto ≡ true → translation_of nats n h ≡ Some t
-      → let s = step_of d Opening (record { place = NatOut n; header = h; conns = conns; nats = nats }) in
-        (s.next ≡ from_nat d n t.after) × (s.nats ≡ nats)
+    → is_translatable h.proto ≡ true → translation_of nats n h ≡ Some t
+    → let s = step_of d Opening (record { place = NatOut n; header = h; conns = conns; nats = nats }) in
+    (s.next ≡ from_nat d n t.after) × (s.nats ≡ nats)
 
 -- another one is stopped where 55,000 translations share the gateway, its protocol, destination and q
 abbrev pub FullGatewayStops : Type 0
 FullGatewayStops =
     (d : Description) (n : NatNo) (h : Header) (conns : List Connection) (nats : List Translation)
-      → is_translatable h.proto ≡ true → translation_of nats n h ≡ None → 55000 ≤ count_by (shares n h) nats
-      → let s = step_of d Opening (record { place = NatOut n; header = h; conns = conns; nats = nats }) in s.next ≡ stop (NatFull n)
+    → is_translatable h.proto ≡ true → translation_of nats n h ≡ None → 55000 ≤ count_by (shares n h) nats
+    → let s = step_of d Opening (record { place = NatOut n; header = h; conns = conns; nats = nats }) in s.next ≡ stop (NatFull n)
+
+-- and is translated where fewer do
+abbrev pub RoomyGatewayTranslates : Type 0
+RoomyGatewayTranslates =
+    (d : Description) (n : NatNo) (h : Header) (conns : List Connection) (nats : List Translation)
+    → is_translatable h.proto ≡ true → translation_of nats n h ≡ None → count_by (shares n h) nats < 55000
+    → let s = step_of d Opening (record { place = NatOut n; header = h; conns = conns; nats = nats }) in
+    let row = nat_at d n in
+    let t = new_translation nats n (own_address row.life) h in
+    (s.next ≡ from_nat d n t.after) × (s.nats ≡ nats ++ t ∷ [])
 
 -- nothing is in order
 abbrev pub NothingIsInOrder : Type 0

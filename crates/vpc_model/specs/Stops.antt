@@ -19,14 +19,15 @@ use Rattle.vpc_model.specs.declared.rows.NatLife.{NatLife}
 use Rattle.vpc_model.specs.declared.rows.NatLife.TheVariants.{Gone, Unmodelled as WithoutSubnet}
 use Rattle.vpc_model.specs.declared.rows.Peering.{Peering}
 use Rattle.vpc_model.specs.declared.rows.Route.{Route}
-use Rattle.vpc_model.specs.declared.rows.Target.TheVariants.{Nat as ToNat, Transit, Interface as ToInterface, Other}
+use Rattle.vpc_model.specs.declared.rows.Target.TheVariants.{Local, Internet as ToInternet, Nat as ToNat, Transit, Interface as ToInterface, Other}
 use Rattle.vpc_model.specs.declared.stops.Foreign.TheVariants.{Target as ForeignTarget, Nat as ForeignNat, Peering as ForeignPeering, Attachment as ForeignAttachment, Table as ForeignTable, FarAttachment}
-use Rattle.vpc_model.specs.declared.stops.Stop.TheVariants.{Detached, SourceCheck, DestCheck, GroupsOut, GroupsIn, NotAHost, NoRoute, Blackhole, AclIn, NoHost, NoGateway, GatewayDetached, NoPublic, PrivateAddress, NatNotAvailable, NatAnswer, NatProtocol, NatUnsolicited, PeerNotActive, PeerSource, TgwNoAttachment, TgwNoZone, TgwNoTable, TgwNoRoute, TooFar, Unmodelled, WrongPlace, WrongReturn, NoReply}
+use Rattle.vpc_model.specs.declared.stops.Stop.TheVariants.{Detached, SourceCheck, DestCheck, GroupsOut, GroupsIn, NotAHost, NoRoute, Blackhole, AclIn, AclOut, NoHost, NoGateway, GatewayDetached, NoPublic, PrivateAddress, NatNotAvailable, NatAnswer, NatProtocol, NatUnsolicited, PeerNotActive, PeerSource, TgwNoAttachment, TgwNoZone, TgwNoTable, TgwNoRoute, TooFar, Unmodelled, WrongPlace, WrongReturn, NoReply}
 use Rattle.vpc_model.specs.Examples.{hop, hop_by, a_to_c, a_to_server, att, eni, first_walk, from_server, nat, outcome_of, subnet, tcp, vpc}
-use Rattle.vpc_model.specs.Networks.{v4, block, acl, acl_1, allow_all, anywhere, attached, bare, behind_nat, eni_n, gone_route, group, host, https_from, https_from_group, local_1, main_table, open_rows, peered, public_hosts, route, site_group, site_host, site_subnet, tcp_row, tgw_route, transit, transit_subnet, two_subnets}
+use Rattle.vpc_model.specs.Networks.{v4, allow_row, host_with, block, acl, acl_1, allow_all, anywhere, attached, bare, behind_nat, eni_n, gone_route, group, host, https_from, https_from_group, local_1, main_table, open_rows, peered, public_hosts, route, site_group, site_host, site_subnet, tcp_row, tgw_route, transit, transit_subnet, two_subnets}
 use Rattle.vpc_model.specs.Groups.{first_rule}
+use Rattle.vpc_model.specs.Internet.{is_unroutable}
 use Rattle.vpc_model.specs.Lookup.{interface_at}
-use Rattle.vpc_model.specs.Transit.{chosen_tgw_route, leave_subnet}
+use Rattle.vpc_model.specs.Transit.{attachment_for, chosen_tgw_route, leave_subnet}
 use Rattle.vpc_model.specs.Verdict.{verdict_of}
 
 -- where a first packet from the first host, or from the internet, ends
@@ -64,12 +65,20 @@ ChecksInterfaces =
     × ((open_from_a (with_route (route (block (v4 10 9 0 0) 16) (ToInterface (codes "eni-b")))) (tcp (v4 10 0 1 10) (v4 10 9 0 1) 0 443) ≡ Stopped (DestCheck (eni 1)))
     × (outcome_of (first_walk plain_vpc Opening (OutOf (eni 1)) (tcp (v4 10 0 2 20) (v4 10 0 1 10) 0 443)) ≡ Stopped (GroupsOut (eni 1)))))))
 
+-- every private address of an interface is its own, not the primary one alone
+abbrev pub OwnsAllAddresses : Type 0
+OwnsAllAddresses =
+    open_from_a (with_hosts (record eni_a { addresses = (v4 10 0 1 10, None) ∷ (v4 10 0 1 11, None) ∷ [] }) (record eni_b { addresses = (v4 10 0 2 20, None) ∷ (v4 10 0 2 21, None) ∷ [] })) (tcp (v4 10 0 1 11) (v4 10 0 2 21) 0 443)
+    ≡ Arrived (AtInterface (eni 1)) (tcp (v4 10 0 1 11) (v4 10 0 2 21) 0 443)
+
 -- an interface of a gateway hosts nothing, whether it is found by its address or named by a route
 abbrev pub GatewaysHostNothing : Type 0
 GatewaysHostNothing =
     let d = record (with_route (route (block (v4 10 9 0 0) 16) (ToInterface (codes "eni-b")))) { interfaces = eni_a ∷ record eni_n { id = codes "eni-b"; subnet = codes "subnet-b" } ∷ [] } in
     (open_from_a d (tcp (v4 10 0 1 10) (v4 10 0 3 5) 0 443) ≡ Stopped (NotAHost (eni 1)))
-    × (open_from_a d (tcp (v4 10 0 1 10) (v4 10 9 0 1) 0 443) ≡ Stopped (NotAHost (eni 1)))
+    × ((open_from_a d (tcp (v4 10 0 1 10) (v4 10 9 0 1) 0 443) ≡ Stopped (NotAHost (eni 1)))
+    × ((open_from_a (behind_nat open_rows) (tcp (v4 10 0 1 10) (v4 10 0 3 5) 0 443) ≡ Stopped (NatUnsolicited (nat 0)))
+    × (open_from_a (record (behind_nat open_rows) { tables = main_table (codes "rtb-1") (codes "vpc-1") (route anywhere (ToInterface (codes "eni-n")) ∷ []) ∷ [] }) (a_to_server 0) ≡ Stopped (NotAHost (eni 2)))))
 
 -- a router without a route for the destination, with one whose target is gone, with one to nothing that is followed, and with
 -- one to the VPC, which has no such host
@@ -78,7 +87,8 @@ ChecksRoutes =
     (open_from_a plain_vpc (a_to_server 0) ≡ Stopped (NoRoute (record { 0 = 0 })))
     × ((open_from_a (with_route (gone_route anywhere (ToNat (codes "nat-1")))) (a_to_server 0) ≡ Stopped (Blackhole (record { 0 = 0 }) 1))
     × ((open_from_a (with_route (route anywhere (Other (codes "vpce-1")))) (a_to_server 0) ≡ Stopped (Unmodelled (ForeignTarget (record { 0 = 0 }) 1)))
-    × (open_from_a plain_vpc (tcp (v4 10 0 1 10) (v4 10 0 9 9) 0 443) ≡ Stopped (NoHost (vpc 0)))))
+    × ((open_from_a plain_vpc (tcp (v4 10 0 1 10) (v4 10 0 9 9) 0 443) ≡ Stopped (NoHost (vpc 0)))
+    × (open_from_a (record peered { tables = main_table (codes "rtb-a") (codes "vpc-a") (route anywhere Local ∷ []) ∷ [] }) (tcp (v4 10 1 1 10) (v4 10 3 1 10) 0 443) ≡ Stopped (NoHost (vpc 0))))))
 
 -- the ACL of the other subnet judges what enters it
 abbrev pub JudgesEntry : Type 0
@@ -152,6 +162,28 @@ ChecksInternetGateways =
     × ((open_from_internet published (tcp (v4 192 168 1 1) (v4 203 0 113 20) 0 443) ≡ Stopped PrivateAddress)
     × (open_from_a published (tcp (v4 10 0 1 10) (v4 172 31 0 1) 0 443) ≡ Stopped PrivateAddress))))
 
+-- two VPCs with hosts of one private address; the second's alone has a public one
+abbrev pub overlapping : Description
+overlapping = record peered {
+  interfaces = site_host (codes "a") 1 ∷ host_with (codes "eni-b") (codes "subnet-b") (v4 10 1 1 10) (Some (v4 203 0 113 20)) (codes "sg-b") ∷ [];
+  tables = main_table (codes "rtb-a") (codes "vpc-a") (route anywhere (ToInternet (codes "igw-1")) ∷ []) ∷ [];
+  igws = record { id = codes "igw-1"; vpcs = codes "vpc-a" ∷ [] } ∷ [];
+}
+
+-- public addresses belong to the hosts of one VPC
+abbrev pub PublicAddressesAreOfOneVpc : Type 0
+PublicAddressesAreOfOneVpc =
+    (open_from_a overlapping (tcp (v4 10 1 1 10) (v4 198 51 100 7) 0 443) ≡ Stopped (NoPublic (record { 0 = 0 })))
+    × (open_from_internet overlapping (tcp (v4 198 51 100 7) (v4 203 0 113 20) 0 443) ≡ Stopped (NoGateway (vpc 1)))
+
+-- the first and last addresses of the blocks that the internet doesn't carry, and their neighbours
+abbrev pub UnroutableBlocksEnd : Type 0
+UnroutableBlocksEnd =
+    (map is_unroutable (v4 0 0 0 0 ∷ v4 0 255 255 255 ∷ v4 10 0 0 0 ∷ v4 10 255 255 255 ∷ v4 127 0 0 0 ∷ v4 127 255 255 255 ∷ v4 169 254 0 0 ∷ v4 169 254 255 255 ∷ v4 172 16 0 0 ∷ v4 172 31 255 255 ∷ v4 192 168 0 0 ∷ v4 192 168 255 255 ∷ v4 224 0 0 0 ∷ v4 255 255 255 255 ∷ [])
+    ≡ true ∷ true ∷ true ∷ true ∷ true ∷ true ∷ true ∷ true ∷ true ∷ true ∷ true ∷ true ∷ true ∷ true ∷ [])
+    × (map is_unroutable (v4 1 0 0 0 ∷ v4 9 255 255 255 ∷ v4 11 0 0 0 ∷ v4 126 255 255 255 ∷ v4 128 0 0 0 ∷ v4 169 253 255 255 ∷ v4 169 255 0 0 ∷ v4 172 15 255 255 ∷ v4 172 32 0 0 ∷ v4 192 167 255 255 ∷ v4 192 169 0 0 ∷ v4 223 255 255 255 ∷ [])
+    ≡ false ∷ false ∷ false ∷ false ∷ false ∷ false ∷ false ∷ false ∷ false ∷ false ∷ false ∷ false ∷ [])
+
 -- ---- the NAT gateway
 
 abbrev pub with_life : NatLife → Description
@@ -195,6 +227,36 @@ ChecksTransitExit =
     × ((open_from_a (attached (tgw_route anywhere (codes "att-x") false ∷ []) []) a_over_transit ≡ Stopped (Unmodelled (FarAttachment (record { 0 = 0 }) 0)))
     × (open_from_a (record transit { attachments = record { id = codes "att-a"; gateway = codes "tgw-1"; vpc = codes "vpc-a"; subnets = codes "subnet-ta" ∷ [] } ∷ record { id = codes "att-b"; gateway = codes "tgw-1"; vpc = codes "vpc-x"; subnets = codes "subnet-tb" ∷ [] } ∷ [] }) a_over_transit ≡ Stopped (Unmodelled (ForeignAttachment (att 1)))))
 
+-- ---- ACLs at every exit and entry
+
+-- the ACL of the first subnet lets nothing out, and so stops what leaves it for each kind of target
+abbrev pub shut_out : Description → Description
+shut_out d = record d { acls = acl (codes "acl-x") (codes "subnet-a" ∷ []) (allow_row 100 false anywhere ∷ []) ∷ d.acls }
+
+abbrev pub JudgesExit : Type 0
+JudgesExit =
+    (open_from_a (shut_out plain_vpc) (a_to_c 0) ≡ Stopped (AclOut (record { 0 = 0 }) 32767))
+    × ((open_from_a (shut_out (with_route (route (block (v4 10 9 0 0) 16) (ToInterface (codes "eni-b"))))) (tcp (v4 10 0 1 10) (v4 10 9 0 1) 0 443) ≡ Stopped (AclOut (record { 0 = 0 }) 32767))
+    × ((open_from_a (shut_out published) (a_to_server 0) ≡ Stopped (AclOut (record { 0 = 0 }) 32767))
+    × ((open_from_a (shut_out (behind_nat open_rows)) (a_to_server 0) ≡ Stopped (AclOut (record { 0 = 0 }) 32767))
+    × ((open_from_a (shut_out peered) (tcp (v4 10 1 1 10) (v4 10 3 1 10) 0 443) ≡ Stopped (AclOut (record { 0 = 0 }) 32767))
+    × (open_from_a (shut_out transit) a_over_transit ≡ Stopped (AclOut (record { 0 = 0 }) 32767))))))
+
+-- the ACL of the other subnet lets nothing in, and so stops what enters it: by an interface's address, by a route that names the
+-- interface, by a NAT gateway, and from the internet gateway
+abbrev pub shut_in : List ℕ → Description → Description
+shut_in id d = record d { acls = acl (codes "acl-x") (id ∷ []) (allow_row 100 true anywhere ∷ []) ∷ d.acls }
+
+abbrev pub JudgesEveryEntry : Type 0
+JudgesEveryEntry =
+    (open_from_a (shut_in (codes "subnet-b") plain_vpc) (a_to_c 0) ≡ Stopped (AclIn (record { 0 = 0 }) 32767))
+    × ((open_from_a (shut_in (codes "subnet-b") (with_route (route (block (v4 10 9 0 0) 16) (ToInterface (codes "eni-b"))))) (tcp (v4 10 0 1 10) (v4 10 9 0 1) 0 443) ≡ Stopped (AclIn (record { 0 = 0 }) 32767))
+    × ((open_from_a (shut_in (codes "subnet-n") (behind_nat open_rows)) (a_to_server 0) ≡ Stopped (AclIn (record { 0 = 0 }) 32767))
+    × ((open_from_internet (shut_in (codes "subnet-b") published) (tcp (v4 198 51 100 7) (v4 203 0 113 20) 0 443) ≡ Stopped (AclIn (record { 0 = 0 }) 32767))
+    × (open_from_a (shut_in (codes "subnet-ta") transit) a_over_transit ≡ Stopped (AclIn (record { 0 = 0 }) 32767)))))
+
+-- ---- choices at a transit gateway
+
 -- the second VPC is attached by two subnets, in the zones z and y
 abbrev pub two_zones : List ℕ → Description
 two_zones zone = record transit {
@@ -208,6 +270,11 @@ leaves_to zone = leave_subnet (two_zones zone) (att 1) (subnet 2)
 -- a packet leaves a transit gateway in the zone in which it entered, and else by the first subnet
 abbrev pub LeavesByZone : Type 0
 LeavesByZone = (leaves_to (codes "y") ≡ Some (subnet 4)) × ((leaves_to (codes "z") ≡ Some (subnet 3)) × (leaves_to (codes "x") ≡ Some (subnet 3)))
+
+-- of two gateways in a VPC the one that the route names is entered
+abbrev pub EntersNamedGateway : Type 0
+EntersNamedGateway =
+    attachment_for (record transit { attachments = record { id = codes "att-x"; gateway = codes "tgw-2"; vpc = codes "vpc-a"; subnets = codes "subnet-ta" ∷ [] } ∷ transit.attachments }) (codes "tgw-1") (subnet 0) ≡ Some (att 1)
 
 -- of equally long routes of a transit table the static one is chosen, and of equal ones the first
 abbrev pub StaticRouteIsChosen : Type 0

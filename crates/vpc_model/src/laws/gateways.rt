@@ -1,5 +1,5 @@
 // What packets do at NAT gateways, peerings and transit gateways.
-ghost use Rattle.vpc_model.specs.Examples.{ReturnsThroughNat, LeavesThroughNat, ComesBackThroughNat, PortsDiffer, AnswersFindTheirHosts, PeeringIsNotTransitive, TransitForwards, TransitDrops, TransitLoops, LoopsByPlace, AttachmentIsJudged};
+ghost use Rattle.vpc_model.specs.Examples.{ReturnsThroughNat, LeavesThroughNat, ComesBackThroughNat, PortsDiffer, PortsAreGivenInOrder, AnswersMeetTheAcl, AnswersFindTheirHosts, PeeringIsNotTransitive, TransitForwards, TransitDrops, TransitLoops, LoopsByPlace, AttachmentIsJudged};
 
 /// A request to the internet gets through a NAT gateway, and its reply returns.
 pub fn returns_through_nat()
@@ -54,4 +54,14 @@ pub fn loops_by_place()
 /// The network ACL of a transit gateway's subnet judges packets also inside that subnet.
 pub fn judges_at_the_attachment()
     ensures { AttachmentIsJudged }
+{}
+
+/// Which port a NAT gateway gives.
+pub fn gives_ports_in_order()
+    ensures { PortsAreGivenInOrder }
+{}
+
+/// The ACL of a NAT gateway's subnet judges answers by their translated port.
+pub fn judges_answers_before_translation()
+    ensures { AnswersMeetTheAcl }
 {}

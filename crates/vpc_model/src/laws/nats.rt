@@ -1,5 +1,5 @@
 // Laws of NAT gateways.
-ghost use Rattle.vpc_model.specs.Laws.{AnswerFindsItsOpen, FreePortIsFree, FullGatewayStops, KnownOpenIsReused, NothingIsInOrder, StepKeepsBook};
+ghost use Rattle.vpc_model.specs.Laws.{AnswerFindsItsOpen, FreePortIsFree, FullGatewayStops, KnownOpenIsReused, NothingIsInOrder, RoomyGatewayTranslates, StepKeepsBook};
 
 /// A gateway finds a port while its translations towards a destination are fewer than the ports.
 pub fn finds_a_free_port()
@@ -30,4 +30,9 @@ pub fn reuses_a_translation()
 /// A gateway keeps 55,000 translations towards one destination.
 pub fn stops_at_a_full_gateway()
     ensures { FullGatewayStops }
+{}
+
+/// Below that it translates each new open.
+pub fn translates_while_there_is_room()
+    ensures { RoomyGatewayTranslates }
 {}

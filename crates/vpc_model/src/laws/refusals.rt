@@ -1,5 +1,5 @@
 // Where packets are stopped in small networks.
-ghost use Rattle.vpc_model.specs.Stops.{ChecksInterfaces, GatewaysHostNothing, ChecksRoutes, JudgesEntry, FindsFirstRule, CountsReferences, NeedsNoGroups, ChecksInternetGateways, ChecksNatGateways, ChecksPeerings, ChecksTransitEntry, ChecksTransitExit, LeavesByZone, StaticRouteIsChosen, ChecksReturns, LongWalksEnd};
+ghost use Rattle.vpc_model.specs.Stops.{ChecksInterfaces, GatewaysHostNothing, OwnsAllAddresses, JudgesExit, JudgesEveryEntry, PublicAddressesAreOfOneVpc, UnroutableBlocksEnd, EntersNamedGateway, ChecksRoutes, JudgesEntry, FindsFirstRule, CountsReferences, NeedsNoGroups, ChecksInternetGateways, ChecksNatGateways, ChecksPeerings, ChecksTransitEntry, ChecksTransitExit, LeavesByZone, StaticRouteIsChosen, ChecksReturns, LongWalksEnd};
 
 /// Idle interfaces, and the source/destination check.
 pub fn checks_interfaces()
@@ -79,4 +79,34 @@ pub fn checks_returns()
 /// A walk that would never end is stopped before its 65th place.
 pub fn ends_long_walks()
     ensures { LongWalksEnd }
+{}
+
+/// An interface owns all its private addresses.
+pub fn owns_all_addresses()
+    ensures { OwnsAllAddresses }
+{}
+
+/// Network ACLs judge what leaves a subnet, whatever the target.
+pub fn judges_exits()
+    ensures { JudgesExit }
+{}
+
+/// Network ACLs judge what enters a subnet, wherever it comes from.
+pub fn judges_entries()
+    ensures { JudgesEveryEntry }
+{}
+
+/// Public addresses are those of one VPC.
+pub fn keeps_public_addresses_apart()
+    ensures { PublicAddressesAreOfOneVpc }
+{}
+
+/// The ends of the blocks that the internet doesn't carry.
+pub fn ends_unroutable_blocks()
+    ensures { UnroutableBlocksEnd }
+{}
+
+/// The transit gateway that a route names is entered.
+pub fn enters_the_named_gateway()
+    ensures { EntersNamedGateway }
 {}

@@ -1,5 +1,5 @@
 // What packets do inside a VPC.
-ghost use Rattle.vpc_model.specs.Examples.{LongestRouteIsChosen, TiesAreByKind, LocalRouteIsChosen, LeastNumberDecides, IsDelivered, IsBlocked, GetsThrough, ReplyIsStopped, ReplyIsAllowed, MembersArePrivate, StrayIsStopped};
+ghost use Rattle.vpc_model.specs.Examples.{LongestRouteIsChosen, TiesAreByKind, LocalRouteIsChosen, LeastNumberDecides, PropagatedLocalCounts, RowsAreOfOneProtocol, AnswersAreTracked, RemembersOnce, IsDelivered, IsBlocked, GetsThrough, ReplyIsStopped, ReplyIsAllowed, MembersArePrivate, StrayIsStopped};
 
 /// The longest route is chosen, whether its target is there or gone.
 pub fn chooses_the_longest_route()
@@ -54,4 +54,24 @@ pub fn stops_a_stray_answer()
 /// The members of a group that a rule names are private addresses.
 pub fn counts_private_members_alone()
     ensures { MembersArePrivate }
+{}
+
+/// A propagated route to the VPC itself counts.
+pub fn counts_propagated_local_routes()
+    ensures { PropagatedLocalCounts }
+{}
+
+/// A row of a network ACL matches its protocol and range alone.
+pub fn matches_protocol_and_range()
+    ensures { RowsAreOfOneProtocol }
+{}
+
+/// An answer is tracked at the interface that its open passed, in the other direction.
+pub fn tracks_answers()
+    ensures { AnswersAreTracked }
+{}
+
+/// The same open twice makes one connection.
+pub fn remembers_once()
+    ensures { RemembersOnce }
 {}
