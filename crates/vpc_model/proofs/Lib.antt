@@ -4,3 +4,4 @@ pub mod Ports
 pub mod Books
 pub mod Walks
 pub mod Replies
+pub mod Same

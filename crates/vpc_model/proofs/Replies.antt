@@ -59,7 +59,7 @@ twins a b r k (echo pa qa pr sr xr) (other pb pk sk xk yk) same =
 twins a b r k (other pa pr sr xr yr) (echo pb qb pk sk xk) same =
     absurd (both_ways (a.proto == 1) pa (eq-eqb a.proto 1 (sym pr ∙ same.proto ∙ pk ∙ pb)))
 
-same_header-refl : (h : Header) → same_header h h ≡ true
+pub same_header-refl : (h : Header) → same_header h h ≡ true
 same_header-refl h =
     and_from (h.proto == h.proto) ((h.src == h.src) && ((h.dst == h.dst) && ((h.p == h.p) && (h.q == h.q)))) (eq-eqb h.proto h.proto refl)
     (and_from (h.src == h.src) ((h.dst == h.dst) && ((h.p == h.p) && (h.q == h.q))) (eq-eqb h.src h.src refl)

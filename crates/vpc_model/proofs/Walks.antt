@@ -1,5 +1,5 @@
 -- Walks: what each of their steps keeps, they keep.
-use Rattle.std.proofs.Common.{◌≡◌, ℕ, zero, suc, ◌+◌, ◌≤◌, ◌<◌, ◌^◌, ◌||◌, false, List, [], ◌∷◌, ◌++◌, Some, refl, ◌∙◌, sym, ap, arith, subst, length, length-append, append_assoc, inl, inr, ◌⊎◌}
+use Rattle.std.proofs.Common.{true, add-one, ◌≡◌, ℕ, zero, suc, ◌+◌, ◌≤◌, ◌<◌, ◌^◌, ◌||◌, false, List, [], ◌∷◌, ◌++◌, Some, refl, ◌∙◌, sym, ap, arith, subst, length, length-append, append_assoc, inl, inr, ◌⊎◌}
 use Rattle.std.specs.List.{list_any, IsDistinct, Contains}
 use Rattle.std.proofs.lemmas.Bool.{cond_both}
 use Rattle.std.proofs.lemmas.List.Elements.{Contains-append_left, Contains-push, Contains-push_cases}
@@ -11,7 +11,7 @@ use Rattle.vpc_model.specs.declared.outcomes.Outcome.TheVariants.{Stopped}
 use Rattle.vpc_model.specs.declared.places.Place.{Place}
 use Rattle.vpc_model.specs.declared.places.Place.TheVariants.{NatOut}
 use Rattle.vpc_model.specs.declared.rows.Description.{Description}
-use Rattle.vpc_model.specs.declared.stops.Stop.TheVariants.{Loop}
+use Rattle.vpc_model.specs.declared.stops.Stop.TheVariants.{Loop, TooFar}
 use Rattle.vpc_model.specs.Connections.{Connection}
 use Rattle.vpc_model.specs.Nat.{Translation}
 use Rattle.vpc_model.specs.Step.{Moment, Next, go, arrive, stop, step_of}
@@ -56,6 +56,24 @@ pub walk_of-keeps : (d : Description) (label : Label) (Good : Next → List Hop 
 walk_of-keeps d label Good keep m good =
     let s = step_of d label m in
     walk_on-keeps d label Good keep 63 (hop_at d label m ∷ []) m.header s.next s.conns s.nats good
+
+-- ---- one more place
+
+-- a new place, where more are allowed
+pub walk_on-goes_on : (d : Description) (label : Label) (n k : ℕ) (hops : List Hop) (h : Header) (m : Moment) → n ≡ k + 1 → is_visited hops m.place ≡ false
+    → let s = step_of d label m in walk_on d label n hops h (go m.place m.header) m.conns m.nats ≡ walk_on d label k (hops ++ hop_at d label m ∷ []) m.header s.next s.conns s.nats
+walk_on-goes_on d label n k hops h m e new = rw (e, add-one, new)
+
+-- a place that is there
+pub walk_on-loops : (d : Description) (label : Label) (n : ℕ) (hops : List Hop) (h : Header) (m : Moment) → is_visited hops m.place ≡ true
+    → walk_on d label n hops h (go m.place m.header) m.conns m.nats ≡ ended hops (Stopped (Loop m.place)) m.conns m.nats
+walk_on-loops d label zero hops h m there = rw there
+walk_on-loops d label (suc n) hops h m there = rw there
+
+-- a new place, where no more are allowed
+pub walk_on-goes_far : (d : Description) (label : Label) (hops : List Hop) (h : Header) (m : Moment) → is_visited hops m.place ≡ false
+    → walk_on d label 0 hops h (go m.place m.header) m.conns m.nats ≡ ended hops (Stopped (TooFar m.place)) m.conns m.nats
+walk_on-goes_far d label hops h m new = rw new
 
 -- ---- places
 

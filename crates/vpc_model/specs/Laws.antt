@@ -1,5 +1,6 @@
 -- Laws of steps and walks.
 use Rattle.std.specs.Prelude.{◌≡◌, ◌≤◌, ◌<◌, ◌^◌, ◌==◌, ◌&&◌, ◌⊎◌, Bool, true, false, List, [], ◌∷◌, ◌++◌, Option, Some, None, Contains, count_by, length, map}
+use Rattle.std.specs.Bool.{Decides}
 use Rattle.std.specs.List.{AllByRecursion, IsDistinct}
 use Rattle.vpc_base.specs.Header.{reply_of}
 use Rattle.vpc_base.specs.declared.headers.Header.{Header}
@@ -8,14 +9,16 @@ use Rattle.vpc_base.specs.declared.headers.Label.{Label}
 use Rattle.vpc_base.specs.declared.headers.Label.TheVariants.{Opening, Answer}
 use Rattle.vpc_model.specs.declared.numbers.NatNo.{NatNo}
 use Rattle.vpc_model.specs.declared.outcomes.Hop.{Hop}
+use Rattle.vpc_model.specs.declared.places.End.{End}
 use Rattle.vpc_model.specs.declared.places.Place.{Place}
 use Rattle.vpc_model.specs.declared.places.Place.TheVariants.{OutOf, Into, NatOut}
 use Rattle.vpc_model.specs.declared.rows.Description.{Description}
 use Rattle.vpc_model.specs.declared.stops.Stop.TheVariants.{NatFull}
-use Rattle.vpc_model.specs.Connections.{Connection, same_header}
+use Rattle.vpc_model.specs.Connections.{Connection, same_connection, same_header}
 use Rattle.vpc_model.specs.Lookup.{nat_at}
 use Rattle.vpc_model.specs.Nat.{Translation, inward, new_translation, translation_of, is_taken, is_translatable, shares, first_port, free_port}
 use Rattle.vpc_model.specs.Step.{from_nat, own_address, Moment, Next, go, arrive, stop, step_of}
+use Rattle.vpc_model.specs.Verdict.{same_end}
 use Rattle.vpc_model.specs.Walk.{walk_of, same_place}
 
 -- ---- words
@@ -142,6 +145,21 @@ NothingIsInOrder = IsBook []
 -- a step keeps what the NAT gateways keep in order
 abbrev pub StepKeepsBook : Type 0
 StepKeepsBook = (d : Description) (label : Label) (m : Moment) → m.header.p < 2 ^ 16 → IsBook m.nats → let s = step_of d label m in IsBook s.nats
+
+-- ---- laws of tests
+
+-- a place is met again only where all of it is the same, and so are headers and ends
+abbrev pub PlacesAreToldApart : Type 0
+PlacesAreToldApart = (p q : Place) → Decides (same_place p q) (p ≡ q)
+
+abbrev pub HeadersAreToldApart : Type 0
+HeadersAreToldApart = (a b : Header) → Decides (same_header a b) (a ≡ b)
+
+abbrev pub ConnectionsAreToldApart : Type 0
+ConnectionsAreToldApart = (a b : Connection) → Decides (same_connection a b) (a ≡ b)
+
+abbrev pub EndsAreToldApart : Type 0
+EndsAreToldApart = (a b : End) → Decides (same_end a b) (a ≡ b)
 
 -- ---- laws of a walk
 
