@@ -1,9 +1,8 @@
 -- Addresses and their texts.
-use Rattle.std.proofs.Common.{◌≡◌, ℕ, ◌/◌, ◌%◌, ◌^◌, ◌<◌, ◌==◌, false, List, [], ◌∷◌, ◌++◌, get_or, map, Option, Some, None, Result, Ok, Err, decimal, All, refl, sym, ap, ◌∙◌, arith, lit<, ne_eqb, append_assoc}
+use Rattle.std.proofs.Common.{◌≡◌, ◌≢◌, ℕ, ◌/◌, ◌%◌, ◌^◌, ◌<◌, ◌≤◌, ◌==◌, false, List, [], ◌∷◌, ◌++◌, length, get_or, Option, Some, None, decimal, codes, All, refl, sym, ap, ◌∙◌, arith, lit<, ne_eqb, append_assoc, length-append, map, Result, Ok, Err}
 use Rattle.std.proofs.lemmas.Option.{none-some, same_Some}
-use Rattle.std.proofs.lemmas.Fmt.{decimal_is_IsNumeral}
-use Rattle.std.proofs.lemmas.Str.Parse.{digit_at}
-use Rattle.std.proofs.lemmas.List.Elements.{All-from_get_or}
+use Rattle.std.proofs.lemmas.Fmt.{length-decimal-le}
+use Rattle.std.proofs.lemmas.List.Elements.{All-append, All-cons, All-nil}
 use Rattle.std.proofs.lemmas.List.Splits.{slice_split_at, slice_split_none, join_with_byte-slice_split}
 use Rattle.std.specs.List.{slice_split, join_with_byte}
 use Rattle.std.specs.Net.Text.{dotted_text}
@@ -15,15 +14,7 @@ use Rattle.std.specs.Net.Grammar.{IsIpv4Text, Parses}
 use Rattle.std.specs.declared.net.ipv4_addr.Ipv4Addr.{Ipv4Addr}
 use Rattle.prefix_text.specs.Number.{number_of}
 use Rattle.prefix_text.specs.Addr.{addr_at, addr_text, addr_of_octets, addr_of}
-use Rattle.prefix_text.proofs.NumberLaws.{number_of-decimal, number_of-Some}
-
--- no digit is this byte
-pub All-decimal : (n c : ℕ) → n < 2 ^ 64 → c < 48 → All (λ x. (x == c) ≡ false) (decimal n)
-All-decimal n c small other =
-    All-from_get_or (λ x. (x == c) ≡ false) (decimal n) 0 λ i h.
-    let digit = digit_at (decimal n) i (decimal_is_IsNumeral n small).0.1 h in
-    let apart : get_or (decimal n) i 0 ≡ c → ⊥ = λ same. omega (arith, digit.0) in
-    ne_eqb _ c apart
+use Rattle.prefix_text.proofs.NumberLaws.{number_of-decimal, number_of-Some, All-decimal}
 
 dotted_text-is : (a b c d : ℕ) → dotted_text a b c d ≡ decimal a ++ 46 ∷ (decimal b ++ 46 ∷ (decimal c ++ 46 ∷ decimal d))
 dotted_text-is a b c d = simp append_assoc
@@ -41,6 +32,30 @@ pub addr_of-dotted_text : (a b c d : ℕ) → a < 256 → b < 256 → c < 256 �
 addr_of-dotted_text a b c d fa fb fc fd =
     let octet = λ (n : ℕ) (fits : n < 256). number_of-decimal n 255 (omega arith) (omega arith) in
     rw (parts-dotted_text a b c d fa fb fc fd, octet a fa, octet b fb, octet c fc, octet d fd)
+
+-- an address's text has no such byte: no blank, no line end, no dash and no slash
+pub All-addr_text : (n c : ℕ) → n < 2 ^ 32 → c < 48 → c ≢ 46 → All (λ x. (x == c) ≡ false) (addr_text n)
+All-addr_text n c fits other no_dot =
+    let apart = λ (x : ℕ). (x == c) ≡ false in
+    let octet = λ (k : ℕ) (small : k < 256). All-decimal k c (omega arith) other in
+    let differs : 46 ≡ c → ⊥ = λ same. no_dot (sym same) in
+    let dot : All apart (codes ".") = All-cons apart 46 [] (ne_eqb 46 c differs) (All-nil apart) in
+    let a = octet (n / 2 ^ 24) (omega arith) in
+    let b = octet (n / 2 ^ 16 % 256) (omega arith) in
+    let c = octet (n / 2 ^ 8 % 256) (omega arith) in
+    let d = octet (n % 256) (omega arith) in
+    All-append apart _ _ (All-append apart _ _ (All-append apart _ _ (All-append apart _ _ (All-append apart _ _ (All-append apart _ _ a dot) b) dot) c) dot) d
+
+length-octet-le : (n : ℕ) → n < 256 → length (decimal n) ≤ 3
+length-octet-le n small = length-decimal-le 3 n (lit< tt) (omega arith) (omega arith)
+
+pub length-addr_text-le : (n : ℕ) → n < 2 ^ 32 → length (addr_text n) ≤ 15
+length-addr_text-le n fits =
+    let a = length-octet-le (n / 2 ^ 24) (omega arith) in
+    let b = length-octet-le (n / 2 ^ 16 % 256) (omega arith) in
+    let c = length-octet-le (n / 2 ^ 8 % 256) (omega arith) in
+    let d = length-octet-le (n % 256) (omega arith) in
+    simp length-append (omega arith)
 
 -- what is printed reads as what it was
 pub addr_of-addr_text : (n : ℕ) → n < 2 ^ 32 → addr_of (addr_text n) ≡ Some n

@@ -1,5 +1,5 @@
 -- Prefixes and their texts.
-use Rattle.std.proofs.Common.{◌≡◌, ℕ, ◌+◌, ◌-◌, ◌/◌, ◌%◌, pow_pos, ◌^◌, ◌<◌, ◌≤◌, ◌==◌, false, List, [], ◌∷◌, ◌++◌, length, Option, Some, None, decimal, All, codes, refl, sym, ap, ◌∙◌, arith, lit<, append_assoc, subst}
+use Rattle.std.proofs.Common.{length, length-append, codes, decimal, ◌++◌, ◌≡◌, ◌≢◌, ℕ, ◌-◌, ◌%◌, ◌^◌, ◌<◌, ◌≤◌, ◌==◌, false, List, [], ◌∷◌, Option, Some, None, All, refl, sym, ap, ◌∙◌, arith, lit<, ne_eqb, append_assoc, pow_pos, subst}
 use Rattle.std.proofs.lemmas.Option.{none-some, same_Some}
 use Rattle.std.proofs.lemmas.Fmt.{decimal_nonempty}
 use Rattle.std.proofs.lemmas.List.Elements.{All-append, All-cons, All-nil}
@@ -9,8 +9,8 @@ use Rattle.prefix_text.specs.Number.{number_of}
 use Rattle.prefix_text.specs.Addr.{addr_of, addr_text}
 use Rattle.prefix_text.specs.Block.{Block, IsBlock, IsPrefixText, block_of, block_text, cidr_text, prefix_of, size_of}
 use Rattle.prefix_text.proofs.Bounds.{block_of_is_block}
-use Rattle.prefix_text.proofs.NumberLaws.{number_of-decimal, number_of-Some}
-use Rattle.prefix_text.proofs.AddrLaws.{All-decimal, addr_of-addr_text, addr_of-Some}
+use Rattle.prefix_text.proofs.NumberLaws.{number_of-decimal, number_of-Some, All-decimal, two_digits}
+use Rattle.prefix_text.proofs.AddrLaws.{addr_of-addr_text, addr_of-Some, All-addr_text, length-addr_text-le}
 use Rattle.prefix_text.proofs.PartLemmas.{before_first-separator, after_first-separator, before_first-after_first}
 use Rattle.prefix_text.proofs.RangeLaws.{option_zip-Some}
 
@@ -19,22 +19,10 @@ option_map-Some : {A B P : Type 0} (f : A → B) (o : Option A) (y : B) → opti
 option_map-Some f None y e k = absurd (none-some y e)
 option_map-Some f (Some x) y e k = k x refl (same_Some (f x) y e)
 
--- no byte of an address's text is a slash
-All-addr_text : (n : ℕ) → n < 2 ^ 32 → All (λ x. (x == 47) ≡ false) (addr_text n)
-All-addr_text n fits =
-    let apart = λ (x : ℕ). (x == 47) ≡ false in
-    let octet = λ (k : ℕ) (small : k < 256). All-decimal k 47 (omega arith) (lit< tt) in
-    let dot : All apart (codes ".") = All-cons apart 46 [] refl (All-nil apart) in
-    let a = octet (n / 2 ^ 24) (omega arith) in
-    let b = octet (n / 2 ^ 16 % 256) (omega arith) in
-    let c = octet (n / 2 ^ 8 % 256) (omega arith) in
-    let d = octet (n % 256) (omega arith) in
-    All-append apart _ _ (All-append apart _ _ (All-append apart _ _ (All-append apart _ _ (All-append apart _ _ (All-append apart _ _ a dot) b) dot) c) dot) d
-
 -- what is printed reads as what it was, without the host bits
 pub prefix_of-cidr_text : (addr length : ℕ) → addr < 2 ^ 32 → length ≤ 32 → prefix_of (cidr_text addr length) ≡ Some (block_of addr length)
 prefix_of-cidr_text addr length fits short =
-    let apart = All-addr_text addr fits in
+    let apart = All-addr_text addr 47 fits (lit< tt) (λ same. omega arith) in
     let text : cidr_text addr length ≡ addr_text addr ++ 47 ∷ decimal length = append_assoc (addr_text addr) (47 ∷ []) (decimal length) in
     rw (text, before_first-separator 47 (addr_text addr) (decimal length) apart, after_first-separator 47 (addr_text addr) (decimal length) apart, addr_of-addr_text addr fits, number_of-decimal length 32 short (omega arith))
 
@@ -60,3 +48,19 @@ prefix_of-Some text b e =
     let spelled : text ≡ cidr_text p.0 p.1 = split ∙ rw (addr.0, len.0) (sym (append_assoc (addr_text p.0) (47 ∷ []) (decimal p.1))) in
     let block : IsBlock b = subst IsBlock around (block_of_is_block p.0 p.1 addr.1 len.1 (pow_pos (32 - p.1))) in
     (record { addr = p.0; length = p.1; addr_fits = addr.1; short = len.1; spelled = spelled; around = sym around }, block)
+
+-- a block's text has no such byte: no blank, no line end and no dash
+pub All-block_text : (b : Block) (c : ℕ) → IsBlock b → c < 48 → c ≢ 46 → c ≢ 47 → All (λ x. (x == c) ≡ false) (block_text b)
+All-block_text b c h other no_dot no_slash =
+    let apart = λ (x : ℕ). (x == c) ≡ false in
+    let differs : 47 ≡ c → ⊥ = λ same. no_slash (sym same) in
+    let slash : All apart (codes "/") = All-cons apart 47 [] (ne_eqb 47 c differs) (All-nil apart) in
+    let addr = All-addr_text b.first c (omega (arith, h.fits)) other no_dot in
+    All-append apart _ _ (All-append apart _ _ addr slash) (All-decimal b.length c (omega (arith, h.short)) other)
+
+pub length-block_text-le : (b : Block) → IsBlock b → length (block_text b) ≤ 18
+length-block_text-le b h =
+    let addr = length-addr_text-le b.first (omega (arith, h.fits)) in
+    let len = two_digits b.length h.short in
+    let front = addr_text b.first in
+    omega (arith, length-append (front ++ codes "/") (decimal b.length), length-append front (codes "/"))

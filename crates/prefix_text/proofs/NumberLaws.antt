@@ -1,9 +1,10 @@
 -- Numbers and their texts.
-use Rattle.std.proofs.Common.{◌≡◌, ℕ, ◌^◌, ◌<◌, ◌≤◌, ◌==◌, not, true, ◌||◌, List, length, get_or, Some, decimal, sym, ap, ◌∙◌, arith, lit<, inl, inr, le-leb, eq-eqb, ne_eqb, eqb-true}
+use Rattle.std.proofs.Common.{◌≡◌, ℕ, ◌^◌, ◌<◌, ◌≤◌, ◌==◌, false, true, List, length, get_or, Some, decimal, All, sym, ap, ◌∙◌, arith, lit<, ne_eqb, not, ◌||◌, inl, inr, le-leb, eq-eqb, eqb-true}
 use Rattle.std.proofs.lemmas.Bool.{and_parts, and_from, or_cases, or_left, or_right, not_from_false, not-true, eqb-false, leb-true, cases_lt, cond-true}
 use Rattle.std.proofs.lemmas.Option.{cond_some}
-use Rattle.std.proofs.lemmas.Fmt.{decimal_is_IsNumeral, decimal_digit, first_decimal, length-decimal-le, decimal-digits_value, digits_decimal, digits_value-decimal}
-use Rattle.std.proofs.lemmas.Str.Parse.{IsNumeralModel, numerals_by_value, tells_all_ascii_digits, digits_value_short}
+use Rattle.std.proofs.lemmas.Fmt.{decimal_is_IsNumeral, decimal_is_IsNumeral_wide, decimal_digit, first_decimal, length-decimal-le, decimal-digits_value, digits_decimal, digits_value-decimal}
+use Rattle.std.proofs.lemmas.List.Elements.{All-from_get_or}
+use Rattle.std.proofs.lemmas.Str.Parse.{digit_at, IsNumeralModel, numerals_by_value, tells_all_ascii_digits, digits_value_short}
 use Rattle.std.specs.Str.{all_ascii_digits}
 use Rattle.std.specs.Str.Parse.{digits_value}
 use Rattle.prefix_text.specs.Number.{is_number, number_of}
@@ -58,3 +59,11 @@ number_of-Some text max n e =
 -- a number below a hundred has two digits at most
 pub two_digits : (n : ℕ) → n ≤ 32 → length (decimal n) ≤ 2
 two_digits n fits = length-decimal-le 2 n (lit< tt) (omega arith) (omega arith)
+
+-- a number's text has no such byte: no blank, no line end, no dot, no dash and no slash
+pub All-decimal : (n c : ℕ) → n < 10 ^ 64 → c < 48 → All (λ x. (x == c) ≡ false) (decimal n)
+All-decimal n c small other =
+    All-from_get_or (λ x. (x == c) ≡ false) (decimal n) 0 λ i h.
+    let digit = digit_at (decimal n) i (decimal_is_IsNumeral_wide n small).0.1 h in
+    let apart : get_or (decimal n) i 0 ≡ c → ⊥ = λ same. omega (arith, digit.0) in
+    ne_eqb _ c apart

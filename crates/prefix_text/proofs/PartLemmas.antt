@@ -1,5 +1,5 @@
 -- The two parts of a text round a separator.
-use Rattle.std.proofs.Common.{◌≡◌, ℕ, ◌+◌, ◌-◌, ◌<◌, ◌≤◌, ◌==◌, true, false, List, [], ◌∷◌, ◌++◌, length, get_or, take, drop, Some, All, refl, sym, ap, ◌∙◌, arith, lt-ltb, eqb-true, add-one, take_at, drop_at, take-append-drop, length-append, length-drop, eq-eqb, append_assoc}
+use Rattle.std.proofs.Common.{◌≡◌, ℕ, ◌+◌, ◌<◌, ◌==◌, false, List, [], ◌∷◌, ◌++◌, length, get_or, take, drop, Some, All, refl, sym, ap, ◌∙◌, arith, lt-ltb, eqb-true, add-one, take_at, drop_at, take-append-drop, length-append, length-drop, eq-eqb, append_assoc}
 use Rattle.std.proofs.Math.Seq.{drop-cons, get_or-append_seam}
 use Rattle.std.proofs.lemmas.Bool.{cond-true}
 use Rattle.std.proofs.lemmas.List.{get_or_append_left}

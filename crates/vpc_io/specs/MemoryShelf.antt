@@ -16,5 +16,5 @@ abbrev pub take_fails : MemoryShelfState → List ℕ → Bool
 take_fails shelf name = list_any (λ n. nat_eq n (next_count shelf.calls)) shelf.failing || is_none (bytes_of shelf.files name)
 
 -- the state after the next call: the call is counted, and a fault exactly where it fails
-abbrev pub after_take : MemoryShelfState → List ℕ → MemoryShelfState
-after_take shelf name = record shelf { calls = next_count shelf.calls; faults = if take_fails shelf name then next_count shelf.faults else shelf.faults }
+abbrev pub state_after_take : MemoryShelfState → List ℕ → MemoryShelfState
+state_after_take shelf name = record shelf { calls = next_count shelf.calls; faults = if take_fails shelf name then next_count shelf.faults else shelf.faults }

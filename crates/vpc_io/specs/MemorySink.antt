@@ -17,11 +17,11 @@ abbrev pub write_fails : MemorySinkState → Bool
 write_fails sink = list_any (λ n. nat_eq n (next_count sink.calls)) sink.failing || nat_le sink.room (length sink.held)
 
 -- how many bytes of a piece of this length are taken, where the call doesn't fail
-abbrev pub taken_of : MemorySinkState → ℕ → ℕ
-taken_of sink len = min (min len sink.piece) (sink.room - length sink.held)
+abbrev pub taken_len : MemorySinkState → ℕ → ℕ
+taken_len sink len = min (min len sink.piece) (sink.room - length sink.held)
 
 -- the state after the next call: the call is counted, and either a fault is or bytes are added
-abbrev pub after_write : MemorySinkState → List ℕ → MemorySinkState
-after_write sink piece = if write_fails sink
+abbrev pub state_after_write : MemorySinkState → List ℕ → MemorySinkState
+state_after_write sink piece = if write_fails sink
     then record sink { calls = next_count sink.calls; faults = next_count sink.faults }
-    else record sink { calls = next_count sink.calls; held = sink.held ++ take (taken_of sink (length piece)) piece }
+    else record sink { calls = next_count sink.calls; held = sink.held ++ take (taken_len sink (length piece)) piece }

@@ -2,8 +2,8 @@
 use Rattle.std.specs.Prelude.{ℕ, List, Option, Some, None}
 
 -- nothing is told
-abbrev pub untold : Option (List ℕ)
-untold = None
+abbrev pub nothing_told : Option (List ℕ)
+nothing_told = None
 
 -- where bytes are told, this holds of them
 abbrev pub IfTold : Option (List ℕ) → (List ℕ → Type 0) → Type 0

@@ -2,7 +2,7 @@
 ghost use Rattle.std.specs.Prelude.{◌≡◌, ◌<◌, ◌≤◌, ◌+◌, ℕ, List, Option, length, vec_len, IfOk, OnOk};
 ghost use Rattle.vpc_io.specs.FileShelf.{faults_after};
 ghost use Rattle.vpc_io.specs.Rose.{Rose};
-ghost use Rattle.vpc_io.specs.Told.{IfTold, untold};
+ghost use Rattle.vpc_io.specs.Told.{IfTold, nothing_told};
 ghost use Rattle.std.specs.Io.KnownBytes.{Consumes, IsAtEnd};
 
 use crate::{Shelf, ShelfFault};
@@ -31,7 +31,9 @@ fn read_more<F: Read>(
     requires { 0 < length piece.old }
     ensures longer { IfOk result (λ n. vec_len bytes.new ≡ vec_len bytes.old + n) }
     ensures end { IfOk result (λ n. n ≡ 0 → IsAtEnd (F.remaining reader.new)) }
-    ensures consumed { OnOk result ((known : Option (List ℕ)) → Consumes known (F.remaining reader.old) bytes.old.items → Consumes known (F.remaining reader.new) bytes.new.items) }
+    ensures consumed { OnOk result ((known : Option (List ℕ))
+        → Consumes known (F.remaining reader.old) bytes.old.items
+        → Consumes known (F.remaining reader.new) bytes.new.items) }
     ensures no_length { result ≡ Err ShelfFault.TooLong → ⊥ }
 {
     match reader.read(piece) {
@@ -49,9 +51,11 @@ pub(crate) fn read_up_to<F: Read>(
     reader: &mut F,
     max: usize,
 ) -> Result<Vec<u8>, ShelfFault>
-    ensures whole { IfOk result (λ v. IfTold (F.remaining reader.old) (λ bytes. v.items ≡ bytes)) }
+    ensures whole { IfOk result
+        (λ v. IfTold (F.remaining reader.old) (λ bytes. v.items ≡ bytes)) }
     ensures within { IfOk result (λ v. length v.items ≤ max) }
-    ensures too_long { result ≡ Err ShelfFault.TooLong → IfTold (F.remaining reader.old) (λ bytes. max < length bytes) }
+    ensures too_long { result ≡ Err ShelfFault.TooLong
+        → IfTold (F.remaining reader.old) (λ bytes. max < length bytes) }
 {
     let mut piece = buffer(alloc, PIECE)?;
     let mut bytes = Vec::new(alloc);
@@ -65,8 +69,8 @@ pub(crate) fn read_up_to<F: Read>(
 
 /// Files of the system, by path. Nothing is told of their bytes.
 ///
-/// One count of faults stands for every name. It rises exactly where a call answers `Failed`: the system
-/// answered an error, as for a missing file.
+/// One count of faults stands for every name. It rises exactly where a call answers `Failed`: the
+/// system answered an error, as for a missing file.
 #[derive(Drop)]
 pub struct FileShelf<'a, R: Files> {
     runtime: &'a R,
@@ -89,18 +93,20 @@ impl<'a, R: Files> FileShelf<'a, R> {
 }
 
 impl<'a, R: Files> Shelf for FileShelf<'a, R> {
-    ghost told = { λ _ _. untold };
+    ghost told = { λ _ _. nothing_told };
 
     ghost faults = { λ s _. s };
 
     fn take(&mut self, alloc: Global, name: &str, max: usize) -> Result<Vec<u8>, ShelfFault>
-        ensures whole { IfOk result (λ v. IfTold untold (λ bytes. v.items ≡ bytes)) }
+        ensures whole { IfOk result (λ v. IfTold nothing_told (λ bytes. v.items ≡ bytes)) }
         ensures within { IfOk result (λ v. length v.items ≤ max) }
 
-        ensures failed_only_at_fault { result ≡ Err ShelfFault.Failed → Rose self.old self.new }
-        ensures too_long { result ≡ Err ShelfFault.TooLong → IfTold untold (λ bytes. max < length bytes) }
+        ensures failed_only_where_faults_rose { result ≡ Err ShelfFault.Failed
+            → Rose self.old self.new }
+        ensures too_long { result ≡ Err ShelfFault.TooLong
+            → IfTold nothing_told (λ bytes. max < length bytes) }
 
-        ensures told_stays { (n : List ℕ) → untold ≡ untold }
+        ensures told_stays { (n : List ℕ) → nothing_told ≡ nothing_told }
         ensures faults_never_fall { (n : List ℕ) → self.old ≤ self.new }
 
         ensures faults_exactly { self.new ≡ faults_after self.old result }

@@ -1,4 +1,5 @@
-//! The outside: where files come from and where text goes, as traits, with devices in memory and over the system.
+//! The outside: where files come from and where text goes, as traits, with devices in memory and over
+//! the system.
 #![tactic(auto)]
 
 mod file_shelf;

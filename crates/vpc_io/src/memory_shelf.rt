@@ -1,6 +1,6 @@
 // Shelves over files in memory.
 ghost use Rattle.std.specs.Prelude.{◌≡◌, ◌<◌, ◌≤◌, ◌↔◌, ℕ, List, Option, Some, None, [], length, IfOk, IsTrue, option_copied};
-ghost use Rattle.vpc_io.specs.MemoryShelf.{MemoryShelfState, take_fails, after_take};
+ghost use Rattle.vpc_io.specs.MemoryShelf.{MemoryShelfState, take_fails, state_after_take};
 ghost use Rattle.vpc_io.specs.Rose.{Rose};
 ghost use Rattle.vpc_io.specs.Shelf.{NamedBytes, files_of, bytes_of, bytes_or_empty};
 ghost use Rattle.vpc_io.specs.Told.{IfTold};
@@ -36,8 +36,8 @@ fn copy_of(alloc: Global, bytes: &[u8], max: usize) -> Result<Vec<u8>, ShelfFaul
 
 /// Files in memory, that fail at chosen calls.
 ///
-/// A call fails exactly where its number, from 1, is among `failing`, or no file has the name. Of two
-/// files with one name the first counts. One count of faults stands for every name.
+/// A call fails exactly where its number, from 1, is among those chosen, or no file has the name. Of
+/// two files with one name the first counts. One count of faults stands for every name.
 #[derive(Drop)]
 pub struct MemoryShelf {
     files: Vec<(Vec<u8>, Vec<u8>)>,
@@ -49,13 +49,23 @@ pub struct MemoryShelf {
 impl Model for MemoryShelf {
     ghost Value = { MemoryShelfState };
 
-    ghost view = { λ s. record { files = files_of s.files.items; failing = s.failing.items; calls = s.calls; faults = s.faults } };
+    ghost view = { λ s. record {
+      files = files_of s.files.items;
+      failing = s.failing.items;
+      calls = s.calls;
+      faults = s.faults;
+    } };
 }
 
 impl MemoryShelf {
-    /// A shelf with these files, by their names' bytes, that fails at the calls of these numbers, from 1.
+    /// A shelf with these files, by their names' bytes. It fails at the calls of these numbers, from 1.
     pub fn of(files: Vec<(Vec<u8>, Vec<u8>)>, failing: Vec<u64>) -> MemoryShelf
-        ensures { result ≡ record { files = files_of files.items; failing = failing.items; calls = 0; faults = 0 } }
+        ensures { result ≡ record {
+          files = files_of files.items;
+          failing = failing.items;
+          calls = 0;
+          faults = 0;
+        } }
     {
         MemoryShelf {
             files,
@@ -72,17 +82,22 @@ impl Shelf for MemoryShelf {
     ghost faults = { λ s _. s.faults };
 
     fn take(&mut self, alloc: Global, name: &str, max: usize) -> Result<Vec<u8>, ShelfFault>
-        ensures whole { IfOk result (λ v. IfTold (bytes_of self.old.files name.now) (λ bytes. v.items ≡ bytes)) }
+        ensures whole { IfOk result
+            (λ v. IfTold (bytes_of self.old.files name.now) (λ bytes. v.items ≡ bytes)) }
         ensures within { IfOk result (λ v. length v.items ≤ max) }
 
-        ensures failed_only_at_fault { result ≡ Err ShelfFault.Failed → Rose self.old.faults self.new.faults }
-        ensures too_long { result ≡ Err ShelfFault.TooLong → IfTold (bytes_of self.old.files name.now) (λ bytes. max < length bytes) }
+        ensures failed_only_where_faults_rose { result ≡ Err ShelfFault.Failed
+            → Rose self.old.faults self.new.faults }
+        ensures too_long { result ≡ Err ShelfFault.TooLong
+            → IfTold (bytes_of self.old.files name.now) (λ bytes. max < length bytes) }
 
-        ensures told_stays { (n : List ℕ) → bytes_of self.new.files n ≡ bytes_of self.old.files n }
+        ensures told_stays { (n : List ℕ)
+            → bytes_of self.new.files n ≡ bytes_of self.old.files n }
         ensures faults_never_fall { (n : List ℕ) → self.old.faults ≤ self.new.faults }
 
-        ensures fails_exactly { (result ≡ Err ShelfFault.Failed) ↔ IsTrue (take_fails self.old name.now) }
-        ensures state { self.new ≡ after_take self.old name.now }
+        ensures fails_exactly { (result ≡ Err ShelfFault.Failed)
+            ↔ IsTrue (take_fails self.old name.now) }
+        ensures state { self.new ≡ state_after_take self.old name.now }
     {
         self.calls = self.calls.saturating_add(1);
         let bytes = bytes_under(&self.files, name.as_bytes());
@@ -129,7 +144,8 @@ impl Shelf for SafeShelf {
         ensures within { IfOk result (λ v. length v.items ≤ max) }
 
         ensures never_fails { result ≡ Err ShelfFault.Failed → ⊥ }
-        ensures too_long { (result ≡ Err ShelfFault.TooLong) ↔ (max < length (bytes_or_empty self.old name.now)) }
+        ensures too_long { (result ≡ Err ShelfFault.TooLong)
+            ↔ (max < length (bytes_or_empty self.old name.now)) }
 
         ensures same { self.new ≡ self.old }
     {

@@ -1,9 +1,9 @@
 // Sinks in memory.
 ghost use Rattle.std.specs.Prelude.{◌≡◌, ◌<◌, ◌≤◌, ◌↔◌, ℕ, List, Option, Some, Ok, [], length, take, IfOk, OnErr, IsErr, IsTrue, vec_len, vec_capacity};
-ghost use Rattle.vpc_io.specs.MemorySink.{MemorySinkState, write_fails, taken_of, after_write};
+ghost use Rattle.vpc_io.specs.MemorySink.{MemorySinkState, write_fails, taken_len, state_after_write};
 ghost use Rattle.vpc_io.specs.Rose.{Rose};
-ghost use Rattle.vpc_io.specs.Sink.{added};
-ghost use Rattle.vpc_io.specs.Told.{untold};
+ghost use Rattle.vpc_io.specs.Sink.{with_text};
+ghost use Rattle.vpc_io.specs.Told.{nothing_told};
 
 use crate::{Sink, WriteFailed};
 use std::alloc::Global;
@@ -12,8 +12,8 @@ use vpc_base::NoMemory;
 
 /// A sink in memory of a fixed room, that fails at chosen calls.
 ///
-/// A write fails exactly where its number, from 1, is among `failing`, or no room is left. It takes at
-/// most `piece` bytes, and at most the room that is left.
+/// A write fails exactly where its number, from 1, is among those chosen, or no room is left. It takes
+/// at most a piece of a fixed length, and at most the room that is left.
 #[derive(Drop)]
 pub struct MemorySink {
     held: Vec<u8>,
@@ -27,10 +27,18 @@ pub struct MemorySink {
 impl Model for MemorySink {
     ghost Value = { MemorySinkState };
 
-    ghost view = { λ s. record { held = s.held.items; failing = s.failing.items; piece = s.piece; room = s.room; calls = s.calls; faults = s.faults } };
+    ghost view = { λ s. record {
+      held = s.held.items;
+      failing = s.failing.items;
+      piece = s.piece;
+      room = s.room;
+      calls = s.calls;
+      faults = s.faults;
+    } };
 
     // The room is reserved, so a write takes no memory.
-    ghost invariant = { λ s. (0 < s.piece) × (vec_len s.held ≤ s.room) × (s.room ≤ vec_capacity s.held) };
+    ghost invariant = { λ s. (0 < s.piece) × (vec_len s.held ≤ s.room)
+        × (s.room ≤ vec_capacity s.held) };
 }
 
 impl MemorySink {
@@ -43,7 +51,14 @@ impl MemorySink {
         room: usize,
     ) -> Result<MemorySink, NoMemory>
         requires { 0 < piece }
-        ensures { IfOk result (λ s. s ≡ record { held = []; failing = failing.items; piece = piece; room = room; calls = 0; faults = 0 }) }
+        ensures { IfOk result (λ s. s ≡ record {
+          held = [];
+          failing = failing.items;
+          piece = piece;
+          room = room;
+          calls = 0;
+          faults = 0;
+        }) }
     {
         let held = Vec::with_capacity(alloc, room)?;
         Ok(MemorySink {
@@ -74,15 +89,17 @@ impl Sink for MemorySink {
 
         ensures progress { IfOk result (λ n. 0 < n) }
         ensures within { IfOk result (λ n. n ≤ length piece.now) }
-        ensures added { IfOk result (λ n. Some self.new.held ≡ added (Some self.old.held) (take n piece.now)) }
+        ensures added { IfOk result
+            (λ n. Some self.new.held ≡ with_text (Some self.old.held) (take n piece.now)) }
 
         ensures nothing_added { OnErr result (Some self.new.held ≡ Some self.old.held) }
-        ensures failed_only_at_fault { OnErr result (Rose self.old.faults self.new.faults) }
+        ensures failed_only_where_faults_rose { OnErr result
+            (Rose self.old.faults self.new.faults) }
         ensures faults_never_fall { self.old.faults ≤ self.new.faults }
 
         ensures fails_exactly { IsErr result ↔ IsTrue (write_fails self.old) }
-        ensures taken { IfOk result (λ n. n ≡ taken_of self.old (length piece.now)) }
-        ensures state { self.new ≡ after_write self.old piece.now }
+        ensures taken { IfOk result (λ n. n ≡ taken_len self.old (length piece.now)) }
+        ensures state { self.new ≡ state_after_write self.old piece.now }
     {
         self.calls = self.calls.saturating_add(1);
         let left = self.room - self.held.len();
@@ -98,7 +115,8 @@ impl Sink for MemorySink {
     }
 }
 
-/// Takes every piece whole and keeps nothing of it. It never fails, so its count of faults is the constant 0.
+/// Takes every piece whole and keeps nothing of it. It never fails: its count of faults is the constant
+/// 0.
 #[derive(Clone, Copy, Debug, Default)]
 pub struct CountSink;
 
@@ -109,7 +127,7 @@ impl CountSink {
 }
 
 impl Sink for CountSink {
-    ghost held = { λ _. untold };
+    ghost held = { λ _. nothing_told };
 
     ghost faults = { λ _. 0 };
 

@@ -1,7 +1,7 @@
 // Where text goes.
 ghost use Rattle.std.specs.Prelude.{◌≡◌, ℕ, ◌<◌, ◌≤◌, List, Option, length, take, IfOk, OnOk, OnErr};
 ghost use Rattle.vpc_io.specs.Rose.{Rose};
-ghost use Rattle.vpc_io.specs.Sink.{added, AddsProperPrefix};
+ghost use Rattle.vpc_io.specs.Sink.{with_text, AddsProperPrefix};
 
 /// A sink took no byte of a piece. Its count of faults rose.
 #[derive(Clone, Copy, Debug, PartialEq, Eq)]
@@ -21,10 +21,12 @@ pub trait Sink {
 
         ensures progress { IfOk result (λ n. 0 < n) }
         ensures within { IfOk result (λ n. n ≤ length piece.now) }
-        ensures added { IfOk result (λ n. held self.new ≡ added (held self.old) (take n piece.now)) }
+        ensures added { IfOk result
+            (λ n. held self.new ≡ with_text (held self.old) (take n piece.now)) }
 
         ensures nothing_added { OnErr result (held self.new ≡ held self.old) }
-        ensures failed_only_at_fault { OnErr result (Rose (faults self.old) (faults self.new)) }
+        ensures failed_only_where_faults_rose { OnErr result
+            (Rose (faults self.old) (faults self.new)) }
         ensures faults_never_fall { faults self.old ≤ faults self.new };
 }
 
@@ -32,9 +34,11 @@ pub trait Sink {
 ///
 /// It stops at the first write that fails. An empty text needs no write.
 pub fn put_all<O: Sink>(out: &mut O, text: &[u8]) -> Result<(), WriteFailed>
-    ensures whole { OnOk result (O.held out.new ≡ added (O.held out.old) text.now) }
-    ensures proper_prefix { OnErr result (AddsProperPrefix (O.held out.old) (O.held out.new) text.now) }
-    ensures failed_only_at_fault { OnErr result (Rose (O.faults out.old) (O.faults out.new)) }
+    ensures whole { OnOk result (O.held out.new ≡ with_text (O.held out.old) text.now) }
+    ensures proper_prefix { OnErr result
+        (AddsProperPrefix (O.held out.old) (O.held out.new) text.now) }
+    ensures failed_only_where_faults_rose { OnErr result
+        (Rose (O.faults out.old) (O.faults out.new)) }
     ensures faults_never_fall { O.faults out.old ≤ O.faults out.new }
 {
     let mut at = 0;

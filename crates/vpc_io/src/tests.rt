@@ -1,4 +1,5 @@
-// What no clause says: that calls succeed with ample memory, and what the system's files and writers do.
+// What no clause says: that calls succeed with ample memory, and what the system's files and writers
+// do.
 ghost use Rattle.std.specs.Prelude.{◌≡◌, IsOk};
 ghost use Rattle.vpc_io.specs.Rose.{Rose};
 
@@ -37,7 +38,8 @@ fn is_taken(taken: Result<Vec<u8>, ShelfFault>, expected: Result<&str, ShelfFaul
 
 // What a generic caller knows of its shelf.
 fn take_from<S: Shelf>(alloc: Global, shelf: &mut S, name: &str) -> Result<Vec<u8>, ShelfFault>
-    ensures { result ≡ Err ShelfFault.Failed → Rose (S.faults shelf.old name.now) (S.faults shelf.new name.now) }
+    ensures { result ≡ Err ShelfFault.Failed
+        → Rose (S.faults shelf.old name.now) (S.faults shelf.new name.now) }
 {
     shelf.take(alloc, name, 9)
 }
@@ -49,7 +51,7 @@ fn take_safely(alloc: Global, shelf: &mut SafeShelf, name: &str) -> Result<Vec<u
     take_from(alloc, shelf, name)
 }
 
-// So does no such sink.
+// Nor does a sink whose count is the constant 0.
 fn count_text(text: &[u8]) -> Result<(), WriteFailed>
     ensures { IsOk result }
 {
