@@ -293,6 +293,17 @@ ChecksReturns =
     × ((verdict_of (record plain_vpc { groups = group (codes "sg-a") (codes "vpc-1") [] (allow_all ∷ []) ∷ group (codes "sg-b") (codes "vpc-1") (allow_all ∷ []) [] ∷ [] }) (AtInterface (eni 0)) (AtInterface (eni 1)) (record { proto = 1; src = v4 10 0 1 10; dst = v4 10 0 2 20; p = 0; q = 0 }) ≡ StoppedIn Reply (NoReply (AtInterface (eni 1))))
     × (verdict_of (record plain_vpc { groups = group (codes "sg-a") (codes "vpc-1") [] (allow_all ∷ []) ∷ group (codes "sg-b") (codes "vpc-1") (allow_all ∷ []) [] ∷ [] }) (AtInterface (eni 0)) (AtInterface (eni 1)) (record { proto = 1; src = v4 10 0 1 10; dst = v4 10 0 2 20; p = 0; q = 2048 }) ≡ Through)))
 
+-- a host whose check is off sends from its own public address inside the VPC; the reply comes back to it by way of the internet,
+-- and so from another address to another
+abbrev pub ChecksReturnedHeader : Type 0
+ChecksReturnedHeader =
+    let d = record published {
+      interfaces = record (host_with (codes "eni-a") (codes "subnet-a") (v4 10 0 1 10) (Some (v4 203 0 113 10)) (codes "sg-a")) { checked = false }
+          ∷ host_with (codes "eni-b") (codes "subnet-b") (v4 10 0 2 20) (Some (v4 203 0 113 20)) (codes "sg-b") ∷ [];
+      groups = group (codes "sg-a") (codes "vpc-1") (allow_all ∷ []) (allow_all ∷ []) ∷ group (codes "sg-b") (codes "vpc-1") (https_from anywhere ∷ []) [] ∷ [];
+    } in
+    verdict_of d (AtInterface (eni 0)) (AtInterface (eni 1)) (tcp (v4 203 0 113 10) (v4 10 0 2 20) 5000 443) ≡ StoppedIn Reply (WrongReturn (AtInterface (eni 0)))
+
 -- ---- long walks
 
 -- the id of the VPC, the subnet, the attachment and the tables of the site with this number

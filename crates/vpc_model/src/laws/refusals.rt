@@ -1,5 +1,5 @@
 // Where packets are stopped in small networks.
-ghost use Rattle.vpc_model.specs.Stops.{ChecksInterfaces, GatewaysHostNothing, OwnsAllAddresses, JudgesExit, JudgesEveryEntry, PublicAddressesAreOfOneVpc, UnroutableBlocksEnd, EntersNamedGateway, ChecksRoutes, JudgesEntry, FindsFirstRule, CountsReferences, NeedsNoGroups, ChecksInternetGateways, ChecksNatGateways, ChecksPeerings, ChecksTransitEntry, ChecksTransitExit, LeavesByZone, StaticRouteIsChosen, ChecksReturns, LongWalksEnd};
+ghost use Rattle.vpc_model.specs.Stops.{ChecksInterfaces, GatewaysHostNothing, OwnsAllAddresses, JudgesExit, JudgesEveryEntry, PublicAddressesAreOfOneVpc, UnroutableBlocksEnd, EntersNamedGateway, ChecksRoutes, JudgesEntry, FindsFirstRule, CountsReferences, NeedsNoGroups, ChecksInternetGateways, ChecksNatGateways, ChecksPeerings, ChecksTransitEntry, ChecksTransitExit, LeavesByZone, StaticRouteIsChosen, ChecksReturns, ChecksReturnedHeader, LongWalksEnd};
 
 /// Idle interfaces, and the source/destination check.
 pub fn checks_interfaces()
@@ -109,4 +109,9 @@ pub fn ends_unroutable_blocks()
 /// The transit gateway that a route names is entered.
 pub fn enters_the_named_gateway()
     ensures { EntersNamedGateway }
+{}
+
+/// A reply that comes back changed.
+pub fn checks_the_returned_header()
+    ensures { ChecksReturnedHeader }
 {}
