@@ -1,5 +1,5 @@
 -- Walks: what each of their steps keeps, they keep.
-use Rattle.std.proofs.Common.{true, add-one, ◌≡◌, ℕ, zero, suc, ◌+◌, ◌≤◌, ◌<◌, ◌^◌, ◌||◌, false, List, [], ◌∷◌, ◌++◌, Some, refl, ◌∙◌, sym, ap, arith, subst, length, length-append, append_assoc, inl, inr, ◌⊎◌}
+use Rattle.std.proofs.Common.{Bool, true, add-one, ◌≡◌, ℕ, zero, suc, ◌+◌, ◌≤◌, ◌<◌, ◌^◌, ◌||◌, false, List, [], ◌∷◌, ◌++◌, Some, refl, ◌∙◌, sym, ap, arith, subst, length, length-append, append_assoc, inl, inr, ◌⊎◌}
 use Rattle.std.specs.List.{list_any, IsDistinct, Contains}
 use Rattle.std.proofs.lemmas.Bool.{cond_both}
 use Rattle.std.proofs.lemmas.List.Elements.{Contains-append_left, Contains-push, Contains-push_cases}
@@ -16,7 +16,7 @@ use Rattle.vpc_model.specs.Connections.{Connection}
 use Rattle.vpc_model.specs.Nat.{Translation}
 use Rattle.vpc_model.specs.Step.{Moment, Next, go, arrive, stop, step_of}
 use Rattle.vpc_model.specs.Walk.{Walk, ended, is_visited, same_place, walk_of, walk_on}
-use Rattle.vpc_model.specs.Laws.{AddsOwn, AddsTranslation, Begins, IsBook, own_connection, places_of}
+use Rattle.vpc_model.specs.Laws.{AddsOwn, AddsTranslation, Begins, IsBook, is_rewriting, own_connection, places_of}
 use Rattle.vpc_model.proofs.Books.{IsDistinct-push_new, step_keeps_book}
 use Rattle.vpc_model.proofs.Flow.{Flows, step_at-flow}
 use Rattle.vpc_model.proofs.Growth.{answer_adds_nothing, step_adds_own, step_adds_translation, step_keeps}
@@ -215,17 +215,17 @@ NextFits (go p k) = k.p < 2 ^ 16
 NextFits (arrive end) = Unit {0}
 NextFits (stop s) = Unit {0}
 
-Flows-NextFits : (h : Header) (x : Next) → Flows h x → h.p < 2 ^ 16 → NextFits x
-Flows-NextFits h (go p k) flow fits = flow.p fits
-Flows-NextFits h (arrive end) flow fits = tt
-Flows-NextFits h (stop s) flow fits = tt
+Flows-NextFits : (rewritten : Bool) (h : Header) (x : Next) → Flows rewritten h x → h.p < 2 ^ 16 → NextFits x
+Flows-NextFits rewritten h (go p k) flow fits = flow.p fits
+Flows-NextFits rewritten h (arrive end) flow fits = tt
+Flows-NextFits rewritten h (stop s) flow fits = tt
 
 abbrev InOrder : Next → List Hop → List Connection → List Translation → Type 0
 InOrder x hops conns nats = NextFits x × IsBook nats
 
 open-in_order : (d : Description) (m : Moment) → m.header.p < 2 ^ 16 → IsBook m.nats → let s = step_of d Opening m in NextFits s.next × IsBook s.nats
 open-in_order d m fits book =
-    (Flows-NextFits m.header (step_of d Opening m).next (step_at-flow d m.place m book.translations) fits, step_keeps_book d Opening m fits book)
+    (Flows-NextFits (is_rewriting m.place) m.header (step_of d Opening m).next (step_at-flow d m.place m book.translations) fits, step_keeps_book d Opening m fits book)
 
 InOrder-kept : (d : Description) → IsKept d Opening InOrder
 InOrder-kept d hops m new good = open-in_order d m good.0 good.1

@@ -11,7 +11,7 @@ use Rattle.vpc_model.specs.declared.numbers.NatNo.{NatNo}
 use Rattle.vpc_model.specs.declared.outcomes.Hop.{Hop}
 use Rattle.vpc_model.specs.declared.places.End.{End}
 use Rattle.vpc_model.specs.declared.places.Place.{Place}
-use Rattle.vpc_model.specs.declared.places.Place.TheVariants.{OutOf, Into, NatOut}
+use Rattle.vpc_model.specs.declared.places.Place.TheVariants.{OutOf, Into, IgwOut, IgwIn, NatOut, NatIn}
 use Rattle.vpc_model.specs.declared.rows.Description.{Description}
 use Rattle.vpc_model.specs.declared.stops.Stop.TheVariants.{NatFull}
 use Rattle.vpc_model.specs.Connections.{Connection, same_connection, same_header}
@@ -74,6 +74,20 @@ KeepsFlow h (go p k) = (k.proto ≡ h.proto) × (k.q ≡ h.q)
 KeepsFlow h (arrive end) = Unit {0}
 KeepsFlow h (stop s) = Unit {0}
 
+-- the same header comes next, if one does
+abbrev pub SendsSame : Header → Next → Type 0
+SendsSame h (go p k) = k ≡ h
+SendsSame h (arrive end) = Unit {0}
+SendsSame h (stop s) = Unit {0}
+
+-- the places that rewrite headers
+abbrev pub is_rewriting : Place → Bool
+is_rewriting (IgwOut v) = true
+is_rewriting (IgwIn v) = true
+is_rewriting (NatOut n) = true
+is_rewriting (NatIn n) = true
+is_rewriting _ = false
+
 abbrev pub places_of : List Hop → List Place
 places_of hops = map (λ h. h.place) hops
 
@@ -82,6 +96,10 @@ places_of hops = map (λ h. h.place) hops
 -- an open keeps its protocol and q
 abbrev pub OpenKeepsFlow : Type 0
 OpenKeepsFlow = (d : Description) (m : Moment) → AllByRecursion IsTranslation m.nats → let s = step_of d Opening m in KeepsFlow m.header s.next
+
+-- headers are rewritten at internet gateways and NAT gateways alone
+abbrev pub HeaderStays : Type 0
+HeaderStays = (d : Description) (label : Label) (m : Moment) → is_rewriting m.place ≡ false → let s = step_of d label m in SendsSame m.header s.next
 
 -- a step adds at most the connection of an open at its place, also where it then stops or arrives
 abbrev pub StepAddsOwn : Type 0

@@ -1,5 +1,5 @@
 // Laws of one step.
-ghost use Rattle.vpc_model.specs.Laws.{OpenKeepsFlow, StepAddsOwn, ConnectionsChangeAtInterfaces, StepAddsTranslation, StepKeeps, AnswerAddsNothing};
+ghost use Rattle.vpc_model.specs.Laws.{HeaderStays, OpenKeepsFlow, StepAddsOwn, ConnectionsChangeAtInterfaces, StepAddsTranslation, StepKeeps, AnswerAddsNothing};
 
 /// A step adds at most one connection: that of an open at the interface where it is. It is kept also
 /// where the packet is then stopped.
@@ -30,4 +30,9 @@ pub fn answer_adds_nothing()
 /// The protocol of an open, and its destination port or ICMP type, stay what they are.
 pub fn open_keeps_protocol_and_q()
     ensures { OpenKeepsFlow }
+{}
+
+/// Headers are rewritten at internet gateways and NAT gateways, and nowhere else.
+pub fn rewrites_at_gateways()
+    ensures { HeaderStays }
 {}
