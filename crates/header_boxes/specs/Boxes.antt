@@ -1,5 +1,5 @@
 -- Boxes of headers.
-use Rattle.std.specs.Prelude.{ℕ, ◌≡◌, ◌≤◌, ◌<◌, ◌+◌, ◌-◌, ◌*◌, ◌&&◌, nat_le, Bool, true}
+use Rattle.std.specs.Prelude.{ℕ, ◌≡◌, ◌≤◌, ◌+◌, ◌-◌, ◌*◌, ◌&&◌, nat_le, Bool, true, max, min}
 use Rattle.vpc_base.specs.declared.headers.Header.{Header}
 use Rattle.header_boxes.specs.declared.boxes.Box5.{Box5}
 
@@ -48,3 +48,17 @@ width r = r.1 + 1 - r.0
 -- how many headers the box holds
 abbrev pub volume_of : Box5 → ℕ
 volume_of b = width b.proto * (width b.src * (width b.dst * (width b.p * width b.q)))
+
+-- the numbers that two ranges share: from the greater beginning to the lesser end
+abbrev pub common_range : ℕ × ℕ → ℕ × ℕ → ℕ × ℕ
+common_range a b = (max a.0 b.0, min a.1 b.1)
+
+-- the ranges that the sides of two boxes share
+abbrev pub common_box : Box5 → Box5 → Box5
+common_box a b = record {
+  proto = common_range a.proto b.proto;
+  src = common_range a.src b.src;
+  dst = common_range a.dst b.dst;
+  p = common_range a.p b.p;
+  q = common_range a.q b.q;
+}

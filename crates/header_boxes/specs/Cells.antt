@@ -1,5 +1,5 @@
 -- Cells: the parts into which cuts divide the sides of a box.
-use Rattle.std.specs.Prelude.{ℕ, ◌≡◌, ◌+◌, ◌*◌, ◌&&◌, nat_le, nat_lt, List, count_by}
+use Rattle.std.specs.Prelude.{◌≡◌, ◌⊎◌, Contains, ℕ, ◌+◌, ◌*◌, ◌&&◌, nat_le, nat_lt, List, count_by}
 use Rattle.std.specs.List.Sorted.{IsStrictlyIncreasing}
 use Rattle.vpc_base.specs.Cuts.{CutLists, IsSideAligned}
 use Rattle.vpc_base.specs.declared.headers.Header.{Header}
@@ -40,3 +40,11 @@ pub record IsAligned (cuts : CutLists) (part whole : Box5) : Type 0 where
   pub dst : IsSideAligned cuts.addr part.dst whole.dst
   pub p : IsSideAligned cuts.p part.p whole.p
   pub q : IsSideAligned cuts.q part.q whole.q
+
+-- each side of the part ends before a cut or where that side of the whole ends
+pub record EndsAligned (cuts : CutLists) (part whole : Box5) : Type 0 where
+  pub proto : (part.proto.1 ≡ whole.proto.1) ⊎ Contains cuts.proto (part.proto.1 + 1)
+  pub src : (part.src.1 ≡ whole.src.1) ⊎ Contains cuts.addr (part.src.1 + 1)
+  pub dst : (part.dst.1 ≡ whole.dst.1) ⊎ Contains cuts.addr (part.dst.1 + 1)
+  pub p : (part.p.1 ≡ whole.p.1) ⊎ Contains cuts.p (part.p.1 + 1)
+  pub q : (part.q.1 ≡ whole.q.1) ⊎ Contains cuts.q (part.q.1 + 1)

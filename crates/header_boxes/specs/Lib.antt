@@ -1,2 +1,5 @@
 pub mod Boxes
 pub mod Cells
+pub mod Rest
+pub mod Minus
+pub mod Laws

@@ -2,7 +2,16 @@
 #![tactic(auto)]
 
 mod boxes;
-mod cells;
+mod division;
+mod laws;
+mod products;
+mod rest;
+#[cfg(test)]
+mod tests;
 
 pub use boxes::Box5;
-pub use cells::Cuts;
+pub use division::{Cuts, aligned, cells};
+pub use laws::{
+    aligned_by_ends, aligned_cell, aligned_grows, aligned_transitive, box_holds_low, cell_number,
+    low_is_least, minus_aligned, minus_low_after, volume_is_positive, within_holds,
+};

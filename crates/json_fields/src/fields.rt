@@ -12,7 +12,7 @@ use serde_json::Value;
 use std::alloc::Global;
 use vpc_model::Id;
 
-/// A flag.
+/// A JSON `true` or `false`.
 pub fn flag_if(
     alloc: Global,
     row: &Value,
@@ -30,9 +30,9 @@ pub fn flag_if(
     }
 }
 
-/// A whole number from `lo` to `hi`. One that fits 64 bits, with a sign or without, and lies
-/// elsewhere is `BadText`. A number with a fraction or an exponent, one past 64 bits and `-0` are
-/// `WrongShape`.
+/// A whole number from `lo` to `hi`, both included. One that fits 64 bits, with a sign or without,
+/// and lies elsewhere is `BadText`. A number with a fraction or an exponent, one past 64 bits and
+/// `-0` are `WrongShape`.
 pub fn number_if(
     alloc: Global,
     row: &Value,
@@ -71,7 +71,7 @@ fn str_if<'a>(
     }
 }
 
-/// Any text.
+/// Any text, copied. No grammar is asked of it.
 pub fn text_if(
     alloc: Global,
     row: &Value,
@@ -96,7 +96,8 @@ fn id_in(alloc: Global, text: &str, path: &Path, field: &str) -> Result<Id, Fiel
     }
 }
 
-/// An id, which must be there.
+/// An id, which must be there: 1 to 256 visible ASCII characters. It is `WrongShape` where the member
+/// is absent or null.
 pub fn id_at(alloc: Global, row: &Value, path: &Path, field: &str) -> Result<Id, FieldFault>
     ensures { Reads (λ x. x) (id_of (view row.now) path.now field.now) result }
 {
@@ -107,7 +108,7 @@ pub fn id_at(alloc: Global, row: &Value, path: &Path, field: &str) -> Result<Id,
     }
 }
 
-/// An id.
+/// An id: 1 to 256 visible ASCII characters.
 pub fn id_if(alloc: Global, row: &Value, path: &Path, field: &str) -> Result<Option<Id>, FieldFault>
     ensures { Reads (λ x. x) (id_if_of (view row.now) path.now field.now) result }
 {
@@ -118,7 +119,7 @@ pub fn id_if(alloc: Global, row: &Value, path: &Path, field: &str) -> Result<Opt
     }
 }
 
-/// An IPv4 address in dotted decimal notation.
+/// An IPv4 address in dotted decimal notation, the high byte first.
 pub fn addr_if(
     alloc: Global,
     row: &Value,

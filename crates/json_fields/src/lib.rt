@@ -1,6 +1,9 @@
 //! Readers of the members of JSON objects: the value, or a fault that names its place.
 //!
-//! A reader whose name ends in `_if` takes a member that is absent or null for none.
+//! A reader whose name ends in `_if` takes a member that is absent or null for none, and one that
+//! ends in `_at` asks that it is there. Every member that is there must be of the reader's JSON kind,
+//! or it is `WrongShape`; a text outside the grammar, or a number out of range, is `BadText`. Which
+//! texts and numbers are taken is this project's profile of what the EC2 API's Describe calls print.
 #![tactic(auto)]
 
 mod bundle;
@@ -16,3 +19,6 @@ pub use fields::{addr_if, flag_if, id_at, id_if, number_if, prefix_if, text_if};
 pub use members::{list_if, member};
 pub use path::Path;
 pub use texts::OwnText;
+
+#[cfg(test)]
+mod tests;

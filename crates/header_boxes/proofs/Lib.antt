@@ -1,0 +1,10 @@
+pub mod Ranges
+pub mod Rests
+pub mod Order
+pub mod Held
+pub mod Left
+pub mod SideProducts
+pub mod Pieces
+pub mod CellNumbers
+pub mod BoxLaws
+pub mod Codes
