@@ -1,1 +1,3 @@
 pub mod Cover
+pub mod Corner
+pub mod Open

@@ -2,8 +2,13 @@
 //! hold all headers, each with the one word that all its headers have.
 #![tactic(auto)]
 
+mod corner;
+mod open;
 mod probe;
 mod rows;
+pub mod search;
+#[cfg(test)]
+mod tests;
 
 pub use probe::Probe;
 pub use rows::{Cover, Row};

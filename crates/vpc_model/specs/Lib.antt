@@ -14,6 +14,7 @@ pub mod Transit
 pub mod Step
 pub mod Walk
 pub mod Verdict
+pub mod Cuts
 pub mod Text
 pub mod Laws
 pub mod Networks

@@ -1,0 +1,252 @@
+-- Open boxes and rows that split the sides.
+use Rattle.std.proofs.Common.{◌≡◌, ◌≢◌, ◌≤◌, ◌<◌, ◌+◌, ℕ, Bool, true, false, List, [], ◌∷◌, ◌++◌, Option, Some, None, All, get_or, length, sym, ap, ◌∙◌, subst, arith, sum_by}
+use Rattle.std.proofs.lemmas.List.Elements.{All-nil, All-cons, All-push, All-head, All-tail, All-append, All-weaker}
+use Rattle.std.proofs.lemmas.List.Folds.{Any-from_list_any}
+use Rattle.std.proofs.lemmas.List.Quantifiers.{all_pairs_push}
+use Rattle.std.proofs.lemmas.List.Sorted.{All-permutation, sum_by-IsPermutation}
+use Rattle.std.proofs.lemmas.List.Sums.{sum_by-append, sum_by-cons}
+use Rattle.std.specs.Option.{is_some}
+use Rattle.std.specs.List.Sorted.{IsPermutation}
+use Rattle.vpc_base.specs.Header.{IsBefore}
+use Rattle.vpc_base.specs.Cuts.{CutLists}
+use Rattle.vpc_base.specs.declared.headers.Header.{Header}
+use Rattle.header_boxes.specs.Boxes.{holds, IsValid, IsWithin, AreDisjoint, low_of, volume_of}
+use Rattle.header_boxes.specs.Cells.{IsAligned}
+use Rattle.header_boxes.specs.declared.boxes.Box5.{Box5}
+use Rattle.header_boxes.proofs.BoxLaws.{low_is_least, volume_is_positive}
+use Rattle.header_boxes.proofs.CellNumbers.{aligned_through, aligned_to_itself}
+use Rattle.header_boxes.proofs.Held.{holds_low, holds_whole, valid_if_within, within_itself}
+use Rattle.ordered_cover.specs.Cover.{IsFirstThrough, NoneThrough, HasWord, is_covered, AreWhole, IsBlocked, IsMore}
+use Rattle.ordered_cover.specs.Open.{one_if, holders, row_holders, IsLeast, IsAsked, AreSplit, AreSplitBySome}
+use Rattle.ordered_cover.specs.declared.rows.Row.{Row}
+use Rattle.ordered_cover.proofs.Lists.{one_at, any_from_one, none_from_zero, zero_from_all}
+use Rattle.ordered_cover.proofs.Order.{before_trans, before_upto, before_other}
+use Rattle.ordered_cover.proofs.Boxes.{within_trans}
+use Rattle.ordered_cover.proofs.Cells.{more_cells}
+
+at_most_one : (b : Bool) → one_if b ≤ 1
+at_most_one true = omega arith
+at_most_one false = omega arith
+
+one_for : (b : Bool) → b ≡ true → one_if b ≡ 1
+one_for b h = ap one_if h
+
+some_none : {W : Type 0} (o : Option W) (w : W) → o ≡ Some w → o ≢ None
+some_none o w e n = let k = sym e ∙ n in absurd (cc)
+
+holder_at : (boxes : List Box5) (h : Header) (k : ℕ) (d : Box5) → k < length boxes → holds h (get_or boxes k d) ≡ true → 1 ≤ holders boxes h
+holder_at boxes h = one_at (holds h) boxes
+
+row_holder_at : {W : Type 0} (rows : List (Row W)) (h : Header) (k : ℕ) (d : Row W) → k < length rows → holds h (get_or rows k d).part ≡ true → 1 ≤ row_holders rows h
+row_holder_at rows h = one_at (λ r. holds h r.part) rows
+
+-- a header before all open boxes is in no open box
+none_open : (open_boxes : List Box5) (b : Box5) → IsLeast b open_boxes → (k : Header) → IsBefore k (low_of b) → holders open_boxes k ≡ 0
+none_open open_boxes b least k before =
+    zero_from_all (holds k) open_boxes (λ i d lt h. least i d lt (before_upto k (low_of (get_or open_boxes i d)) (low_of b) (low_is_least (get_or open_boxes i d) k h) before))
+
+-- a header in a row doesn't get through
+clear_in_rows : {W : Type 0} {meaning : Header → Option W} (rows : List (Row W)) → All (HasWord meaning) rows → (k : Header) → is_covered rows k ≡ true → meaning k ≢ None
+clear_in_rows {meaning = meaning} rows words k covered =
+    let a = Any-from_list_any (λ r. holds k r.part) rows covered in
+    some_none (meaning k) a.1.word (subst (HasWord meaning) a.3 (words a.0 a.1 a.2) k a.4)
+
+-- where rows hold every header none gets through
+pub none_through-from_blocked : {W : Type 0} {meaning : Header → Option W} {cuts : CutLists} {sides : Box5} {max : ℕ} {rows : List (Row W)}
+    → IsBlocked meaning cuts sides max rows → NoneThrough meaning sides
+none_through-from_blocked {rows = rows} blocked h inside = clear_in_rows rows blocked.are_true.word h (blocked.whole h inside)
+
+-- ---- the lists before and after the first open box is asked
+module _ {W : Type 0} {meaning : Header → Option W} {cuts : CutLists} {old new : List Box5} {part : Box5} {word : Option W} where
+  of_whole : (P : Box5 → Type 0) (a : IsAsked meaning cuts old new part word) → All P old → P a.whole
+  of_whole P a all = All-head P a.whole a.others (All-permutation P old (a.whole ∷ a.others) a.taken all)
+
+  of_others : (P : Box5 → Type 0) (a : IsAsked meaning cuts old new part word) → All P old → All P a.others
+  of_others P a all = All-tail P a.whole a.others (All-permutation P old (a.whole ∷ a.others) a.taken all)
+
+  of_new : (P : Box5 → Type 0) (a : IsAsked meaning cuts old new part word) → All P a.others → All P a.pieces → All P new
+  of_new P a others pieces = All-permutation P (a.others ++ a.pieces) new a.left (All-append P a.others a.pieces others pieces)
+
+  holders_old : (a : IsAsked meaning cuts old new part word) (h : Header) → holders old h ≡ one_if (holds h a.whole) + holders a.others h
+  holders_old a h = sym (sum_by-IsPermutation (λ b. one_if (holds h b)) old (a.whole ∷ a.others) a.taken) ∙ sum_by-cons (λ b. one_if (holds h b)) a.whole a.others
+
+  holders_new : (a : IsAsked meaning cuts old new part word) (h : Header) → holders new h ≡ holders a.others h + holders a.pieces h
+  holders_new a h = sum_by-IsPermutation (λ b. one_if (holds h b)) (a.others ++ a.pieces) new a.left ∙ sum_by-append (λ b. one_if (holds h b)) a.others a.pieces
+
+-- ---- what is known of a split
+module _ {W : Type 0} {meaning : Header → Option W} {cuts : CutLists} {sides : Box5} where
+  -- before anything was asked
+  pub split_at_start : IsValid sides → AreSplit meaning cuts sides (sides ∷ []) []
+  split_at_start v = record {
+    are_true = record { within = All-nil _; aligned = All-nil _; word = All-nil _; disjoint = λ i j d lt inside. absurd (omega arith); ascending = λ i j d lt inside. absurd (omega arith) };
+    each = λ h. let s = sum_by-cons (λ b. one_if (holds h b)) sides [] in omega (arith, s);
+    within = All-cons (λ b. IsWithin b sides) sides [] (within_itself sides v) (All-nil _);
+    aligned = All-cons (λ b. IsAligned cuts b sides) sides [] (aligned_to_itself cuts sides) (All-nil _);
+    begun = All-nil _;
+  }
+
+  -- a header before all open boxes is in a row
+  before_open : (open_boxes : List Box5) (rows : List (Row W)) → AreSplit meaning cuts sides open_boxes rows → (b : Box5) → IsLeast b open_boxes
+      → (k : Header) → holds k sides ≡ true → IsBefore k (low_of b) → is_covered rows k ≡ true
+  before_open open_boxes rows s b least k inside before =
+      let e = s.each k in let o = one_for (holds k sides) inside in let z = none_open open_boxes b least k before in
+      let some : 1 ≤ row_holders rows k = omega (arith, e, o, z) in
+      any_from_one (λ r. holds k r.part) rows some
+
+  -- where nothing is open the rows hold every header
+  pub whole_from_split : (open_boxes : List Box5) (rows : List (Row W)) → open_boxes ≡ [] → AreSplit meaning cuts sides open_boxes rows → AreWhole sides rows
+  whole_from_split open_boxes rows none s h inside =
+      let e = s.each h in let o = one_for (holds h sides) inside in
+      let z : holders open_boxes h ≡ 0 = ap (λ v. holders v h) none in
+      let some : 1 ≤ row_holders rows h = omega (arith, e, o, z) in
+      any_from_one (λ r. holds h r.part) rows some
+
+  pub none_from_split : (open_boxes : List Box5) (rows : List (Row W)) → open_boxes ≡ [] → AreSplit meaning cuts sides open_boxes rows → NoneThrough meaning sides
+  none_from_split open_boxes rows none s h inside = clear_in_rows rows s.are_true.word h (whole_from_split open_boxes rows none s h inside)
+
+  -- ---- the first open box is asked
+  module _ {old new : List Box5} {part : Box5} {rows : List (Row W)} where
+    -- the header of the part that comes first gets through, where any of the part does
+    pub found_from_asked : AreSplit meaning cuts sides old rows → IsAsked meaning cuts old new part None → IsFirstThrough meaning sides (low_of part)
+    found_from_asked s a =
+        let whole : IsWithin a.whole sides = of_whole (λ b. IsWithin b sides) a s.within in
+        let here : holds (low_of part) part ≡ true = holds_low part (valid_if_within part a.whole a.within) in
+        record {
+          inside = holds_whole (low_of part) part sides (within_trans part a.whole sides a.within whole) here;
+          through = a.means (low_of part) here;
+          first = λ k inside before. clear_in_rows rows s.are_true.word k (before_open old rows s a.whole a.least k inside (subst (IsBefore k) a.low before));
+        }
+
+    -- no other open box begins where the first begins
+    begins_elsewhere : {word : Option W} (s : AreSplit meaning cuts sides old rows) (a : IsAsked meaning cuts old new part word) → All (λ b. low_of a.whole ≢ low_of b) a.others
+    begins_elsewhere s a k d lt same =
+        let b = get_or a.others k d in
+        let within : IsWithin b sides = of_others (λ b. IsWithin b sides) a s.within k d lt in
+        let whole : IsWithin a.whole sides = of_whole (λ b. IsWithin b sides) a s.within in
+        let h = low_of a.whole in
+        let here = one_for (holds h a.whole) (holds_low a.whole (valid_if_within a.whole sides whole)) in
+        let there = holder_at a.others h k d lt (subst (λ v. holds v b ≡ true) (sym same) (holds_low b (valid_if_within b sides within))) in
+        let o = holders_old a h in let e = s.each h in let m = at_most_one (holds h sides) in
+        absurd (omega (arith, here, there, o, e, m))
+
+    -- the other open boxes begin after the part
+    others_after : {word : Option W} (s : AreSplit meaning cuts sides old rows) (a : IsAsked meaning cuts old new part word) → All (λ b. IsBefore (low_of part) (low_of b)) a.others
+    others_after s a k d lt =
+        let b = get_or a.others k d in
+        let least = of_others (λ o. ¬ (IsBefore (low_of o) (low_of a.whole))) a a.least k d lt in
+        subst (λ v. IsBefore v (low_of b)) (sym a.low) (before_other (low_of a.whole) (low_of b) least (begins_elsewhere s a k d lt))
+
+    -- the part becomes a row
+    pub split_after : (w : W) → AreSplit meaning cuts sides old rows → IsAsked meaning cuts old new part (Some w) → AreSplit meaning cuts sides new (rows ++ record { part = part; word = w } ∷ [])
+    split_after w s a =
+        let row : Row W = record { part = part; word = w } in
+        let whole : IsWithin a.whole sides = of_whole (λ b. IsWithin b sides) a s.within in
+        let whole_aligned : IsAligned cuts a.whole sides = of_whole (λ b. IsAligned cuts b sides) a s.aligned in
+        let whole_after : All (λ (r : Row W). IsBefore (low_of r.part) (low_of part)) rows =
+        (λ k d lt. subst (IsBefore (low_of (get_or rows k d).part)) (sym a.low) (of_whole (λ b. IsBefore (low_of (get_or rows k d).part) (low_of b)) a (s.begun k d lt))) in
+        let in_no_row : (k : ℕ) (d : Row W) → k < length rows → AreDisjoint (get_or rows k d).part part =
+        (λ k d lt h in_row in_part.
+        let r = row_holder_at rows h k d lt in_row in
+        let here = one_for (holds h a.whole) (holds_whole h part a.whole a.within in_part) in
+        let o = holders_old a h in let e = s.each h in let m = at_most_one (holds h sides) in
+        absurd (omega (arith, r, here, o, e, m))) in
+        record {
+          are_true = record {
+            within = All-push (λ r. IsWithin r.part sides) rows row s.are_true.within (within_trans part a.whole sides a.within whole);
+            aligned = All-push (λ r. IsAligned cuts r.part sides) rows row s.are_true.aligned (aligned_through cuts part a.whole sides a.aligned whole_aligned);
+            word = All-push (HasWord meaning) rows row s.are_true.word a.means;
+            disjoint = all_pairs_push (λ x y. AreDisjoint x.part y.part) rows row s.are_true.disjoint in_no_row;
+            ascending = all_pairs_push (λ x y. IsBefore (low_of x.part) (low_of y.part)) rows row s.are_true.ascending whole_after;
+          };
+          each = λ h.
+              let n = holders_new a h in let o = holders_old a h in let e = s.each h in let p = a.rest.each h in
+              let r1 = sum_by-append (λ (r : Row W). one_if (holds h r.part)) rows (row ∷ []) in
+              omega (arith, n, o, e, p, r1);
+          within = of_new (λ b. IsWithin b sides) a (of_others (λ b. IsWithin b sides) a s.within)
+              (All-weaker (λ b. IsWithin b a.whole) (λ b. IsWithin b sides) (λ b v. within_trans b a.whole sides v whole) a.pieces a.rest.within);
+          aligned = of_new (λ b. IsAligned cuts b sides) a (of_others (λ b. IsAligned cuts b sides) a s.aligned)
+              (All-weaker (λ b. IsAligned cuts b a.whole) (λ b. IsAligned cuts b sides) (λ b v. aligned_through cuts b a.whole sides v whole_aligned) a.pieces a.rest.aligned);
+          begun = All-push (λ r. All (λ b. IsBefore (low_of r.part) (low_of b)) new) rows row
+              (λ k d lt.
+              let P : Box5 → Type 0 = (λ b. IsBefore (low_of (get_or rows k d).part) (low_of b)) in
+              of_new P a (of_others P a (s.begun k d lt))
+              (All-weaker (λ b. IsBefore (low_of part) (low_of b)) P (λ b v. before_trans (low_of (get_or rows k d).part) (low_of part) (low_of b) (whole_after k d lt) v) a.pieces a.rest.after))
+              (of_new (λ b. IsBefore (low_of part) (low_of b)) a (others_after s a) a.rest.after);
+        }
+
+-- ---- volumes
+-- the open boxes hold fewer headers once one was asked
+pub volume_falls : {W : Type 0} {meaning : Header → Option W} {cuts : CutLists} {old new : List Box5} {part : Box5} {word : Option W}
+    → IsAsked meaning cuts old new part word → sum_by volume_of new < sum_by volume_of old
+volume_falls {old = old} {new = new} {part = part} a =
+    let t = sum_by-IsPermutation volume_of old (a.whole ∷ a.others) a.taken in
+    let c = sum_by-cons volume_of a.whole a.others in
+    let l = sum_by-IsPermutation volume_of (a.others ++ a.pieces) new a.left in
+    let s = sum_by-append volume_of a.others a.pieces in
+    let r = a.rest.volume in
+    let v = volume_is_positive part (valid_if_within part a.whole a.within) in
+    omega (arith, t, c, l, s, r, v)
+
+pub valid_from_split : {W : Type 0} {meaning : Header → Option W} {cuts : CutLists} {sides : Box5} {open_boxes : List Box5} {rows : List (Row W)}
+    → AreSplit meaning cuts sides open_boxes rows → All IsValid open_boxes
+valid_from_split {sides = sides} {open_boxes = open_boxes} s = All-weaker (λ b. IsWithin b sides) IsValid (λ b v. valid_if_within b sides v) open_boxes s.within
+
+-- ---- a search that keeps no rows
+module _ {W : Type 0} {meaning : Header → Option W} {cuts : CutLists} {sides : Box5} where
+  pub some_at_start : IsValid sides → AreSplitBySome meaning cuts sides (sides ∷ [])
+  some_at_start v = record { rows = []; split = split_at_start v }
+
+  pub some_valid : {open_boxes : List Box5} → AreSplitBySome meaning cuts sides open_boxes → All IsValid open_boxes
+  some_valid s = valid_from_split s.split
+
+  pub some_found : {old new : List Box5} {part : Box5} {word : Option W} → AreSplitBySome meaning cuts sides old → IsAsked meaning cuts old new part word → is_some word ≡ false
+      → IsFirstThrough meaning sides (low_of part)
+  some_found {word = None} s a e = found_from_asked s.split a
+  some_found {word = Some w} s a e = absurd (cc)
+
+  pub some_after : {old new : List Box5} {part : Box5} {word : Option W} → AreSplitBySome meaning cuts sides old → IsAsked meaning cuts old new part word → is_some word ≡ true
+      → AreSplitBySome meaning cuts sides new
+  some_after {word = None} s a e = absurd (cc)
+  some_after {part = part} {word = Some w} s a e = record { rows = s.rows ++ record { part = part; word = w } ∷ []; split = split_after w s.split a }
+
+  pub some_none_through : {open_boxes : List Box5} → open_boxes ≡ [] → AreSplitBySome meaning cuts sides open_boxes → NoneThrough meaning sides
+  some_none_through {open_boxes = open_boxes} none s = none_from_split open_boxes s.rows none s.split
+
+-- ---- a search that keeps rows
+module _ {W : Type 0} {meaning : Header → Option W} {cuts : CutLists} {sides : Box5} where
+  pub blocked_from_split : {open_boxes : List Box5} {rows : List (Row W)} (max : ℕ) → AreSplit meaning cuts sides open_boxes rows → open_boxes ≡ [] → length rows ≤ max
+      → IsBlocked meaning cuts sides max rows
+  blocked_from_split {open_boxes = open_boxes} {rows = rows} max s none few = record { are_true = s.are_true; whole = whole_from_split open_boxes rows none s; few = few }
+
+  -- the first open box begins at the first header outside the rows
+  pub more_from_split : {open_boxes others : List Box5} {rows : List (Row W)} (max : ℕ) (b : Box5) → AreSplit meaning cuts sides open_boxes rows
+      → IsPermutation open_boxes (b ∷ others) → IsLeast b open_boxes → length rows ≡ max → IsMore meaning cuts sides max rows (low_of b)
+  more_from_split {open_boxes = open_boxes} {others = others} {rows = rows} max b s taken least count =
+      let within : IsWithin b sides = All-head (λ o. IsWithin o sides) b others (All-permutation (λ o. IsWithin o sides) open_boxes (b ∷ others) taken s.within) in
+      let here : holds (low_of b) b ≡ true = holds_low b (valid_if_within b sides within) in
+      let e = s.each (low_of b) in
+      let m = at_most_one (holds (low_of b) sides) in
+      let o : holders open_boxes (low_of b) ≡ holders (b ∷ others) (low_of b) = sym (sum_by-IsPermutation (λ x. one_if (holds (low_of b) x)) open_boxes (b ∷ others) taken) in
+      let c = sum_by-cons (λ x. one_if (holds (low_of b) x)) b others in
+      let one = one_for (holds (low_of b) b) here in
+      let zero_rows : row_holders rows (low_of b) ≡ 0 = omega (arith, e, m, o, c, one) in
+      let covered : (k : Header) → holds k sides ≡ true → IsBefore k (low_of b) → is_covered rows k ≡ true = before_open open_boxes rows s b least in
+      record {
+        are_true = s.are_true;
+        count = count;
+        outside = record { inside = holds_whole (low_of b) b sides within here; outside = none_from_zero (λ r. holds (low_of b) r.part) rows zero_rows; first = covered };
+        begun = λ k d lt. let P : Box5 → Type 0 = (λ o. IsBefore (low_of (get_or rows k d).part) (low_of o)) in
+            All-head P b others (All-permutation P open_boxes (b ∷ others) taken (s.begun k d lt));
+        clear = λ h inside before. clear_in_rows rows s.are_true.word h (covered h inside before);
+        cells = λ ascending.
+            let b_aligned : IsAligned cuts b sides = All-head (λ o. IsAligned cuts o sides) b others (All-permutation (λ o. IsAligned cuts o sides) open_boxes (b ∷ others) taken s.aligned) in
+            let b_apart : All (λ (r : Row W). AreDisjoint b r.part) rows = (λ k d lt h in_b in_row.
+            let r = row_holder_at rows h k d lt in_row in
+            let here = one_for (holds h b) in_b in
+            let o : holders open_boxes h ≡ holders (b ∷ others) h = sym (sum_by-IsPermutation (λ x. one_if (holds h x)) open_boxes (b ∷ others) taken) in
+            let c = sum_by-cons (λ x. one_if (holds h x)) b others in
+            let e = s.each h in let m = at_most_one (holds h sides) in
+            absurd (omega (arith, r, here, o, c, e, m))) in
+            let l = more_cells (λ (r : Row W). r.part) cuts sides b rows s.are_true.within s.are_true.aligned s.are_true.disjoint within b_aligned b_apart in
+            omega (arith, l, count);
+      }

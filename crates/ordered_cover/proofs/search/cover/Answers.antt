@@ -1,0 +1,46 @@
+use Rattle.std.proofs.Common.{◌≡◌, length, arith}
+use Rattle.std.proofs.lemmas.Grind.{common_steps}
+use Rattle.std.proofs.lemmas.List.Elements.{All-head}
+use Rattle.std.proofs.lemmas.List.Sorted.{All-permutation}
+use Rattle.header_boxes.specs.Boxes.{IsValid}
+use Rattle.ordered_cover.proofs.Splits.{split_at_start, found_from_asked, split_after, valid_from_split, blocked_from_split, more_from_split}
+use Rattle.ordered_cover.proofs.search.cover.Goals as goal
+
+pub kept-init : goal.kept-init
+kept-init g c = record {
+  split = rw (c.in_ok-boxes.ensures, c.new-rows.ensures.items) (split_at_start c.requires.valid);
+  few = rw c.new-rows.ensures.items (omega arith);
+}
+
+pub ask-requires : goal.ask-requires
+ask-requires g c = valid_from_split c.kept.invariant.split
+
+pub returns-in_default : goal.returns-in_default
+returns-in_default g c = blocked_from_split c.args.max c.kept.invariant.split (rw c.in_default.is at c.in_ok-part.ensures.none) c.kept.invariant.few
+
+pub returns-in-None : goal.returns-in-None
+returns-in-None g c =
+    let asked = rw c.in-Some.is at c.in_ok-part.ensures.asked in
+    rw c.low.ensures.value (found_from_asked c.kept.invariant.split (rw c.in-None.is at asked))
+
+pub kept-preserved : goal.kept-preserved
+kept-preserved g c =
+    let asked = rw c.in-Some.is at c.in_ok-part.ensures.asked in
+    let kept = split_after c.in-Some-word.word c.kept.invariant.split (rw c.in-Some-word.is at asked) in
+    record {
+      split = rw c.in_ok-keep-in-Some-word.ensures kept;
+      few = rw c.in_ok-keep-in-Some-word.ensures (grind (arith, common_steps));
+    }
+
+pub returns-in-None-take_first : goal.returns-in-None-take_first
+returns-in-None-take_first g c = blocked_from_split c.args.max c.kept.invariant.split c.in-None-take_first.ensures.none c.kept.invariant.few
+
+pub low-requires-in-Some-take_first : goal.low-requires-in-Some-take_first
+low-requires-in-Some-take_first g c =
+    All-head IsValid _ _ (All-permutation IsValid _ _ c.in-Some-take_first.ensures.taken (valid_from_split c.kept.invariant.split))
+
+pub returns : goal.returns
+returns g c =
+    let count : length c.kept.rows.items ≡ c.args.max = omega (arith, c.kept.invariant.few, c.kept-test.false, c.len.ensures) in
+    rw c.low-in-Some-take_first.ensures.value
+    (more_from_split c.args.max c.in-Some-take_first.next c.kept.invariant.split c.in-Some-take_first.ensures.taken c.in-Some-take_first.ensures.least count)

@@ -1,0 +1,12 @@
+use Rattle.std.proofs.Common.{◌≤◌, ◌-◌, length}
+use Rattle.ordered_cover.specs.Open.{AreSplit}
+use Rattle.ordered_cover.proofs.search.cover.Given as goal
+
+abbrev pub invariant-kept : goal.invariant-kept
+invariant-kept g l = record {
+  split : AreSplit (g.P.Probe.meaning l.p) (g.P.Probe.cuts l.p) l.fn.sides l.boxes l.rows.items;
+  few : length l.rows.items ≤ l.max;
+}
+
+abbrev pub decreases-kept : goal.decreases-kept
+decreases-kept g l = l.max - length l.rows.items

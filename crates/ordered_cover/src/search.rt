@@ -1,0 +1,83 @@
+//! The search for the first header that gets through. Boxes that are still open are asked in the order of
+//! their low corners, so what is known always reaches from the least header of the sides up to the least
+//! open low corner.
+ghost use Rattle.std.specs.Prelude.{◌≡◌, ◌≤◌, ◌++◌, ◌∷◌, List, [], Option, All, IfOk, OnOk, IfNone, IfSome};
+ghost use Rattle.header_boxes.specs.Boxes.{IsValid};
+ghost use Rattle.ordered_cover.specs.Cover.{IsFirst, IsCover};
+ghost use Rattle.ordered_cover.specs.Open.{IsAsked};
+
+use crate::open::OpenBoxes;
+use crate::{Cover, Probe, Row};
+use header_boxes::Box5;
+use std::alloc::{AllocError, Global};
+use vpc_base::{Header, NoMemory};
+
+// Asks of a part of the open box that begins first. What is left of that box stays open.
+fn ask<P: Probe>(
+    p: &P,
+    boxes: &mut OpenBoxes,
+) -> Result<Option<(Box5, Option<P::Word>)>, AllocError>
+    requires { All IsValid boxes.old }
+    ensures none { IfOk result (λ a. IfNone a (boxes.old ≡ [])) }
+    ensures asked { IfOk result (λ a. IfSome a (λ s. IsAsked (P.meaning p.now) (P.cuts p.now) boxes.old boxes.new s.0 s.1)) }
+{
+    let Some(whole) = boxes.take_first() else {
+        return Ok(None);
+    };
+    let (part, word) = p.probe(&whole);
+    let rest = whole.minus(&part);
+    boxes.extend(rest.as_slice())?;
+    Ok(Some((part, word)))
+}
+
+/// The first header of the sides that gets through, or none where there is none. It keeps no rows and may
+/// ask of any number of boxes.
+pub fn first<P: Probe>(alloc: Global, p: &P, sides: Box5) -> Result<Option<Header>, NoMemory>
+    requires { IsValid sides }
+    ensures { IfOk result (IsFirst (P.meaning p.now) sides) }
+{
+    let mut boxes = OpenBoxes::of(alloc, sides)?;
+    'asked: while let Some((part, word)) = ask(p, &mut boxes)? {
+        if word.is_none() {
+            return Ok(Some(part.low()));
+        }
+    }
+    Ok(None)
+}
+
+// One more row.
+fn keep<W: Copy>(rows: &mut Vec<Row<W>>, part: Box5, word: W) -> Result<(), AllocError>
+    ensures { OnOk result (rows.new.items ≡ rows.old.items ++ record { part = part; word = word } ∷ []) }
+{
+    rows.push(Row { part, word })?;
+    Ok(())
+}
+
+/// What the probe says of all headers of the sides, in at most `max` rows: the first header that gets through,
+/// or rows that hold all headers, or as many rows as are allowed and the first header outside them.
+pub fn cover<P: Probe>(
+    alloc: Global,
+    p: &P,
+    sides: Box5,
+    max: u32,
+) -> Result<Cover<P::Word>, NoMemory>
+    requires valid { IsValid sides }
+    requires some { 1 ≤ max }
+    ensures { IfOk result (IsCover (P.meaning p.now) (P.cuts p.now) sides max) }
+{
+    let mut boxes = OpenBoxes::of(alloc, sides)?;
+    let mut rows = Vec::new(alloc);
+    'kept: while rows.len() < max as usize {
+        let Some((part, word)) = ask(p, &mut boxes)? else {
+            return Ok(Cover::Blocked(rows));
+        };
+        match word {
+            None => return Ok(Cover::Found(part.low())),
+            Some(word) => keep(&mut rows, part, word)?,
+        }
+    }
+    match boxes.take_first() {
+        None => Ok(Cover::Blocked(rows)),
+        Some(next) => Ok(Cover::More(rows, next.low())),
+    }
+}

@@ -1,0 +1,27 @@
+// The top call.
+ghost use Rattle.std.specs.Prelude.{◌≡◌, map, string_bytes};
+ghost use Rattle.vpc_io.specs.Rose.{Rose};
+ghost use Rattle.vpc_cli.specs.Due.{IsAnswer, IsDue};
+
+use crate::answers::answer_to;
+use crate::status::Status;
+use std::alloc::Global;
+use vpc_io::{Shelf, Sink, put_all};
+
+/// Answers the words of a command: builds its whole text, and then writes it.
+///
+/// `words` are those after the program's name.
+pub fn run<S: Shelf, O: Sink>(alloc: Global, words: &[String], shelf: &mut S, out: &mut O) -> Status
+    ensures due { IsAnswer (IsDue (map string_bytes words.now) (S.told shelf.old) (λ n. Rose (S.faults shelf.old n) (S.faults shelf.new n))) (O.held out.old) (O.held out.new) (Rose (O.faults out.old) (O.faults out.new)) result }
+{
+    match answer_to(alloc, words, shelf) {
+        Ok(answer) => match put_all(out, answer.text.as_slice()) {
+            Ok(()) => answer.status,
+            Err(_) => Status::Write,
+        },
+        Err(_) => match put_all(out, b"want of memory\n") {
+            Ok(()) => Status::Memory,
+            Err(_) => Status::Write,
+        },
+    }
+}
