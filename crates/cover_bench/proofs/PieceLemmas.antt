@@ -1,4 +1,4 @@
--- Where a part that lies in one piece ends, and what a grid says of such parts.
+-- Where a part that lies in one piece ends.
 use Rattle.std.proofs.Common.{ℕ, ◌≡◌, ◌≤◌, ◌<◌, ◌+◌, ◌-◌, ◌*◌, ◌/◌, ◌%◌, ◌^◌, inl, inr, ⊎_elim, arith, refl, subst, sym, ap, ◌∙◌, min}
 use Rattle.std.specs.List.{Contains}
 use Rattle.std.proofs.lemmas.List.Elements.{Contains-get_or}
