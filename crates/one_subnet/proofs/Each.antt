@@ -1,5 +1,5 @@
 -- Reading each item.
-use Rattle.std.proofs.Common.{◌≡◌, ◌<◌, ◌+◌, ℕ, suc, List, [], ◌∷◌, ◌++◌, Option, Some, None, refl, append_assoc, ap, sym, ◌∙◌, add-one, drop, drop-cons, get_or, length, map}
+use Rattle.std.proofs.Common.{◌≡◌, ◌<◌, ◌+◌, ℕ, suc, List, [], ◌∷◌, ◌++◌, Option, Some, None, refl, append_assoc, ap, add-one, drop, drop-cons, get_or, length, map}
 use Rattle.one_subnet.specs.Form.{each, given}
 
 -- one more item

@@ -1,6 +1,6 @@
 // Whether ids and addresses differ.
-ghost use Rattle.std.specs.Prelude.{◌≡◌, [], IfOk, map};
-ghost use Rattle.one_subnet.specs.Form.{are_new, are_new_numbers, is_known, only_if};
+ghost use Rattle.std.specs.Prelude.{◌≡◌, [], IfOk, bytes_eq, map, nat_eq};
+ghost use Rattle.one_subnet.specs.Form.{all_differ, is_known, only_if};
 ghost use Rattle.one_subnet.specs.Formed.{Forms};
 
 use crate::reader::FormFault;
@@ -53,8 +53,9 @@ impl IdSet {
 }
 
 /// The ids of groups, where they all differ.
+#[tactic(auto, using(crate::proofs::Differ::are_new_from_none))]
 pub fn group_ids(alloc: Global, groups: &[RuleSet]) -> Result<IdSet, FormFault>
-    ensures { Forms (λ s. s) (only_if (are_new [] (map (λ g. g.id) groups.now)) (map (λ g. g.id) groups.now)) result }
+    ensures { Forms (λ s. s) (only_if (all_differ bytes_eq (map (λ g. g.id) groups.now)) (map (λ g. g.id) groups.now)) result }
 {
     let mut known = IdSet::new(alloc);
     for group in groups {
@@ -66,8 +67,9 @@ pub fn group_ids(alloc: Global, groups: &[RuleSet]) -> Result<IdSet, FormFault>
 }
 
 /// The ids of hosts, where they all differ.
+#[tactic(auto, using(crate::proofs::Differ::are_new_from_none))]
 pub fn host_ids(alloc: Global, hosts: &[Host]) -> Result<IdSet, FormFault>
-    ensures { Forms (λ s. s) (only_if (are_new [] (map (λ h. h.id) hosts.now)) (map (λ h. h.id) hosts.now)) result }
+    ensures { Forms (λ s. s) (only_if (all_differ bytes_eq (map (λ h. h.id) hosts.now)) (map (λ h. h.id) hosts.now)) result }
 {
     let mut known = IdSet::new(alloc);
     for host in hosts {
@@ -79,8 +81,9 @@ pub fn host_ids(alloc: Global, hosts: &[Host]) -> Result<IdSet, FormFault>
 }
 
 /// The addresses of hosts, where they all differ.
+#[tactic(auto, using(crate::proofs::Differ::are_new_from_none))]
 pub fn host_addresses(alloc: Global, hosts: &[Host]) -> Result<IndexSet<u32>, FormFault>
-    ensures { Forms (λ s. s.keys) (only_if (are_new_numbers [] (map (λ h. h.address) hosts.now)) (map (λ h. h.address) hosts.now)) result }
+    ensures { Forms (λ s. s.keys) (only_if (all_differ nat_eq (map (λ h. h.address) hosts.now)) (map (λ h. h.address) hosts.now)) result }
 {
     let mut known = IndexSet::new(alloc);
     for host in hosts {

@@ -2,7 +2,7 @@
 ghost use Rattle.std.specs.Prelude.{◌≡◌, [], map, codes, option_map, IfOk};
 ghost use Rattle.serde_json.specs.View.{view};
 ghost use Rattle.serde_json.specs.Find.{get};
-ghost use Rattle.one_subnet.specs.Form.{are_new, are_new_numbers, frame_of, given, groups_of, hosts_of, is_absent_or, is_null_or_empty, local_block, no_edges, no_prefix_lists, no_rows_of, no_transit, only_item, only_row, site_of, some_rows, subnet_in, table_in, elements_at, has_text, is_text};
+ghost use Rattle.one_subnet.specs.Form.{all_differ, frame_of, given, groups_of, hosts_of, is_absent_or, is_null_or_empty, local_block, no_edges, no_prefix_lists, no_rows_of, no_transit, only_item, only_row, site_of, some_rows, subnet_in, table_in, elements_at, has_text, is_text};
 ghost use Rattle.std.specs.Prelude.{◌&&◌, List, ℕ};
 ghost use Rattle.prefix_text.specs.Block.{Block};
 ghost use Rattle.json_fields.specs.Bundle.{is_object};
@@ -154,7 +154,8 @@ fn is_plain(bundle: &Value) -> bool
         && (has_no_prefix_lists(bundle) && (has_no_edges(bundle) && has_no_transit(bundle)))
 }
 
-/// The network that a value describes.
+/// The network that a value describes, as the EC2 API's Describe calls print it. It is `NotYet` exactly
+/// where the value is not of the form that the head of this crate tells.
 pub fn read_site(alloc: Global, bundle: &Value) -> Result<Site, FormFault>
     ensures { Forms (λ s. s) (site_of (view bundle.now)) result }
 {

@@ -1,4 +1,12 @@
-//! Networks of one subnet: the form that a description has so far, and its reader.
+//! Networks of one subnet: the form of a description that is followed so far, and its reader.
+//!
+//! The form is this project's profile, a condition on the JSON value. It has one VPC, one subnet and one
+//! route table whose only route is the active local one. There are at most 100,000 interfaces and at most
+//! 100,000 security groups, whose ids differ. Each interface is attached to the subnet, has one private
+//! address, which no other has, and checks source and destination. Each rule is for all protocols, TCP or
+//! UDP, and names blocks of IPv4 addresses alone. There are no prefix lists, gateways, peerings and
+//! attachments. Network ACLs may be any, since no packet leaves the subnet. A member that is null counts
+//! as present.
 #![tactic(auto)]
 
 mod distinct;
@@ -12,3 +20,6 @@ mod values;
 pub use form::read_site;
 pub use reader::FormFault;
 pub use site::{Host, Rule, RuleSet, Site};
+
+#[cfg(test)]
+mod tests;

@@ -16,8 +16,9 @@ use vpc_model::Id;
 /// Why a value gives no network.
 #[derive(Debug, Drop)]
 pub enum FormFault {
-    /// It is of a form that isn't followed yet.
+    /// It is of a form that isn't followed yet. Broken values are told by this too.
     NotYet,
+    /// Memory was refused.
     Memory,
 }
 

@@ -1,6 +1,5 @@
 -- What is due, from what was read and walked.
 use Rattle.std.proofs.Common.{◌≡◌, ◌<◌, ℕ, List, Option, Some, None, Result, Ok, Err, IfOk, refl, sym, ap, subst, ◌∙◌, length}
-use Rattle.vpc_io.specs.Sink.{with_text}
 use Rattle.vpc_io.specs.Told.{IfTold}
 use Rattle.vpc_model.specs.Text.{walk_text}
 use Rattle.vpc_model.specs.declared.outcomes.Hop.{Hop}
@@ -11,7 +10,7 @@ use Rattle.one_subnet.specs.declared.site.Site.{Site}
 use Rattle.vpc_cli.specs.declared.packets.Packet.{Packet}
 use Rattle.vpc_cli.specs.declared.status.Status.{Status}
 use Rattle.vpc_cli.specs.declared.status.Status.TheVariants.{Yes, No, Words, Description as Refused, Query, More, Read, Write, Memory}
-use Rattle.vpc_cli.specs.Due.{Describes, IsAnswer, IsAnswerTo, IsDue, IsDueBy, IsDueForBytes, IsDueForTrace, memory_text, traced_status, traced_text, status_of, walk_in, way_of, way_status, way_text}
+use Rattle.vpc_cli.specs.Due.{Describes, file_name, IsAnswerTo, IsDue, IsDueBy, IsDueForBytes, IsDueForTrace, memory_text, traced_status, traced_text, status_of, walk_in, way_of, way_status, way_text}
 use Rattle.vpc_cli.specs.Packet.{packet_of}
 use Rattle.vpc_cli.specs.Trace.{hops_of, outcome_of}
 use Rattle.vpc_cli.specs.Words.{words_fault}
@@ -72,26 +71,6 @@ due_if_told words (Some b) failed bytes status text is due = by status (subst (�
     by Read d = absurd d
     by Write d = d
     by Memory d = absurd d
-
--- no answer is due at Write
-pub never_write : (words : List (List ℕ)) (told : List ℕ → Option (List ℕ)) (failed : List ℕ → Type 0) (text : List ℕ) → IsDue words told failed Write text → ⊥
-never_write words told failed text = by (words_fault words)
-  where
-    by : (fault : Option ℕ) → IsDueBy fault words told failed Write text → ⊥
-    by None due = due
-    by (Some n) due = due
-
--- a due text was added
-pub answered : (due : Status → List ℕ → Type 0) (old new : Option (List ℕ)) (failed : Type 0) (status : Status) (text : List ℕ) → (due Write text → ⊥) → due status text → new ≡ with_text old text → IsAnswer due old new failed status
-answered due old new failed Yes text never is added = (text, is, added)
-answered due old new failed No text never is added = (text, is, added)
-answered due old new failed Words text never is added = (text, is, added)
-answered due old new failed Refused text never is added = (text, is, added)
-answered due old new failed Query text never is added = (text, is, added)
-answered due old new failed More text never is added = (text, is, added)
-answered due old new failed Read text never is added = (text, is, added)
-answered due old new failed Write text never is added = absurd (never is)
-answered due old new failed Memory text never is added = (text, is, added)
 
 -- want of memory is due for all words
 pub memory_due : (words : List (List ℕ)) (told : List ℕ → Option (List ℕ)) (failed : List ℕ → Type 0) → IsDue words told failed Memory memory_text

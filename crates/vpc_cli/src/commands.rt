@@ -1,7 +1,7 @@
 // The top call.
 ghost use Rattle.std.specs.Prelude.{◌≡◌, map, string_bytes};
 ghost use Rattle.vpc_io.specs.Rose.{Rose};
-ghost use Rattle.vpc_cli.specs.Due.{IsAnswer, IsDue};
+ghost use Rattle.vpc_cli.specs.Due.{IsAnswer, IsDue, file_name};
 
 use crate::answers::answer_to;
 use crate::status::Status;
@@ -10,9 +10,13 @@ use vpc_io::{Shelf, Sink, put_all};
 
 /// Answers the words of a command: builds its whole text, and then writes it.
 ///
-/// `words` are those after the program's name.
+/// `words` are those after the program's name. A file is read whole, up to 64 MiB.
 pub fn run<S: Shelf, O: Sink>(alloc: Global, words: &[String], shelf: &mut S, out: &mut O) -> Status
+    // A pair of status and text is due, and exactly that text was added; or writing failed after a
+    // proper prefix of a due text.
     ensures due { IsAnswer (IsDue (map string_bytes words.now) (S.told shelf.old) (λ n. Rose (S.faults shelf.old n) (S.faults shelf.new n))) (O.held out.old) (O.held out.new) (Rose (O.faults out.old) (O.faults out.new)) result }
+    ensures read_only_where_faults_rose { result ≡ Status.Read → Rose (S.faults shelf.old (file_name (map string_bytes words.now))) (S.faults shelf.new (file_name (map string_bytes words.now))) }
+    ensures write_only_where_faults_rose { result ≡ Status.Write → Rose (O.faults out.old) (O.faults out.new) }
 {
     match answer_to(alloc, words, shelf) {
         Ok(answer) => match put_all(out, answer.text.as_slice()) {

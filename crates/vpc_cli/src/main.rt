@@ -6,6 +6,8 @@ mod commands;
 mod packets;
 mod printing;
 mod status;
+#[cfg(test)]
+mod tests;
 mod tracing;
 mod words;
 

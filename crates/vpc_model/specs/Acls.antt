@@ -1,5 +1,5 @@
 -- Verdicts of network ACLs (VPC User Guide, "Network ACL rules"). ACLs know no connections.
-use Rattle.std.specs.Prelude.{ℕ, ◌&&◌, not, nat_lt, Bool, true, false, List, Option, Some, None}
+use Rattle.std.specs.Prelude.{ℕ, ◌&&◌, not, nat_lt, Bool, false, List, Option, Some, None}
 use Rattle.prefix_text.specs.Block.{holds}
 use Rattle.vpc_base.specs.declared.headers.Header.{Header}
 use Rattle.vpc_base.specs.declared.headers.Dir.{Dir}

@@ -1,5 +1,5 @@
 -- Choices among rows: the one that beats every other.
-use Rattle.std.specs.Prelude.{ℕ, ◌&&◌, not, Bool, List, [], ◌∷◌, Option, Some, None, find, position}
+use Rattle.std.specs.Prelude.{ℕ, ◌&&◌, not, Bool, List, Option, Some, None, find, position}
 use Rattle.std.specs.List.{list_any}
 
 -- a candidate that no candidate beats

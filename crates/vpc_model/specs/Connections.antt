@@ -1,7 +1,7 @@
 -- Tracked connections, and how they let answers pass security groups (VPC User Guide, "Security group
 -- connection tracking"). That only packets labelled as answers consult them, and only opens make them,
 -- is a choice of this project's profile.
-use Rattle.std.specs.Prelude.{ℕ, ◌==◌, ◌&&◌, Bool, true, false, List, [], ◌∷◌, ◌++◌, Option, Some, None, if◌then◌else◌}
+use Rattle.std.specs.Prelude.{ℕ, ◌==◌, ◌&&◌, Bool, false, List, [], ◌∷◌, ◌++◌, Option, Some, None, if◌then◌else◌}
 use Rattle.std.specs.List.{list_any}
 use Rattle.vpc_base.specs.Header.{reply_of}
 use Rattle.vpc_base.specs.Dir.{same_dir, opposite}

@@ -1,5 +1,5 @@
 -- What security groups allow (VPC User Guide, "Security group rules").
-use Rattle.std.specs.Prelude.{ℕ, ◌+◌, ◌&&◌, ◌||◌, Bool, true, false, List, [], ◌∷◌, Option, Some, None, bytes_eq, option_map, option_and_then, position}
+use Rattle.std.specs.Prelude.{ℕ, ◌+◌, ◌&&◌, ◌||◌, Bool, false, List, [], ◌∷◌, Option, Some, None, bytes_eq, option_map, option_and_then, position}
 use Rattle.std.specs.List.{list_any}
 use Rattle.prefix_text.specs.Block.{holds}
 use Rattle.vpc_base.specs.declared.headers.Header.{Header}
@@ -10,7 +10,6 @@ use Rattle.vpc_model.specs.declared.outcomes.RuleRef.{RuleRef}
 use Rattle.vpc_model.specs.declared.rows.Description.{Description}
 use Rattle.vpc_model.specs.declared.rows.Group.{Group}
 use Rattle.vpc_model.specs.declared.rows.Interface.{Interface}
-use Rattle.vpc_model.specs.declared.rows.Peering.{Peering}
 use Rattle.vpc_model.specs.declared.rows.Permission.{Permission}
 use Rattle.vpc_model.specs.Choice.{or_else}
 use Rattle.vpc_model.specs.Filter.{far_address, matches_proto, is_between}

@@ -1,5 +1,5 @@
 -- Public addresses and the internet (VPC User Guide, "Internet gateways").
-use Rattle.std.specs.Prelude.{ℕ, ◌==◌, Bool, List, [], ◌∷◌, Option, Some, None, option_map, find, map, filter}
+use Rattle.std.specs.Prelude.{ℕ, ◌==◌, Bool, List, [], ◌∷◌, Option, option_map, find, map, filter}
 use Rattle.std.specs.List.{list_any, filter_map, flat_map}
 use Rattle.prefix_text.specs.Block.{Block, holds}
 use Rattle.vpc_model.specs.declared.numbers.VpcNo.{VpcNo}

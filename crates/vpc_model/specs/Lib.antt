@@ -16,4 +16,8 @@ pub mod Walk
 pub mod Verdict
 pub mod Cuts
 pub mod Text
+pub mod Laws
+pub mod Networks
 pub mod Examples
+pub mod Printed
+pub mod Stops

@@ -1,7 +1,7 @@
 -- Rows by their numbers, and numbers by ids. A number is the place of a row in its list, from 0. In an
 -- accepted description every number that is asked for is in range and every id that is looked for is
 -- described; elsewhere the row is an empty one, and the number is the list's length.
-use Rattle.std.specs.Prelude.{ℕ, ◌==◌, ◌&&◌, Bool, true, false, List, [], Option, Some, None, bytes_eq, option_map, position, slice_index_or, unwrap_or}
+use Rattle.std.specs.Prelude.{ℕ, ◌==◌, ◌&&◌, Bool, true, false, List, [], Option, None, bytes_eq, option_map, position, slice_index_or, unwrap_or}
 use Rattle.std.specs.List.{list_any, position_or_len}
 use Rattle.prefix_text.specs.Block.{Block}
 use Rattle.vpc_model.specs.declared.numbers.VpcNo.{VpcNo}
@@ -21,7 +21,6 @@ use Rattle.vpc_model.specs.declared.rows.Subnet.{Subnet}
 use Rattle.vpc_model.specs.declared.rows.Interface.{Interface}
 use Rattle.vpc_model.specs.declared.rows.InterfaceKind.TheVariants.{Host}
 use Rattle.vpc_model.specs.declared.rows.RouteTable.{RouteTable}
-use Rattle.vpc_model.specs.declared.rows.PrefixList.{PrefixList}
 use Rattle.vpc_model.specs.declared.rows.Acl.{Acl}
 use Rattle.vpc_model.specs.declared.rows.Group.{Group}
 use Rattle.vpc_model.specs.declared.rows.InternetGateway.{InternetGateway}
@@ -30,7 +29,6 @@ use Rattle.vpc_model.specs.declared.rows.NatLife.TheVariants.{Gone}
 use Rattle.vpc_model.specs.declared.rows.Peering.{Peering}
 use Rattle.vpc_model.specs.declared.rows.Attachment.{Attachment}
 use Rattle.vpc_model.specs.declared.rows.TgwTable.{TgwTable}
-use Rattle.vpc_model.specs.Choice.{or_else}
 
 -- the id stands in the list
 abbrev pub is_listed : List ℕ → List (List ℕ) → Bool

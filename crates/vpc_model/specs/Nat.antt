@@ -1,5 +1,5 @@
 -- NAT gateways (VPC User Guide, "NAT gateways"; RFC 3022). Which port is given is this project's profile.
-use Rattle.std.specs.Prelude.{ℕ, ◌+◌, ◌==◌, ◌&&◌, ◌||◌, nat_le, nat_lt, Bool, List, [], ◌∷◌, Option, Some, None, find, count_by, option_and_then, if◌then◌else◌}
+use Rattle.std.specs.Prelude.{ℕ, ◌+◌, ◌==◌, ◌&&◌, ◌||◌, nat_le, nat_lt, Bool, List, [], ◌∷◌, Option, find, count_by, option_and_then, if◌then◌else◌}
 use Rattle.std.specs.List.{list_any}
 use Rattle.vpc_base.specs.Header.{reply_of}
 use Rattle.vpc_base.specs.declared.headers.Header.{Header}

@@ -1,6 +1,6 @@
 -- What a peering carries (VPC User Guide, "VPC peering"; that both addresses must lie in the blocks of their
 -- VPCs is this project's profile).
-use Rattle.std.specs.Prelude.{ℕ, ◌&&◌, ◌||◌, Bool, true, false, List, [], Option, Some, None, bytes_eq, if◌then◌else◌}
+use Rattle.std.specs.Prelude.{ℕ, Bool, List, bytes_eq, if◌then◌else◌}
 use Rattle.std.specs.List.{list_any}
 use Rattle.prefix_text.specs.Block.{holds}
 use Rattle.vpc_model.specs.declared.numbers.VpcNo.{VpcNo}

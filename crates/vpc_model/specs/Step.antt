@@ -5,7 +5,6 @@ use Rattle.vpc_base.specs.declared.headers.Header.{Header}
 use Rattle.vpc_base.specs.declared.headers.Dir.TheVariants.{Inward, Outward}
 use Rattle.vpc_base.specs.declared.headers.Label.{Label}
 use Rattle.vpc_base.specs.declared.headers.Label.TheVariants.{Opening, Answer}
-use Rattle.prefix_text.specs.Block.{Block}
 use Rattle.vpc_model.specs.declared.numbers.VpcNo.{VpcNo}
 use Rattle.vpc_model.specs.declared.numbers.SubnetNo.{SubnetNo}
 use Rattle.vpc_model.specs.declared.numbers.EniNo.{EniNo}

@@ -1,12 +1,10 @@
 -- How headers, places, hops and stops are printed. Each line ends with one newline.
-use Rattle.std.specs.Prelude.{ℕ, ◌≡◌, ◌==◌, ◌+◌, ◌++◌, ◌∷◌, [], List, Option, Some, None, codes, decimal, slice_index_or, unwrap_or, if◌then◌else◌, Bool, true, false}
+use Rattle.std.specs.Prelude.{ℕ, ◌==◌, ◌+◌, ◌++◌, ◌∷◌, [], List, codes, decimal, slice_index_or, unwrap_or, if◌then◌else◌}
 use Rattle.prefix_text.specs.Addr.{addr_text}
 use Rattle.prefix_text.specs.Block.{block_text}
 use Rattle.vpc_base.specs.declared.headers.Header.{Header}
 use Rattle.vpc_base.specs.declared.headers.Dir.{Dir}
 use Rattle.vpc_base.specs.declared.headers.Dir.TheVariants.{Inward, Outward}
-use Rattle.vpc_model.specs.declared.numbers.AclNo.{AclNo}
-use Rattle.vpc_model.specs.declared.numbers.IgwNo.{IgwNo}
 use Rattle.vpc_model.specs.declared.numbers.TableNo.{TableNo}
 use Rattle.vpc_model.specs.declared.numbers.TgwTableNo.{TgwTableNo}
 use Rattle.vpc_model.specs.declared.numbers.VpcNo.{VpcNo}

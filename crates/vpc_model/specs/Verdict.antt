@@ -1,5 +1,5 @@
 -- Whether a request arrives and its reply returns.
-use Rattle.std.specs.Prelude.{ℕ, ◌==◌, ◌&&◌, Bool, true, false, List, [], Option, Some, None, if◌then◌else◌}
+use Rattle.std.specs.Prelude.{◌==◌, ◌&&◌, Bool, true, false, [], Option, Some, None, if◌then◌else◌}
 use Rattle.vpc_base.specs.Header.{reply_of}
 use Rattle.vpc_base.specs.declared.headers.Header.{Header}
 use Rattle.vpc_base.specs.declared.headers.Label.TheVariants.{Opening, Answer}

@@ -3,7 +3,6 @@ use Rattle.std.specs.Prelude.{ℕ, zero, suc, ◌==◌, ◌&&◌, Bool, true, fa
 use Rattle.std.specs.List.{list_any}
 use Rattle.vpc_base.specs.declared.headers.Header.{Header}
 use Rattle.vpc_base.specs.declared.headers.Label.{Label}
-use Rattle.vpc_model.specs.declared.outcomes.By.{By}
 use Rattle.vpc_model.specs.declared.outcomes.Hop.{Hop}
 use Rattle.vpc_model.specs.declared.outcomes.Outcome.{Outcome}
 use Rattle.vpc_model.specs.declared.outcomes.Outcome.TheVariants.{Arrived, Stopped}
@@ -18,7 +17,7 @@ use Rattle.vpc_model.specs.declared.stops.Stop.{Stop}
 use Rattle.vpc_model.specs.declared.stops.Stop.TheVariants.{Loop, TooFar}
 use Rattle.vpc_model.specs.Connections.{Connection}
 use Rattle.vpc_model.specs.Nat.{Translation}
-use Rattle.vpc_model.specs.Step.{Moment, Next, go, arrive, stop, Step, step_of}
+use Rattle.vpc_model.specs.Step.{Moment, Next, go, arrive, stop, step_of}
 
 -- two places are one: of one kind, with the same numbers, and a router reached in the same way
 abbrev pub same_came : Came → Came → Bool

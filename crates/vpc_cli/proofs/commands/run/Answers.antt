@@ -4,20 +4,14 @@ use Rattle.vpc_cli.specs.declared.status.Status.TheVariants.{Memory}
 use Rattle.vpc_cli.proofs.AnswerLemmas.{memory_due}
 use Rattle.vpc_cli.proofs.commands.run.Goals as goal
 
-pub returns-in-Ok : goal.returns-in-Ok
-returns-in-Ok g c =
-    record {
-      due = (
-        c.in-Err-put_all.ensures.failed_only_where_faults_rose,
-        (c.in-Ok.answer.status, c.in-Ok.answer.text.items, c.in-Ok.ensures, rw c.as_slice.ensures.value at c.in-Err-put_all.ensures.proper_prefix),
-      );
-    }
+pub returns-in-Ok-clause-due : goal.returns-in-Ok-clause-due
+returns-in-Ok-clause-due g c = (
+  c.in-Err-put_all.ensures.failed_only_where_faults_rose,
+  (c.in-Ok.answer.status, c.in-Ok.answer.text.items, c.in-Ok.ensures, rw c.as_slice.ensures.value at c.in-Err-put_all.ensures.proper_prefix),
+)
 
-pub returns : goal.returns
-returns g c =
-    record {
-      due = (
-        c.in-Err-put_all-2.ensures.failed_only_where_faults_rose,
-        (Memory, memory_text, memory_due (map string_bytes c.args.words.now) _ _, c.in-Err-put_all-2.ensures.proper_prefix),
-      );
-    }
+pub returns-clause-due : goal.returns-clause-due
+returns-clause-due g c = (
+  c.in-Err-put_all-2.ensures.failed_only_where_faults_rose,
+  (Memory, memory_text, memory_due (map string_bytes c.args.words.now) _ _, c.in-Err-put_all-2.ensures.proper_prefix),
+)

@@ -1,4 +1,4 @@
-use Rattle.std.proofs.Common.{rules, sym, ◌∙◌, bytes_eq, not, ap}
+use Rattle.std.proofs.Common.{sym, ◌∙◌, bytes_eq, not, ap}
 use Rattle.one_subnet.proofs.Maps.{list_any-map}
 use Rattle.one_subnet.proofs.distinct.IdSet.add.Goals as goal
 

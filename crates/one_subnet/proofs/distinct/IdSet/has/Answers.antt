@@ -1,4 +1,4 @@
-use Rattle.std.proofs.Common.{rules, sym, ◌∙◌, bytes_eq}
+use Rattle.std.proofs.Common.{sym, ◌∙◌, bytes_eq}
 use Rattle.one_subnet.proofs.Maps.{list_any-map}
 use Rattle.one_subnet.proofs.distinct.IdSet.has.Goals as goal
 
