@@ -7,8 +7,18 @@ ghost use Rattle.cut_points.specs.Gathered.{gathered_with};
 use std::alloc::{AllocError, Global};
 use std::marker::Model;
 
-/// How far below a source port the port may have been that a NAT gateway translated to it.
+const LAST_PROTOCOL: u32 = 255;
+
+const LAST_PORT: u32 = 65535;
+
+// The first port that a NAT gateway translates to (this project's profile).
+const FIRST_NAT_PORT: u64 = 1024;
+
+// How far below a source port the port may have been that a NAT gateway translated to it.
 const NAT_SHIFT: u64 = 1024;
+
+// An ICMP echo request on the side q: 256 times its type, 8 (RFC 792).
+const ECHO_REQUEST: u64 = 2048;
 
 /// Cuts in the order in which rows give them, with repeats. Numbers past a side's last one are dropped.
 #[derive(Drop)]
@@ -37,6 +47,7 @@ fn push_within(side: &mut Vec<u32>, n: u64, last: u32) -> Result<(), AllocError>
     Ok(())
 }
 
+// Adds two numbers, such as those at which a range begins and has ended.
 fn push_both(side: &mut Vec<u32>, first: u64, second: u64, last: u32) -> Result<(), AllocError>
     ensures { OnOk result (side.new.items ≡ side.old.items ++ filter (λ x. nat_le x last) (first ∷ second ∷ [])) }
 {
@@ -54,6 +65,7 @@ fn push_shifted(side: &mut Vec<u32>, port: u64, last: u32) -> Result<(), AllocEr
     Ok(())
 }
 
+// Adds a rule's edges, and the source ports that a NAT gateway may have translated to them.
 fn push_edges(side: &mut Vec<u32>, from: u64, past: u64, last: u32) -> Result<(), AllocError>
     ensures { OnOk result (side.new.items ≡ side.old.items ++ filter (λ x. nat_le x last) (shifted_edges (from ∷ past ∷ []))) }
 {
@@ -63,6 +75,7 @@ fn push_edges(side: &mut Vec<u32>, from: u64, past: u64, last: u32) -> Result<()
 }
 
 impl Gathered {
+    /// No cuts.
     pub fn new(alloc: Global) -> Gathered
         ensures { result ≡ no_cuts }
     {
@@ -88,7 +101,7 @@ impl Gathered {
         ensures { OnOk result (self.new ≡ gathered_with self.old (record no_cuts { proto = n ∷ (n + 1) ∷ [] })) }
     {
         let first = u64::from(n);
-        push_both(&mut self.proto, first, first + 1, 255)
+        push_both(&mut self.proto, first, first + 1, LAST_PROTOCOL)
     }
 
     /// Adds the edges of a rule's range of q, and those from which a NAT gateway may have translated.
@@ -98,8 +111,8 @@ impl Gathered {
     {
         let first = u64::from(from);
         let past = u64::from(to) + 1;
-        push_edges(&mut self.p, first, past, 65535)?;
-        push_both(&mut self.q, first, past, 65535)
+        push_edges(&mut self.p, first, past, LAST_PORT)?;
+        push_both(&mut self.q, first, past, LAST_PORT)
     }
 
     /// Adds what a rule's protocol and range give.
@@ -118,7 +131,7 @@ impl Gathered {
     pub fn add_known_ports(&mut self) -> Result<(), AllocError>
         ensures { OnOk result (self.new ≡ gathered_with self.old (record no_cuts { p = 1024 ∷ []; q = 2048 ∷ 2049 ∷ [] })) }
     {
-        push_within(&mut self.p, 1024, 65535)?;
-        push_both(&mut self.q, 2048, 2049, 65535)
+        push_within(&mut self.p, FIRST_NAT_PORT, LAST_PORT)?;
+        push_both(&mut self.q, ECHO_REQUEST, ECHO_REQUEST + 1, LAST_PORT)
     }
 }

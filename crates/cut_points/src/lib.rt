@@ -5,5 +5,7 @@ mod ascending;
 mod cuts;
 mod gathered;
 mod rows;
+#[cfg(test)]
+mod tests;
 
 pub use cuts::cuts_of;

@@ -12,13 +12,14 @@ use vpc_model::{
     TgwTable, Vpc,
 };
 
-/// A row that divides the sides of headers. The entries of a prefix list that it names are left to
+/// A row, or a part of one, that cuts the sides of headers. The entries of a prefix list that it names are left to
 /// the list's own row.
 pub trait Cutting {
     ghost use Rattle.vpc_base.specs.Cuts.{CutLists};
 
     ghost cuts: { Self → CutLists };
 
+    /// Adds the row's cuts.
     fn add_to(&self, gathered: &mut Gathered) -> Result<(), AllocError>
         ensures { OnOk result (gathered.new ≡ gathered_with gathered.old (cuts self.now)) };
 }
@@ -49,6 +50,7 @@ pub fn add_blocks(gathered: &mut Gathered, blocks: &[Prefix]) -> Result<(), Allo
     add_all(gathered, blocks)
 }
 
+// Cuts an address out on both sides.
 fn add_address(gathered: &mut Gathered, address: u32) -> Result<(), AllocError>
     ensures { OnOk result (gathered.new ≡ gathered_with gathered.old (cuts_of_blocks (address_cuts address))) }
 {
