@@ -10,10 +10,6 @@ fn none<T>(alloc: Global) -> OwnList<T> {
     OwnList::of(Vec::new(alloc))
 }
 
-fn only<T: Drop>(alloc: Global, row: T) -> Result<OwnList<T>, Fail> {
-    Ok(OwnList::of(vec![in alloc; row]?))
-}
-
 fn acl(alloc: Global, id: Id) -> Result<Acl, Fail> {
     let row = AclRow {
         number: 100,
@@ -27,7 +23,7 @@ fn acl(alloc: Global, id: Id) -> Result<Acl, Fail> {
     Ok(Acl {
         id,
         subnets: none(alloc),
-        rows: only(alloc, row)?,
+        rows: OwnList::of(vec![in alloc; row]?),
     })
 }
 
@@ -53,7 +49,7 @@ fn network(alloc: Global, acls: OwnList<Acl>) -> Description {
 fn cuts_of_one_rule(rt: HostRuntime) -> Result<(), Fail> {
     let alloc = rt.alloc();
     let id = Id::of(alloc, b"acl-1")?.ok_or("no id")?;
-    let acls = only(alloc, acl(alloc, id)?)?;
+    let acls = OwnList::of(vec![in alloc; acl(alloc, id)?]?);
     let cuts = cuts_of(alloc, &network(alloc, acls))?;
     assert_eq!(rt; cuts.proto.as_slice(), [1, 2, 6, 7, 17, 18, 255].as_slice());
     assert_eq!(rt; cuts.p.as_slice(), [80, 1024, 64512].as_slice());
