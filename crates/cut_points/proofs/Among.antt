@@ -1,0 +1,235 @@
+-- Cuts that are among others.
+use Rattle.std.proofs.Common.{◌≡◌, ℕ, ◌⊎◌, ◌↔◌, Option, subst, inl, inr, Bool, true, false, List, [], ◌∷◌, ◌++◌, refl, sym, ap, ◌∙◌, arith, cond, zero, suc}
+use Rattle.std.specs.List.{Contains, filter, flat_map, position_or_len}
+use Rattle.std.specs.Prelude.{slice_index_or, nat_le, bytes_eq}
+use Rattle.std.proofs.lemmas.Grind.{flat_map-append}
+use Rattle.std.proofs.lemmas.List.Elements.{Contains-append_left, Contains-append_right, Contains-append_cases}
+use Rattle.prefix_text.specs.Block.{Block}
+use Rattle.vpc_base.specs.Cuts.{AreAmong, CutLists, joined_cuts, no_cuts}
+use Rattle.vpc_model.specs.declared.rows.Description.{Description}
+use Rattle.vpc_model.specs.declared.rows.Permission.{Permission}
+use Rattle.vpc_model.specs.declared.rows.PrefixList.{PrefixList}
+use Rattle.vpc_model.specs.declared.rows.Reach.{Reach}
+use Rattle.vpc_model.specs.declared.rows.Reach.TheVariants.{Block as ByBlock, List as ByList}
+use Rattle.vpc_model.specs.Cuts.{all_cuts, block_cuts, blocks_of_reach, cuts_of, cuts_of_blocks, cuts_of_group, cuts_of_list, cuts_of_permission, cuts_of_route, cuts_of_rule, cuts_of_table, cuts_of_tgw_table, on_sides, permissions_of, unbounded_asked, unbounded_standing}
+use Rattle.vpc_model.specs.Lookup.{entries_of}
+use Rattle.cut_points.specs.Cuts.{HasCuts}
+use Rattle.cut_points.specs.Gathered.{cuts_of_block, own_asked, own_cuts, own_cuts_of_group, own_cuts_of_permission, own_cuts_of_reach, own_cuts_of_route, own_cuts_of_table}
+
+-- each number of the first is one of the second
+abbrev Within : List ℕ → List ℕ → Type 0
+Within a b = (c : ℕ) → Contains a c → Contains b c
+
+none_within : (b : List ℕ) → Within [] b
+none_within b c (k, below, is) = absurd (omega arith)
+
+left_within : (a b : List ℕ) → Within a (a ++ b)
+left_within a b c h = Contains-append_left a b c h
+
+right_within : (a b : List ℕ) → Within b (a ++ b)
+right_within a b c h = Contains-append_right a b c h
+
+both_within : (a b d : List ℕ) → Within a d → Within b d → Within (a ++ b) d
+both_within a b d first second c h = elim (Contains-append_cases a b c h) [ inl x ↦ first c x | inr y ↦ second c y ]
+
+-- what a test keeps
+rest_kept : (b : Bool) (x c : ℕ) (xs : List ℕ) → Contains xs c → Contains (cond b (x ∷ xs) xs) c
+rest_kept true x c xs h = Contains-append_right (x ∷ []) xs c h
+rest_kept false x c xs h = h
+
+first_kept : (b : Bool) (x c : ℕ) (xs : List ℕ) → b ≡ true → x ≡ c → Contains (cond b (x ∷ xs) xs) c
+first_kept true x c xs t e = (0, omega arith, e)
+first_kept false x c xs t e = absurd (cc)
+
+from_kept : (b : Bool) (x c : ℕ) (xs : List ℕ) → Contains (cond b (x ∷ xs) xs) c → Contains xs c ⊎ ((x ≡ c) × (b ≡ true))
+from_kept true x c xs (zero, below, e) = inr (e, refl)
+from_kept true x c xs (suc k, below, e) = inl (k, omega arith, e)
+from_kept false x c xs h = inl h
+
+filter_in : (p : ℕ → Bool) (xs : List ℕ) (c : ℕ) → p c ≡ true → Contains xs c → Contains (filter p xs) c
+filter_in p [] c passes h = h
+filter_in p (x ∷ xs) c passes (zero, below, e) = first_kept (p x) x c (filter p xs) (ap p e ∙ passes) e
+filter_in p (x ∷ xs) c passes (suc k, below, e) = rest_kept (p x) x c (filter p xs) (filter_in p xs c passes (k, omega arith, e))
+
+in_filter : (p : ℕ → Bool) (xs : List ℕ) (c : ℕ) → Contains (filter p xs) c → Contains xs c × (p c ≡ true)
+in_filter p [] c (k, below, e) = absurd (omega arith)
+in_filter p (x ∷ xs) c h = elim (from_kept (p x) x c (filter p xs) h) [
+  | inl rest ↦ (let k = in_filter p xs c rest in (Contains-append_right (x ∷ []) xs c k.0, k.1))
+  | inr first ↦ ((0, omega arith, first.0), ap p (sym first.0) ∙ first.1)
+]
+
+filter_within : (p : ℕ → Bool) (a b : List ℕ) → Within a b → Within (filter p a) (filter p b)
+filter_within p a b within c h = let k = in_filter p a c h in filter_in p b c k.1 (within c k.0)
+
+-- ---- all four sides
+
+pub among_itself : (a : CutLists) → AreAmong a a
+among_itself a = record { proto = λ c h. h; addr = λ c h. h; p = λ c h. h; q = λ c h. h }
+
+pub among_through : (a b d : CutLists) → AreAmong a b → AreAmong b d → AreAmong a d
+among_through a b d first second = record {
+  proto = λ c h. second.proto c (first.proto c h);
+  addr = λ c h. second.addr c (first.addr c h);
+  p = λ c h. second.p c (first.p c h);
+  q = λ c h. second.q c (first.q c h);
+}
+
+pub none_among : (a : CutLists) → AreAmong no_cuts a
+none_among a = record { proto = none_within a.proto; addr = none_within a.addr; p = none_within a.p; q = none_within a.q }
+
+pub left_among : (a b : CutLists) → AreAmong a (joined_cuts a b)
+left_among a b = record { proto = left_within a.proto b.proto; addr = left_within a.addr b.addr; p = left_within a.p b.p; q = left_within a.q b.q }
+
+pub right_among : (a b : CutLists) → AreAmong b (joined_cuts a b)
+right_among a b = record { proto = right_within a.proto b.proto; addr = right_within a.addr b.addr; p = right_within a.p b.p; q = right_within a.q b.q }
+
+pub both_among : (a b d : CutLists) → AreAmong a d → AreAmong b d → AreAmong (joined_cuts a b) d
+both_among a b d first second = record {
+  proto = both_within a.proto b.proto d.proto first.proto second.proto;
+  addr = both_within a.addr b.addr d.addr first.addr second.addr;
+  p = both_within a.p b.p d.p first.p second.p;
+  q = both_within a.q b.q d.q first.q second.q;
+}
+
+pub on_sides_among : (a b : CutLists) → AreAmong a b → AreAmong (on_sides a) (on_sides b)
+on_sides_among a b h = record {
+  proto = filter_within (λ x. nat_le x 255) a.proto b.proto h.proto;
+  addr = filter_within (λ x. nat_le x 4294967295) a.addr b.addr h.addr;
+  p = filter_within (λ x. nat_le x 65535) a.p b.p h.p;
+  q = filter_within (λ x. nat_le x 65535) a.q b.q h.q;
+}
+
+-- joined cuts side by side
+pub joined_among : (a b x y : CutLists) → AreAmong a x → AreAmong b y → AreAmong (joined_cuts a b) (joined_cuts x y)
+joined_among a b x y first second =
+    both_among a b (joined_cuts x y)
+    (among_through a x (joined_cuts x y) first (left_among x y))
+    (among_through b y (joined_cuts x y) second (right_among x y))
+
+-- rows whose cuts are among those of other rows and some more
+pub all_among : {X : Type 0} (f g : X → CutLists) (more : CutLists) → ((x : X) → AreAmong (f x) (joined_cuts (g x) more)) → (xs : List X) → AreAmong (all_cuts f xs) (joined_cuts (all_cuts g xs) more)
+all_among f g more each [] = none_among (joined_cuts no_cuts more)
+all_among f g more each (x ∷ xs) =
+    let whole : CutLists = joined_cuts (joined_cuts (g x) (all_cuts g xs)) more in
+    let rows_in : AreAmong (joined_cuts (g x) (all_cuts g xs)) whole = left_among (joined_cuts (g x) (all_cuts g xs)) more in
+    let more_in : AreAmong more whole = right_among (joined_cuts (g x) (all_cuts g xs)) more in
+    both_among (f x) (all_cuts f xs) whole
+    (among_through (f x) (joined_cuts (g x) more) whole (each x)
+    (both_among (g x) more whole (among_through (g x) (joined_cuts (g x) (all_cuts g xs)) whole (left_among (g x) (all_cuts g xs)) rows_in) more_in))
+    (among_through (all_cuts f xs) (joined_cuts (all_cuts g xs) more) whole (all_among f g more each xs)
+    (both_among (all_cuts g xs) more whole (among_through (all_cuts g xs) (joined_cuts (g x) (all_cuts g xs)) whole (right_among (g x) (all_cuts g xs)) rows_in) more_in))
+
+-- ---- the entries of prefix lists
+
+no_list : PrefixList
+no_list = record { id = []; entries = [] }
+
+list_among : (ls : List PrefixList) (k : ℕ) → AreAmong (cuts_of_list (slice_index_or ls k no_list)) (all_cuts cuts_of_list ls)
+unfolding no_list
+list_among [] k = none_among no_cuts
+list_among (l ∷ ls) zero = left_among (cuts_of_list l) (all_cuts cuts_of_list ls)
+list_among (l ∷ ls) (suc k) =
+    among_through (cuts_of_list (slice_index_or ls k no_list)) (all_cuts cuts_of_list ls) (joined_cuts (cuts_of_list l) (all_cuts cuts_of_list ls))
+    (list_among ls k) (right_among (cuts_of_list l) (all_cuts cuts_of_list ls))
+
+-- a named list's entries cut where the described lists do
+pub entries_among : (d : Description) (id : List ℕ) → AreAmong (cuts_of_blocks (flat_map block_cuts (entries_of d id))) (all_cuts cuts_of_list d.lists)
+unfolding no_list
+entries_among d id = list_among d.lists (position_or_len (λ l. bytes_eq l.id id) d.lists)
+
+named_among : (d : Description) (ids : List (List ℕ)) → AreAmong (cuts_of_blocks (flat_map block_cuts (flat_map (entries_of d) ids))) (all_cuts cuts_of_list d.lists)
+named_among d [] = none_among (all_cuts cuts_of_list d.lists)
+named_among d (id ∷ ids) =
+    rw (flat_map-append block_cuts (entries_of d id) (flat_map (entries_of d) ids))
+    (both_among (cuts_of_blocks (flat_map block_cuts (entries_of d id))) (cuts_of_blocks (flat_map block_cuts (flat_map (entries_of d) ids))) (all_cuts cuts_of_list d.lists)
+    (entries_among d id) (named_among d ids))
+
+-- ---- rules and routes with the entries of their lists, and without them
+
+rule_among : (proto : Option ℕ) (from to : ℕ) (blocks named : List Block) (more : CutLists) → AreAmong (cuts_of_blocks (flat_map block_cuts named)) more → AreAmong (cuts_of_rule proto from to (blocks ++ named)) (joined_cuts (cuts_of_rule proto from to blocks) more)
+rule_among proto from to blocks named more h =
+    let own : CutLists = cuts_of_rule proto from to blocks in
+    record {
+      proto = left_within own.proto more.proto;
+      addr = rw (flat_map-append block_cuts blocks named)
+          (both_within own.addr (flat_map block_cuts named) (own.addr ++ more.addr) (left_within own.addr more.addr) (λ c k. right_within own.addr more.addr c (h.addr c k)));
+      p = left_within own.p more.p;
+      q = left_within own.q more.q;
+    }
+
+among_rule : (proto : Option ℕ) (from to : ℕ) (blocks named : List Block) → AreAmong (cuts_of_rule proto from to blocks) (cuts_of_rule proto from to (blocks ++ named))
+among_rule proto from to blocks named =
+    record {
+      proto = λ c h. h;
+      addr = rw (flat_map-append block_cuts blocks named) (left_within (flat_map block_cuts blocks) (flat_map block_cuts named));
+      p = λ c h. h;
+      q = λ c h. h;
+    }
+
+permission_among : (d : Description) (p : Permission) → AreAmong (cuts_of_permission d p) (joined_cuts (own_cuts_of_permission p) (all_cuts cuts_of_list d.lists))
+permission_among d p = rule_among p.proto p.q_from p.q_to p.blocks (flat_map (entries_of d) p.lists) (all_cuts cuts_of_list d.lists) (named_among d p.lists)
+
+among_permission : (d : Description) (p : Permission) → AreAmong (own_cuts_of_permission p) (joined_cuts (cuts_of_permission d p) (all_cuts cuts_of_list d.lists))
+among_permission d p =
+    among_through (own_cuts_of_permission p) (cuts_of_permission d p) (joined_cuts (cuts_of_permission d p) (all_cuts cuts_of_list d.lists))
+    (among_rule p.proto p.q_from p.q_to p.blocks (flat_map (entries_of d) p.lists))
+    (left_among (cuts_of_permission d p) (all_cuts cuts_of_list d.lists))
+
+reach_among : (d : Description) (r : Reach) → AreAmong (cuts_of_blocks (flat_map block_cuts (blocks_of_reach d r))) (joined_cuts (own_cuts_of_reach r) (all_cuts cuts_of_list d.lists))
+reach_among d (ByBlock b) = left_among (cuts_of_block b) (all_cuts cuts_of_list d.lists)
+reach_among d (ByList id) =
+    among_through (cuts_of_blocks (flat_map block_cuts (entries_of d id))) (all_cuts cuts_of_list d.lists) (joined_cuts no_cuts (all_cuts cuts_of_list d.lists))
+    (entries_among d id) (right_among no_cuts (all_cuts cuts_of_list d.lists))
+
+among_reach : (d : Description) (r : Reach) → AreAmong (own_cuts_of_reach r) (joined_cuts (cuts_of_blocks (flat_map block_cuts (blocks_of_reach d r))) (all_cuts cuts_of_list d.lists))
+among_reach d (ByBlock b) = left_among (cuts_of_block b) (all_cuts cuts_of_list d.lists)
+among_reach d (ByList id) = none_among (joined_cuts (cuts_of_blocks (flat_map block_cuts (entries_of d id))) (all_cuts cuts_of_list d.lists))
+
+-- ---- the whole
+
+-- rows beside lists, some of which are among others and the lists
+asked_among : (lists tables groups transit tables' groups' : CutLists) → AreAmong tables (joined_cuts tables' lists) → AreAmong groups (joined_cuts groups' lists) → AreAmong (joined_cuts lists (joined_cuts tables (joined_cuts groups transit))) (joined_cuts lists (joined_cuts tables' (joined_cuts groups' transit)))
+asked_among lists tables groups transit tables' groups' by_tables by_groups =
+    let last : CutLists = joined_cuts groups' transit in
+    let later : CutLists = joined_cuts tables' last in
+    let whole : CutLists = joined_cuts lists later in
+    let lists_in : AreAmong lists whole = left_among lists later in
+    let later_in : AreAmong later whole = right_among lists later in
+    let last_in : AreAmong last whole = among_through last later whole (right_among tables' last) later_in in
+    both_among lists (joined_cuts tables (joined_cuts groups transit)) whole lists_in
+    (both_among tables (joined_cuts groups transit) whole
+    (among_through tables (joined_cuts tables' lists) whole by_tables (both_among tables' lists whole (among_through tables' later whole (left_among tables' last) later_in) lists_in))
+    (both_among groups transit whole
+    (among_through groups (joined_cuts groups' lists) whole by_groups (both_among groups' lists whole (among_through groups' last whole (left_among groups' transit) last_in) lists_in))
+    (among_through transit last whole (right_among groups' transit) last_in)))
+
+cuts_among : (d : Description) → AreAmong (cuts_of d) (on_sides (own_cuts d))
+cuts_among d =
+    let lists : CutLists = all_cuts cuts_of_list d.lists in
+    on_sides_among (joined_cuts (unbounded_standing d) (unbounded_asked d)) (own_cuts d)
+    (joined_among (unbounded_standing d) (unbounded_asked d) (unbounded_standing d) (own_asked d) (among_itself (unbounded_standing d))
+    (asked_among lists (all_cuts (cuts_of_table d) d.tables) (all_cuts (cuts_of_group d) d.groups) (all_cuts cuts_of_tgw_table d.tgw_tables) (all_cuts own_cuts_of_table d.tables) (all_cuts own_cuts_of_group d.groups)
+    (all_among (cuts_of_table d) own_cuts_of_table lists (λ t. all_among (cuts_of_route d) own_cuts_of_route lists (λ r. reach_among d r.reach) t.routes) d.tables)
+    (all_among (cuts_of_group d) own_cuts_of_group lists (λ g. all_among (cuts_of_permission d) own_cuts_of_permission lists (permission_among d) (permissions_of g)) d.groups)))
+
+among_cuts : (d : Description) → AreAmong (on_sides (own_cuts d)) (cuts_of d)
+among_cuts d =
+    let lists : CutLists = all_cuts cuts_of_list d.lists in
+    on_sides_among (own_cuts d) (joined_cuts (unbounded_standing d) (unbounded_asked d))
+    (joined_among (unbounded_standing d) (own_asked d) (unbounded_standing d) (unbounded_asked d) (among_itself (unbounded_standing d))
+    (asked_among lists (all_cuts own_cuts_of_table d.tables) (all_cuts own_cuts_of_group d.groups) (all_cuts cuts_of_tgw_table d.tgw_tables) (all_cuts (cuts_of_table d) d.tables) (all_cuts (cuts_of_group d) d.groups)
+    (all_among own_cuts_of_table (cuts_of_table d) lists (λ t. all_among own_cuts_of_route (cuts_of_route d) lists (λ r. among_reach d r.reach) t.routes) d.tables)
+    (all_among own_cuts_of_group (cuts_of_group d) lists (λ g. all_among own_cuts_of_permission (cuts_of_permission d) lists (among_permission d) (permissions_of g)) d.groups)))
+
+-- lists with the members of what was gathered
+pub HasCuts-from_gathered : (d : Description) (gathered cuts : CutLists) → gathered ≡ on_sides (own_cuts d)
+    → ((x : ℕ) → Contains cuts.proto x ↔ Contains gathered.proto x) → ((x : ℕ) → Contains cuts.addr x ↔ Contains gathered.addr x)
+    → ((x : ℕ) → Contains cuts.p x ↔ Contains gathered.p x) → ((x : ℕ) → Contains cuts.q x ↔ Contains gathered.q x)
+    → HasCuts (cuts_of d) cuts
+HasCuts-from_gathered d gathered cuts is proto addr p q =
+    let down : AreAmong cuts gathered = record { proto = λ x. (proto x).0; addr = λ x. (addr x).0; p = λ x. (p x).0; q = λ x. (q x).0 } in
+    let up : AreAmong gathered cuts = record { proto = λ x. (proto x).1; addr = λ x. (addr x).1; p = λ x. (p x).1; q = λ x. (q x).1 } in
+    record {
+      no_others = among_through cuts (on_sides (own_cuts d)) (cuts_of d) (subst (AreAmong cuts) is down) (among_cuts d);
+      all = among_through (cuts_of d) (on_sides (own_cuts d)) cuts (cuts_among d) (subst (λ (g : CutLists). AreAmong g cuts) is up);
+    }

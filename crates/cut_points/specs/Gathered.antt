@@ -1,0 +1,54 @@
+-- What is gathered: the cuts of each row, without the entries of the prefix lists that it names, since each
+-- list gives its own.
+use Rattle.std.specs.Prelude.{ℕ, Option}
+use Rattle.prefix_text.specs.Block.{Block}
+use Rattle.vpc_base.specs.Cuts.{CutLists, joined_cuts, no_cuts}
+use Rattle.vpc_model.specs.declared.rows.Description.{Description}
+use Rattle.vpc_model.specs.declared.rows.Group.{Group}
+use Rattle.vpc_model.specs.declared.rows.Permission.{Permission}
+use Rattle.vpc_model.specs.declared.rows.Reach.{Reach}
+use Rattle.vpc_model.specs.declared.rows.Reach.TheVariants.{Block as ByBlock, List as ByList}
+use Rattle.vpc_model.specs.declared.rows.Route.{Route}
+use Rattle.vpc_model.specs.declared.rows.RouteTable.{RouteTable}
+use Rattle.vpc_model.specs.Cuts.{all_cuts, block_cuts, cuts_of_blocks, cuts_of_list, cuts_of_rule, cuts_of_tgw_table, on_sides, pair_cuts, permissions_of, unbounded_standing}
+
+-- the gathered cuts and those of the others that lie on their sides
+unfoldable pub gathered_with : CutLists → CutLists → CutLists
+gathered_with gathered others = joined_cuts gathered (on_sides others)
+
+-- the cuts of one block
+abbrev pub cuts_of_block : Block → CutLists
+cuts_of_block b = cuts_of_blocks (block_cuts b)
+
+-- the cuts of a private address and its public one
+abbrev pub cuts_of_pair : ℕ × Option ℕ → CutLists
+cuts_of_pair x = cuts_of_blocks (pair_cuts x)
+
+-- the cuts of a permission but for its prefix lists
+abbrev pub own_cuts_of_permission : Permission → CutLists
+own_cuts_of_permission p = cuts_of_rule p.proto p.q_from p.q_to p.blocks
+
+-- a prefix list is left out
+abbrev pub own_cuts_of_reach : Reach → CutLists
+own_cuts_of_reach (ByBlock b) = cuts_of_block b
+own_cuts_of_reach (ByList id) = no_cuts
+
+-- the cuts of a route but for its prefix list
+abbrev pub own_cuts_of_route : Route → CutLists
+own_cuts_of_route r = own_cuts_of_reach r.reach
+
+-- the cuts of a route table but for prefix lists
+abbrev pub own_cuts_of_table : RouteTable → CutLists
+own_cuts_of_table t = all_cuts own_cuts_of_route t.routes
+
+-- the cuts of a group but for prefix lists
+abbrev pub own_cuts_of_group : Group → CutLists
+own_cuts_of_group g = all_cuts own_cuts_of_permission (permissions_of g)
+
+-- the prefix lists, and what the other rows that only some places ask cut by themselves
+abbrev pub own_asked : Description → CutLists
+own_asked d = joined_cuts (all_cuts cuts_of_list d.lists) (joined_cuts (all_cuts own_cuts_of_table d.tables) (joined_cuts (all_cuts own_cuts_of_group d.groups) (all_cuts cuts_of_tgw_table d.tgw_tables)))
+
+-- the cuts of a description, each prefix list's entries once
+abbrev pub own_cuts : Description → CutLists
+own_cuts d = joined_cuts (unbounded_standing d) (own_asked d)

@@ -1,0 +1,11 @@
+//! The cuts of a described network: the numbers at which what becomes of headers may change.
+#![tactic(auto)]
+
+mod ascending;
+mod cuts;
+mod gathered;
+mod rows;
+#[cfg(test)]
+mod tests;
+
+pub use cuts::cuts_of;
