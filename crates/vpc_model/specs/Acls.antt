@@ -13,6 +13,7 @@ abbrev pub is_of_dir : Dir → AclRow → Bool
 is_of_dir Inward r = not r.outward
 is_of_dir Outward r = r.outward
 
+-- protocol, port range and block match (VPC User Guide, "Network ACL rules")
 abbrev pub acl_matches : Dir → Header → AclRow → Bool
 acl_matches dir h r = is_of_dir dir r && (matches_proto r.proto h.proto && (is_between r.q_from r.q_to h.q && holds (far_address dir h) r.block))
 

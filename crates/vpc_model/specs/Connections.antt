@@ -23,9 +23,11 @@ pub record Connection : Type 0 where
   pub dir : Dir
   pub header : Header
 
+-- all fields are the same (profile: tracking compares them exactly)
 abbrev pub same_header : Header → Header → Bool
 same_header a b = (a.proto == b.proto) && ((a.src == b.src) && ((a.dst == b.dst) && ((a.p == b.p) && (a.q == b.q))))
 
+-- interface, direction and header are the same
 abbrev pub same_connection : Connection → Connection → Bool
 same_connection a b = (a.eni.0 == b.eni.0) && (same_dir a.dir b.dir && same_header a.header b.header)
 
@@ -57,6 +59,7 @@ abbrev pub answer_passing : List Connection → Option RuleRef → Passing
 answer_passing conns None = record { by = None; conns = conns }
 answer_passing conns (Some r) = record { by = Some (Rule r); conns = conns }
 
+-- by rules alone for an open, by tracking or else by rules for an answer (VPC User Guide, "Connection tracking"; labels are profile)
 abbrev pub label_passing : Description → Label → EniNo → Dir → Header → List Connection → Passing
 label_passing d Opening i dir h conns = open_passing conns (record { eni = i; dir = dir; header = h }) (first_rule d (interface_at d i) dir h)
 label_passing d Answer i dir h conns = if is_tracked conns i dir h then record { by = Some Tracked; conns = conns } else answer_passing conns (first_rule d (interface_at d i) dir h)

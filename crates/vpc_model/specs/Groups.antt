@@ -24,6 +24,7 @@ abbrev pub is_pair_of : List ℕ → List ℕ → Option (List ℕ × List ℕ) 
 is_pair_of v w None = false
 is_pair_of v w (Some pair) = (bytes_eq pair.0 v && bytes_eq pair.1 w) || (bytes_eq pair.0 w && bytes_eq pair.1 v)
 
+-- an active peering joins the two VPCs (VPC Peering Guide, "Reference peer security groups")
 abbrev pub are_peers : Description → List ℕ → List ℕ → Bool
 are_peers d v w = list_any (λ x. is_pair_of v w x.pair) d.peerings
 
@@ -38,9 +39,11 @@ names_address d vpc a p =
     || (list_any (λ l. list_any (holds a) (entries_of d l)) p.lists
     || list_any (λ g. reference_counts d vpc g && is_member d g a) p.groups)
 
+-- protocol, port range and far address match (VPC User Guide, "Security group rules")
 abbrev pub permission_allows : Description → List ℕ → Dir → Header → Permission → Bool
 permission_allows d vpc dir h p = matches_proto p.proto h.proto && (is_between p.q_from p.q_to h.q && names_address d vpc (far_address dir h) p)
 
+-- the rules of a direction (DescribeSecurityGroups, IpPermissions and IpPermissionsEgress)
 abbrev pub permissions_of : Dir → Group → List Permission
 permissions_of Inward g = g.inward
 permissions_of Outward g = g.outward

@@ -36,47 +36,61 @@ is_listed id ids = list_any (λ i. bytes_eq i id) ids
 
 -- ---- rows by number
 
+-- a row of DescribeVpcs
 abbrev pub vpc_at : Description → VpcNo → Vpc
 vpc_at d v = slice_index_or d.vpcs v.0 (record { id = []; blocks = [] })
 
+-- a row of DescribeSubnets
 abbrev pub subnet_at : Description → SubnetNo → Subnet
 subnet_at d s = slice_index_or d.subnets s.0 (record { id = []; vpc = []; zone = [] })
 
+-- an interface that sends and receives nothing
 abbrev pub no_interface : Interface
 no_interface = record { id = []; subnet = []; primary = None; addresses = []; groups = []; checked = true; idle = true; kind = Host }
 
+-- a row of DescribeNetworkInterfaces
 abbrev pub interface_at : Description → EniNo → Interface
 interface_at d i = slice_index_or d.interfaces i.0 no_interface
 
+-- a row of DescribeRouteTables
 abbrev pub table_at : Description → TableNo → RouteTable
 table_at d t = slice_index_or d.tables t.0 (record { id = []; vpc = []; main = false; subnets = []; routes = [] })
 
+-- a row of DescribeNetworkAcls
 abbrev pub acl_at : Description → AclNo → Acl
 acl_at d a = slice_index_or d.acls a.0 (record { id = []; subnets = []; rows = [] })
 
+-- a group without rules
 abbrev pub no_group : Group
 no_group = record { id = []; vpc = []; inward = []; outward = [] }
 
+-- a row of DescribeSecurityGroups
 abbrev pub group_at : Description → GroupNo → Group
 group_at d g = slice_index_or d.groups g.0 no_group
 
+-- a row of DescribeInternetGateways
 abbrev pub igw_at : Description → IgwNo → InternetGateway
 igw_at d g = slice_index_or d.igws g.0 (record { id = []; vpcs = [] })
 
+-- a row of DescribeNatGateways
 abbrev pub nat_at : Description → NatNo → NatGateway
 nat_at d n = slice_index_or d.nats n.0 (record { id = []; life = Gone })
 
+-- a row of DescribeVpcPeeringConnections
 abbrev pub peering_at : Description → PeerNo → Peering
 peering_at d x = slice_index_or d.peerings x.0 (record { id = []; pair = None })
 
+-- a row of DescribeTransitGatewayVpcAttachments
 abbrev pub attachment_at : Description → AttNo → Attachment
 attachment_at d a = slice_index_or d.attachments a.0 (record { id = []; gateway = []; vpc = []; subnets = [] })
 
+-- a row of SearchTransitGatewayRoutes, by table
 abbrev pub tgw_table_at : Description → TgwTableNo → TgwTable
 tgw_table_at d t = slice_index_or d.tgw_tables t.0 (record { id = []; routes = [] })
 
 -- ---- numbers by id
 
+-- the VPC with a VpcId
 abbrev pub vpc_no : Description → List ℕ → VpcNo
 vpc_no d id = record { 0 = position_or_len (λ v. bytes_eq v.id id) d.vpcs }
 
@@ -84,18 +98,23 @@ vpc_no d id = record { 0 = position_or_len (λ v. bytes_eq v.id id) d.vpcs }
 abbrev pub has_vpc : Description → List ℕ → Bool
 has_vpc d id = list_any (λ v. bytes_eq v.id id) d.vpcs
 
+-- the subnet with a SubnetId
 abbrev pub subnet_no : Description → List ℕ → SubnetNo
 subnet_no d id = record { 0 = position_or_len (λ s. bytes_eq s.id id) d.subnets }
 
+-- the interface with a NetworkInterfaceId
 abbrev pub eni_no : Description → List ℕ → EniNo
 eni_no d id = record { 0 = position_or_len (λ e. bytes_eq e.id id) d.interfaces }
 
+-- the gateway with an InternetGatewayId
 abbrev pub igw_no : Description → List ℕ → IgwNo
 igw_no d id = record { 0 = position_or_len (λ g. bytes_eq g.id id) d.igws }
 
+-- the gateway with a NatGatewayId
 abbrev pub nat_no : Description → List ℕ → NatNo
 nat_no d id = record { 0 = position_or_len (λ n. bytes_eq n.id id) d.nats }
 
+-- the peering with a VpcPeeringConnectionId
 abbrev pub peer_no : Description → List ℕ → PeerNo
 peer_no d id = record { 0 = position_or_len (λ x. bytes_eq x.id id) d.peerings }
 
@@ -103,9 +122,11 @@ peer_no d id = record { 0 = position_or_len (λ x. bytes_eq x.id id) d.peerings 
 abbrev pub group_of_id : Description → List ℕ → Option GroupNo
 group_of_id d id = option_map (λ k. record { 0 = k }) (position (λ g. bytes_eq g.id id) d.groups)
 
+-- the same of a TransitGatewayAttachmentId
 abbrev pub attachment_of_id : Description → List ℕ → Option AttNo
 attachment_of_id d id = option_map (λ k. record { 0 = k }) (position (λ a. bytes_eq a.id id) d.attachments)
 
+-- the same of a TransitGatewayRouteTableId
 abbrev pub tgw_table_of_id : Description → List ℕ → Option TgwTableNo
 tgw_table_of_id d id = option_map (λ k. record { 0 = k }) (position (λ t. bytes_eq t.id id) d.tgw_tables)
 
@@ -115,9 +136,11 @@ entries_of d id = let l = slice_index_or d.lists (position_or_len (λ l. bytes_e
 
 -- ---- what belongs to what
 
+-- the VPC of a subnet (DescribeSubnets, VpcId)
 abbrev pub vpc_of_subnet : Description → SubnetNo → VpcNo
 vpc_of_subnet d s = let row = subnet_at d s in vpc_no d row.vpc
 
+-- the subnet of an interface (DescribeNetworkInterfaces, SubnetId)
 abbrev pub subnet_of : Description → EniNo → SubnetNo
 subnet_of d i = let e = interface_at d i in subnet_no d e.subnet
 

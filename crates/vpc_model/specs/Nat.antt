@@ -32,6 +32,7 @@ is_full ts n h = nat_le 55000 (count_by (shares n h) ts)
 abbrev pub first_port : ℕ → ℕ
 first_port p = if nat_lt p 1024 then p + 1024 else p
 
+-- the next port that is tried (profile)
 abbrev pub next_port : ℕ → ℕ
 next_port p = if p == 65535 then 1024 else p + 1
 

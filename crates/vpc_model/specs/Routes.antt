@@ -16,10 +16,12 @@ abbrev pub match_length : Description → ℕ → Reach → Option ℕ
 match_length d a (Block b) = if holds a b then Some b.length else None
 match_length d a (ByList id) = option_map (λ b. b.length) (chosen (holds a) (λ x y. nat_lt y.length x.length) (entries_of d id))
 
+-- the local route of a VPC (VPC User Guide, "Route table concepts")
 abbrev pub is_local : Target → Bool
 is_local Local = true
 is_local _ = false
 
+-- the route matches the address
 abbrev pub matches : Description → ℕ → Route → Bool
 matches d a r = is_some (match_length d a r.reach)
 
@@ -32,6 +34,7 @@ abbrev pub kind_of_reach : Reach → ℕ
 kind_of_reach (Block b) = 0
 kind_of_reach (ByList id) = 1
 
+-- the kind by which routes of equal length are told apart (profile)
 abbrev pub kind_of : Route → ℕ
 kind_of r = if r.propagated then 2 else kind_of_reach r.reach
 

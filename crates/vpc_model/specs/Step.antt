@@ -71,13 +71,16 @@ plain m next = record { next = next; by = Nothing; conns = m.conns; nats = m.nat
 
 -- ---- subnets and interfaces
 
+-- what comes next, unless something stops the packet
 abbrev pub unless_stopped : Option Stop → Next → Next
 unless_stopped None next = next
 unless_stopped (Some s) next = stop s
 
+-- the stop of an outbound ACL verdict
 abbrev pub refused_out : Description → SubnetNo → Bool × ℕ → Option Stop
 refused_out d s verdict = if verdict.0 then None else Some (AclOut (acl_of d s) verdict.1)
 
+-- the stop of an inbound ACL verdict
 abbrev pub refused_in : Description → SubnetNo → Bool × ℕ → Option Stop
 refused_in d s verdict = if verdict.0 then None else Some (AclIn (acl_of d s) verdict.1)
 
@@ -93,6 +96,7 @@ entering d s h = let a = acl_at d (acl_of d s) in refused_in d s (acl_verdict a.
 abbrev pub crossing : Description → SubnetNo → SubnetNo → Header → Option Stop
 crossing d s t h = if s.0 == t.0 then None else or_else (leaving d s h) (entering d t h)
 
+-- the interface belongs to a gateway (DescribeNetworkInterfaces, InterfaceType; profile)
 abbrev pub is_gateway : InterfaceKind → Bool
 is_gateway Host = false
 is_gateway Gateway = true
@@ -107,6 +111,7 @@ is_eni_of id (Live subnet eni address) = bytes_eq eni id
 abbrev pub nat_of : Description → EniNo → Option NatNo
 nat_of d i = let e = interface_at d i in option_map (λ k. record { 0 = k }) (position (λ n. is_eni_of e.id n.life) d.nats)
 
+-- to the NAT gateway, or to the interface unless it hosts nothing (VPC User Guide, "NAT gateways")
 abbrev pub deliver_by : Description → EniNo → Header → Option NatNo → Next
 deliver_by d i h (Some n) = go (NatIn n) h
 deliver_by d i h None = let e = interface_at d i in if is_gateway e.kind then stop (NotAHost i) else go (Into i) h
@@ -117,6 +122,7 @@ deliver d i h = deliver_by d i h (nat_of d i)
 
 -- ---- OutOf and Into: the interface
 
+-- on to the router, if the groups let the packet pass
 abbrev pub out_passing : Description → EniNo → Moment → Passing → Step
 out_passing d i m p =
     elim p.by [
@@ -124,6 +130,7 @@ out_passing d i m p =
       | Some by ↦ record { next = go (Router (subnet_of d i) (FromHost i)) m.header; by = by; conns = p.conns; nats = m.nats }
     ]
 
+-- out of an interface: attached, source check, groups (VPC User Guide, "Source/destination checks" and "Security groups")
 abbrev pub step_out : Description → Label → EniNo → Moment → Step
 step_out d label i m =
     let e = interface_at d i in
@@ -131,6 +138,7 @@ step_out d label i m =
     else (if e.checked && not (has_address e m.header.src) then plain m (stop (SourceCheck i))
     else out_passing d i m (passing_of d label i Outward m.header m.conns))
 
+-- arrived, if the groups let the packet pass
 abbrev pub in_passing : EniNo → Moment → Passing → Step
 in_passing i m p =
     elim p.by [
@@ -138,6 +146,7 @@ in_passing i m p =
       | Some by ↦ record { next = arrive (AtInterface i); by = by; conns = p.conns; nats = m.nats }
     ]
 
+-- into an interface: attached, destination check, groups (VPC User Guide, "Source/destination checks" and "Security groups")
 abbrev pub step_into : Description → Label → EniNo → Moment → Step
 step_into d label i m =
     let e = interface_at d i in
@@ -147,6 +156,7 @@ step_into d label i m =
 
 -- ---- Router: by the target of the chosen route
 
+-- a local route: to the interface that has the destination (VPC User Guide, "Subnet route tables")
 abbrev pub to_host : Description → SubnetNo → Header → Option EniNo → Next
 to_host d s h None = stop (NoHost (vpc_of_subnet d s))
 to_host d s h (Some i) = unless_stopped (crossing d s (subnet_of d i) h) (deliver d i h)
@@ -156,16 +166,19 @@ abbrev pub is_attached : IgwNo → Option IgwNo → Bool
 is_attached g None = false
 is_attached g (Some attached) = attached.0 == g.0
 
+-- a route to an internet gateway, which is attached to the VPC (VPC User Guide, "Internet gateways")
 abbrev pub to_internet : Description → SubnetNo → Header → IgwNo → Next
 to_internet d s h g =
     let v = vpc_of_subnet d s in
     if is_attached g (gateway_of d v) then unless_stopped (leaving d s h) (go (IgwOut v) h) else stop (GatewayDetached g)
 
+-- a route to a NAT gateway, which is available (VPC User Guide, "NAT gateways")
 abbrev pub to_nat : Description → SubnetNo → Header → NatNo → NatLife → Next
 to_nat d s h n Gone = stop (NatNotAvailable n)
 to_nat d s h n WithoutSubnet = stop (Unmodelled (ForeignNat n))
 to_nat d s h n (Live subnet eni address) = unless_stopped (crossing d s (subnet_no d subnet) h) (go (NatOut n) h)
 
+-- a route to a peering, which is active (VPC Peering Guide, "Update your route tables")
 abbrev pub to_peer : Description → SubnetNo → Header → PeerNo → Option (List ℕ × List ℕ) → Next
 to_peer d s h x None = stop (PeerNotActive x)
 to_peer d s h x (Some pair) =
@@ -173,19 +186,23 @@ to_peer d s h x (Some pair) =
     let row = vpc_at d v in
     if has_vpc d (other_side row.id pair) then unless_stopped (leaving d s h) (go (Peer x v) h) else stop (Unmodelled (ForeignPeering x))
 
+-- into the attachment's subnet, whose ACL is asked even if it is the sender's (Transit Gateways guide, "Network ACLs")
 abbrev pub to_zone : Description → SubnetNo → Header → AttNo → Option SubnetNo → Next
 to_zone d s h a None = stop (TgwNoZone a)
 to_zone d s h a (Some t) = unless_stopped (or_else (leaving d s h) (entering d t h)) (go (Tgw a t) h)
 
+-- a route to a transit gateway, which has an attachment here (Transit Gateways guide, "Availability Zones")
 abbrev pub to_transit : Description → SubnetNo → Header → TableNo → ℕ → Option AttNo → Next
 to_transit d s h t k None = stop (TgwNoAttachment t k)
 to_transit d s h t k (Some a) = to_zone d s h a (zone_subnet d a s)
 
+-- a route to an interface, such as an instance that forwards (VPC User Guide, "Routing for a middlebox appliance")
 abbrev pub to_interface : Description → SubnetNo → Header → EniNo → Next
 to_interface d s h j =
     let e = interface_at d j in
     unless_stopped (crossing d s (subnet_of d j) h) (if is_gateway e.kind then stop (NotAHost j) else go (Into j) h)
 
+-- by the target of the route (EC2 API, Route)
 abbrev pub to_target : Description → SubnetNo → Header → TableNo → ℕ → Target → Next
 to_target d s h t k Local = to_host d s h (host_of d (vpc_of_subnet d s) h.dst)
 to_target d s h t k (ToInternet id) = to_internet d s h (igw_no d id)
@@ -195,9 +212,11 @@ to_target d s h t k (ToTransit id) = to_transit d s h t k (attachment_for d id s
 to_target d s h t k (ToInterface id) = to_interface d s h (eni_no d id)
 to_target d s h t k (Other id) = stop (Unmodelled (ForeignTarget t k))
 
+-- a route that no table has
 abbrev pub no_route : Route
 no_route = record { reach = ByList []; target = Local; blackhole = true; propagated = false }
 
+-- by the chosen route; a blackhole stops the packet (EC2 API, Route, State)
 abbrev pub by_route : Description → SubnetNo → Header → TableNo → Option ℕ → Next
 by_route d s h t None = stop (NoRoute t)
 by_route d s h t (Some k) =
@@ -205,6 +224,7 @@ by_route d s h t (Some k) =
     let r = slice_index_or table.routes k no_route in
     if r.blackhole then stop (Blackhole t k) else to_target d s h t k r.target
 
+-- the implicit router of a subnet (VPC User Guide, "Route tables")
 abbrev pub step_router : Description → SubnetNo → Moment → Step
 step_router d s m =
     let t = table_of d s in
@@ -213,10 +233,12 @@ step_router d s m =
 
 -- ---- Enter: a VPC
 
+-- to the interface of the VPC that has the destination
 abbrev pub enter_host : Description → VpcNo → Header → Option EniNo → Next
 enter_host d v h None = stop (NoHost v)
 enter_host d v h (Some i) = unless_stopped (entering d (subnet_of d i) h) (deliver d i h)
 
+-- into a VPC, from its internet gateway or a peering
 abbrev pub step_enter : Description → VpcNo → Moment → Step
 step_enter d v m = plain m (enter_host d v m.header (host_of d v m.header.dst))
 
@@ -226,88 +248,108 @@ step_enter d v m = plain m (enter_host d v m.header (host_of d v m.header.dst))
 abbrev pub no_gateway : Description → IgwNo
 no_gateway d = record { 0 = length d.igws }
 
+-- with the public address as the source (VPC User Guide, "Internet gateways", NAT of public addresses)
 abbrev pub go_public : Description → VpcNo → Header → Option ℕ → Next
 go_public d v h None = stop (NoPublic (unwrap_or (gateway_of d v) (no_gateway d)))
 go_public d v h (Some public) = go Internet (record h { src = public })
 
+-- out by the internet gateway
 abbrev pub step_igw_out : Description → VpcNo → Moment → Step
 step_igw_out d v m = plain m (go_public d v m.header (public_of d v m.header.src))
 
+-- to the gateway of the VPC that has the public address, else arrived on the internet
 abbrev pub to_owner : Description → Header → Option VpcNo → Next
 to_owner d h None = arrive AtInternet
 to_owner d h (Some v) = if is_none (gateway_of d v) then stop (NoGateway v) else go (IgwIn v) h
 
+-- on the internet, which carries no packet from or to an unroutable address (profile)
 abbrev pub step_internet : Description → Moment → Step
 step_internet d m =
     if is_unroutable m.header.src || is_unroutable m.header.dst then plain m (stop PrivateAddress)
     else plain m (to_owner d m.header (owner_of d m.header.dst))
 
+-- in by the internet gateway, with the private address as the destination (VPC User Guide, "Internet gateways")
 abbrev pub step_igw_in : Description → VpcNo → Moment → Step
 step_igw_in d v m = plain m (go (Enter v ByGateway) (record m.header { dst = unwrap_or (private_of d v m.header.dst) m.header.dst }))
 
 -- ---- NatOut and NatIn: the NAT gateway
 
+-- the private address of a live NAT gateway (DescribeNatGateways, PrivateIp)
 abbrev pub own_address : NatLife → ℕ
 own_address Gone = 0
 own_address WithoutSubnet = 0
 own_address (Live subnet eni address) = address
 
+-- its subnet (DescribeNatGateways, SubnetId)
 abbrev pub own_subnet : NatLife → List ℕ
 own_subnet Gone = []
 own_subnet WithoutSubnet = []
 own_subnet (Live subnet eni address) = subnet
 
+-- on from a NAT gateway, by the router of its subnet
 abbrev pub from_nat : Description → NatNo → Header → Next
 from_nat d n h = let row = nat_at d n in go (Router (subnet_no d (own_subnet row.life)) (FromNat n)) h
 
+-- on with a new translation, which is remembered
 abbrev pub translated_to : Description → NatNo → Moment → Translation → Step
 translated_to d n m t = record { next = from_nat d n t.after; by = Nothing; conns = m.conns; nats = m.nats ++ t ∷ [] }
 
+-- by the translation that there is, or a new one while the gateway isn't full (VPC User Guide, "NAT gateway basics")
 abbrev pub translate : Description → NatNo → Moment → Option Translation → Step
 translate d n m (Some t) = plain m (from_nat d n t.after)
 translate d n m None =
     let row = nat_at d n in
     if is_full m.nats n m.header then plain m (stop (NatFull n)) else translated_to d n m (new_translation m.nats n (own_address row.life) m.header)
 
+-- out by a NAT gateway: first packets of TCP, UDP and ICMP alone (VPC User Guide, "NAT gateway basics"; labels are profile)
 abbrev pub step_nat_out : Description → Label → NatNo → Moment → Step
 step_nat_out d Answer n m = plain m (stop (NatAnswer n))
 step_nat_out d Opening n m = if is_translatable m.header.proto then translate d n m (translation_of m.nats n m.header) else plain m (stop (NatProtocol n))
 
+-- on as the answer to the open before its translation
 abbrev pub from_inward : Description → NatNo → Option Header → Next
 from_inward d n None = stop (NatUnsolicited n)
 from_inward d n (Some h) = from_nat d n h
 
+-- back by a NAT gateway: answers to what it sent out alone (VPC User Guide, "NAT gateways")
 abbrev pub step_nat_in : Description → Label → NatNo → Moment → Step
 step_nat_in d Opening n m = plain m (stop (NatUnsolicited n))
 step_nat_in d Answer n m = plain m (from_inward d n (inward m.nats n m.header))
 
 -- ---- Peer: a peering
 
+-- over a peering: from a block of the one VPC to a block of the other (profile)
 abbrev pub over_peering : Description → PeerNo → VpcNo → VpcNo → Header → Next
 over_peering d x v w h =
     if not (has_block d v h.src) then stop (PeerSource x)
     else (if not (has_block d w h.dst) then stop (PeerDestination x) else go (Enter w (ByPeering x)) h)
 
+-- by the two VPCs of the peering (DescribeVpcPeeringConnections)
 abbrev pub by_pair : Description → PeerNo → VpcNo → Header → Option (List ℕ × List ℕ) → Next
 by_pair d x v h None = stop (PeerNotActive x)
 by_pair d x v h (Some pair) = let row = vpc_at d v in over_peering d x v (vpc_no d (other_side row.id pair)) h
 
+-- a peering carries to its other VPC and no further (VPC Peering Guide, "Transitive peering")
 abbrev pub step_peer : Description → PeerNo → VpcNo → Moment → Step
 step_peer d x v m = let row = peering_at d x in plain m (by_pair d x v m.header row.pair)
 
 -- ---- Tgw and TgwLeave: the transit gateway
 
+-- out by a described attachment
 abbrev pub to_attachment : SubnetNo → Header → TgwTableNo → ℕ → Option AttNo → Next
 to_attachment entered h t k None = stop (Unmodelled (FarAttachment t k))
 to_attachment entered h t k (Some a) = go (TgwLeave a entered) h
 
+-- out by the attachment that the route names
 abbrev pub by_attachment : Description → SubnetNo → Header → TgwTableNo → ℕ → Option (List ℕ) → Next
 by_attachment d entered h t k None = stop (Unmodelled (ForeignTable t))
 by_attachment d entered h t k (Some id) = to_attachment entered h t k (attachment_of_id d id)
 
+-- a route that no table has
 abbrev pub no_tgw_route : TgwRoute
 no_tgw_route = record { block = record { first = 0; length = 32 }; blackhole = true; propagated = false; attachment = None }
 
+-- by the chosen route; a blackhole stops the packet (SearchTransitGatewayRoutes, State)
 abbrev pub by_tgw_route : Description → SubnetNo → Header → TgwTableNo → Option ℕ → Next
 by_tgw_route d entered h t None = stop (TgwNoRoute t)
 by_tgw_route d entered h t (Some k) =
@@ -315,22 +357,27 @@ by_tgw_route d entered h t (Some k) =
     let r = slice_index_or table.routes k no_tgw_route in
     if r.blackhole then stop (TgwBlackhole t k) else by_attachment d entered h t k r.attachment
 
+-- by the table of the attachment (DescribeTransitGatewayAttachments, Association)
 abbrev pub by_tgw_table : Description → AttNo → SubnetNo → Header → Option TgwTableNo → Next
 by_tgw_table d a entered h None = stop (TgwNoTable a)
 by_tgw_table d a entered h (Some t) = let table = tgw_table_at d t in by_tgw_route d entered h t (chosen_tgw_route table.routes h.dst)
 
+-- into a transit gateway (Transit Gateways guide, "Routing")
 abbrev pub step_tgw : Description → AttNo → SubnetNo → Moment → Step
 step_tgw d a entered m = plain m (by_tgw_table d a entered m.header (table_of_attachment d a))
 
+-- on to the router of the subnet by which the packet leaves
 abbrev pub leave_by : AttNo → Header → Option SubnetNo → Next
 leave_by a h None = stop (Unmodelled (ForeignAttachment a))
 leave_by a h (Some s) = go (Router s (FromTransit a)) h
 
+-- out of a transit gateway, in the zone where the packet entered if there is a subnet (profile)
 abbrev pub step_tgw_leave : Description → AttNo → SubnetNo → Moment → Step
 step_tgw_leave d a entered m = plain m (leave_by a m.header (leave_subnet d a entered))
 
 -- ---- all places
 
+-- one equation for each place
 abbrev pub step_at : Description → Label → Place → Moment → Step
 step_at d label (OutOf i) m = step_out d label i m
 step_at d label (Router s came) m = step_router d s m

@@ -35,12 +35,15 @@ use Rattle.vpc_model.specs.Step.{no_gateway, no_route, no_tgw_route}
 abbrev pub word : List ℕ → List ℕ
 word text = codes " " ++ text
 
+-- a newline
 abbrev pub line_end : List ℕ
 line_end = 10 ∷ []
 
+-- a protocol by name or number
 abbrev pub proto_text : ℕ → List ℕ
 proto_text n = if n == 1 then codes "icmp" else (if n == 6 then codes "tcp" else (if n == 17 then codes "udp" else decimal n))
 
+-- PROTO SRC DST P Q
 abbrev pub header_text : Header → List ℕ
 header_text h = proto_text h.proto ++ word (addr_text h.src) ++ word (addr_text h.dst) ++ word (decimal h.p) ++ word (decimal h.q)
 
@@ -50,6 +53,7 @@ header_text h = proto_text h.proto ++ word (addr_text h.src) ++ word (addr_text 
 abbrev pub gateway_id : Description → VpcNo → List ℕ
 gateway_id d v = let g = igw_at d (unwrap_or (gateway_of d v) (no_gateway d)) in g.id
 
+-- the kind of a place
 abbrev pub place_kind : Place → List ℕ
 place_kind (OutOf i) = codes "out"
 place_kind (Router s came) = codes "router"
@@ -64,6 +68,7 @@ place_kind (Peer x v) = codes "peer"
 place_kind (Tgw a s) = codes "tgw"
 place_kind (TgwLeave a s) = codes "tgw-leave"
 
+-- the id of a place
 abbrev pub place_id : Description → Place → List ℕ
 place_id d (OutOf i) = let e = interface_at d i in e.id
 place_id d (Router s came) = let row = subnet_at d s in row.id
@@ -78,6 +83,7 @@ place_id d (Peer x v) = let row = peering_at d x in row.id
 place_id d (Tgw a s) = let row = attachment_at d a in row.id
 place_id d (TgwLeave a s) = let row = attachment_at d a in row.id
 
+-- the direction of a rule
 abbrev pub dir_text : Dir → List ℕ
 dir_text Inward = codes "in"
 dir_text Outward = codes "out"
@@ -93,19 +99,23 @@ by_text d (Rule r) = let g = group_at d r.group in codes " by" ++ word g.id ++ w
 abbrev pub hop_line : Description → ℕ → Hop → List ℕ
 hop_line d n h = codes "hop" ++ word (decimal n) ++ word (place_kind h.place) ++ word (place_id d h.place) ++ word (header_text h.header) ++ by_text d h.by ++ line_end
 
+-- the lines of hops, from a number on
 abbrev pub hop_lines_from : Description → ℕ → List Hop → List ℕ
 hop_lines_from d n [] = []
 hop_lines_from d n (h ∷ hs) = hop_line d n h ++ hop_lines_from d (n + 1) hs
 
+-- the lines of all hops
 abbrev pub hop_lines : Description → List Hop → List ℕ
 hop_lines d hops = hop_lines_from d 1 hops
 
 -- ---- ends and stops
 
+-- the id of an end
 abbrev pub end_id : Description → End → List ℕ
 end_id d (AtInterface i) = let e = interface_at d i in e.id
 end_id d AtInternet = codes "internet"
 
+-- the name of a stop
 abbrev pub stop_name : Stop → List ℕ
 stop_name (Detached i) = codes "Detached"
 stop_name (SourceCheck i) = codes "SourceCheck"
@@ -153,12 +163,15 @@ target_id (ToPeer id) = id
 target_id (ToInterface id) = id
 target_id (Other id) = id
 
+-- the id of the target of a table's route
 abbrev pub route_target_id : Description → TableNo → ℕ → List ℕ
 route_target_id d t k = let table = table_at d t in let r = slice_index_or table.routes k no_route in target_id r.target
 
+-- the id of the attachment of a transit gateway route
 abbrev pub tgw_route_attachment : Description → TgwTableNo → ℕ → List ℕ
 tgw_route_attachment d t k = let table = tgw_table_at d t in let r = slice_index_or table.routes k no_tgw_route in unwrap_or r.attachment []
 
+-- the id of what isn't followed
 abbrev pub foreign_id : Description → Foreign → List ℕ
 foreign_id d (ForeignTarget t k) = route_target_id d t k
 foreign_id d (ForeignNat n) = let row = nat_at d n in row.id
@@ -167,6 +180,7 @@ foreign_id d (ForeignAttachment a) = let row = attachment_at d a in row.id
 foreign_id d (ForeignTable t) = let table = tgw_table_at d t in table.id
 foreign_id d (FarAttachment t k) = tgw_route_attachment d t k
 
+-- the component that stopped the packet
 abbrev pub stop_id : Description → Stop → List ℕ
 stop_id d (Detached i) = let e = interface_at d i in e.id
 stop_id d (SourceCheck i) = let e = interface_at d i in e.id
@@ -204,6 +218,7 @@ stop_id d (WrongPlace e) = end_id d e
 stop_id d (WrongReturn e) = end_id d e
 stop_id d (NoReply e) = end_id d e
 
+-- a route's prefix, or the id of its prefix list
 abbrev pub reach_text : Reach → List ℕ
 reach_text (Block b) = block_text b
 reach_text (ByList id) = id

@@ -16,6 +16,7 @@ use Rattle.vpc_model.specs.Connections.{is_header}
 use Rattle.vpc_model.specs.Place.{start_of}
 use Rattle.vpc_model.specs.Walk.{Walk, walk_of}
 
+-- the same interface, or the internet both
 abbrev pub same_end : End → End → Bool
 same_end (Interface i) (Interface j) = i.0 == j.0
 same_end Internet Internet = true
@@ -39,6 +40,7 @@ abbrev pub verdict_of_arrival : Description → End → End → Header → Walk 
 verdict_of_arrival d start goal h request None = StoppedIn Reply (NoReply goal)
 verdict_of_arrival d start goal h request (Some r) = let reply = reply_walk d goal r request in verdict_of_reply start h reply.outcome
 
+-- how a request's walk ends: it should arrive at the target, and have a reply
 abbrev pub verdict_of_request : Description → End → End → Header → Walk → Outcome → Verdict
 verdict_of_request d start goal h request (Stopped s) = StoppedIn Request s
 verdict_of_request d start goal h request (Arrived end k) =

@@ -26,11 +26,13 @@ same_came (Nat n) (Nat o) = n.0 == o.0
 same_came (Transit a) (Transit b) = a.0 == b.0
 same_came _ _ = false
 
+-- entered by the same gateway or peering
 abbrev pub same_enter : EnterBy → EnterBy → Bool
 same_enter Gateway Gateway = true
 same_enter (Peering x) (Peering y) = x.0 == y.0
 same_enter _ _ = false
 
+-- the same kind of place, with the same numbers
 abbrev pub same_place : Place → Place → Bool
 same_place (OutOf i) (OutOf j) = i.0 == j.0
 same_place (Router s c) (Router t e) = (s.0 == t.0) && same_came c e
@@ -46,6 +48,7 @@ same_place (Tgw a s) (Tgw b t) = (a.0 == b.0) && (s.0 == t.0)
 same_place (TgwLeave a s) (TgwLeave b t) = (a.0 == b.0) && (s.0 == t.0)
 same_place _ _ = false
 
+-- the place is among the hops
 abbrev pub is_visited : List Hop → Place → Bool
 is_visited hops p = list_any (λ h. same_place h.place p) hops
 
@@ -56,6 +59,7 @@ pub record Walk : Type 0 where
   pub conns : List Connection
   pub nats : List Translation
 
+-- a walk that ends so
 abbrev pub ended : List Hop → Outcome → List Connection → List Translation → Walk
 ended hops outcome conns nats = record { hops = hops; outcome = outcome; conns = conns; nats = nats }
 
