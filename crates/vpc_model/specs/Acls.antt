@@ -8,7 +8,7 @@ use Rattle.vpc_model.specs.declared.rows.AclRow.{AclRow}
 use Rattle.vpc_model.specs.Choice.{chosen}
 use Rattle.vpc_model.specs.Filter.{far_address, matches_proto, is_between}
 
--- the row is of the direction
+-- the row is of the direction (EC2 API, DescribeNetworkAcls)
 abbrev pub is_of_dir : Dir → AclRow → Bool
 is_of_dir Inward r = not r.outward
 is_of_dir Outward r = r.outward
@@ -17,11 +17,11 @@ is_of_dir Outward r = r.outward
 abbrev pub acl_matches : Dir → Header → AclRow → Bool
 acl_matches dir h r = is_of_dir dir r && (matches_proto r.proto h.proto && (is_between r.q_from r.q_to h.q && holds (far_address dir h) r.block))
 
--- what a row says, or the last rule of every ACL
+-- what a row says, or the last rule of every ACL (VPC User Guide, "Network ACL rules")
 abbrev pub verdict_of_row : Option AclRow → Bool × ℕ
 verdict_of_row None = (false, 32767)
 verdict_of_row (Some r) = (r.allow, r.number)
 
--- whether the packet may pass, and the number of the rule that says so: the matching row with the least number, and of those the first
+-- whether the packet may pass, and the number of its rule: the first of the matching rows with the least number (VPC User Guide, "Network ACL rules")
 abbrev pub acl_verdict : List AclRow → Dir → Header → Bool × ℕ
 acl_verdict rows dir h = verdict_of_row (chosen (acl_matches dir h) (λ r s. nat_lt r.number s.number) rows)

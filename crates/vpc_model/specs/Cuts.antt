@@ -29,97 +29,112 @@ use Rattle.vpc_model.specs.Transit.{table_of_attachment}
 
 -- ---- what each thing cuts
 
--- a block cuts before its first address and after its last
+-- a block cuts before its first address and after its last (profile: notation)
 abbrev pub block_cuts : Block → List ℕ
 block_cuts b = b.first ∷ (last_of b + 1) ∷ []
 
--- an address is cut out on both sides
+-- an address is cut out on both sides (profile: notation)
 abbrev pub address_cuts : ℕ → List ℕ
 address_cuts a = a ∷ (a + 1) ∷ []
 
--- the private and the public address, if it has one
+-- a public address, if there is one, is cut out on both sides (profile: notation)
 abbrev pub public_cuts : Option ℕ → List ℕ
 public_cuts None = []
 public_cuts (Some a) = address_cuts a
 
+-- the private and the public address, if it has one (profile: notation)
 abbrev pub pair_cuts : ℕ × Option ℕ → List ℕ
 pair_cuts x = address_cuts x.0 ++ public_cuts x.1
 
--- a protocol is cut out on both sides
+-- a protocol is cut out on both sides (profile: notation)
 abbrev pub proto_cuts : Option ℕ → List ℕ
 proto_cuts None = []
 proto_cuts (Some n) = n ∷ (n + 1) ∷ []
 
--- the edges of a rule's range on q
+-- the edges of a rule's range on q (profile: notation)
 abbrev pub edges : ℕ → ℕ → List ℕ
 edges from to = from ∷ (to + 1) ∷ []
 
--- a source port may have come from a port 1,024 lower, at a NAT gateway
+-- a source port may have come from a port 1,024 lower, at a NAT gateway (profile)
 abbrev pub shifted_edges : List ℕ → List ℕ
 shifted_edges es = es ++ map (λ e. e - 1024) (filter (nat_le 1024) es)
 
 -- ---- what each row cuts
 
+-- cuts of addresses, and of nothing else (profile: notation)
 abbrev pub cuts_of_blocks : List ℕ → CutLists
 cuts_of_blocks addr = record no_cuts { addr = addr }
 
--- a rule cuts by its protocol, by the edges of its range and by its blocks
+-- a rule cuts by its protocol, by the edges of its range and by its blocks (profile: notation)
 abbrev pub cuts_of_rule : Option ℕ → ℕ → ℕ → List Block → CutLists
 cuts_of_rule proto from to blocks =
     record { proto = proto_cuts proto; addr = flat_map block_cuts blocks; p = shifted_edges (edges from to); q = edges from to }
 
+-- the cuts of a row of an ACL (profile: notation)
 abbrev pub cuts_of_acl_row : AclRow → CutLists
 cuts_of_acl_row r = cuts_of_rule r.proto r.q_from r.q_to (r.block ∷ [])
 
--- the blocks of a permission, with the entries of its prefix lists
+-- the blocks of a permission, with the entries of its prefix lists (EC2 API, DescribeSecurityGroups)
 abbrev pub blocks_of_permission : Description → Permission → List Block
 blocks_of_permission d p = p.blocks ++ flat_map (entries_of d) p.lists
 
+-- the cuts of a permission (profile: notation)
 abbrev pub cuts_of_permission : Description → Permission → CutLists
 cuts_of_permission d p = cuts_of_rule p.proto p.q_from p.q_to (blocks_of_permission d p)
 
+-- the block of a route, or the entries of its prefix list (EC2 API, DescribeRouteTables)
 abbrev pub blocks_of_reach : Description → Reach → List Block
 blocks_of_reach d (ByBlock b) = b ∷ []
 blocks_of_reach d (ByList id) = entries_of d id
 
+-- the cuts of a route (profile: notation)
 abbrev pub cuts_of_route : Description → Route → CutLists
 cuts_of_route d r = cuts_of_blocks (flat_map block_cuts (blocks_of_reach d r.reach))
 
+-- the cuts of a transit gateway route (profile: notation)
 abbrev pub cuts_of_tgw_route : TgwRoute → CutLists
 cuts_of_tgw_route r = cuts_of_blocks (block_cuts r.block)
 
--- the cuts of all rows of a list
+-- the cuts of all rows of a list (profile: notation)
 abbrev pub all_cuts : {X : Type 0} → (X → CutLists) → List X → CutLists
 all_cuts f [] = no_cuts
 all_cuts f (x ∷ xs) = joined_cuts (f x) (all_cuts f xs)
 
 -- ---- the whole description
 
+-- the cuts of a VPC's blocks (profile: notation)
 abbrev pub cuts_of_vpc : Vpc → CutLists
 cuts_of_vpc v = cuts_of_blocks (flat_map block_cuts v.blocks)
 
+-- the cuts of an interface's addresses (profile: notation)
 abbrev pub cuts_of_interface : Interface → CutLists
 cuts_of_interface e = cuts_of_blocks (flat_map pair_cuts e.addresses)
 
+-- the cuts of an ACL's rows (profile: notation)
 abbrev pub cuts_of_acl : Acl → CutLists
 cuts_of_acl a = all_cuts cuts_of_acl_row a.rows
 
+-- the cuts of a prefix list's entries (profile: notation)
 abbrev pub cuts_of_list : PrefixList → CutLists
 cuts_of_list l = cuts_of_blocks (flat_map block_cuts l.entries)
 
+-- the cuts of a route table's routes (profile: notation)
 abbrev pub cuts_of_table : Description → RouteTable → CutLists
 cuts_of_table d t = all_cuts (cuts_of_route d) t.routes
 
+-- the permissions of a group in both directions (EC2 API, DescribeSecurityGroups)
 abbrev pub permissions_of : Group → List Permission
 permissions_of g = g.inward ++ g.outward
 
+-- the cuts of a group's permissions (profile: notation)
 abbrev pub cuts_of_group : Description → Group → CutLists
 cuts_of_group d g = all_cuts (cuts_of_permission d) (permissions_of g)
 
+-- the cuts of a transit gateway table's routes (profile: notation)
 abbrev pub cuts_of_tgw_table : TgwTable → CutLists
 cuts_of_tgw_table t = all_cuts cuts_of_tgw_route t.routes
 
--- what is cut in every network: ICMP, TCP and UDP, the unroutable blocks, the well-known ports, and the echo request
+-- what is cut in every network: ICMP, TCP and UDP, the unroutable blocks, the well-known ports, and the echo request (profile)
 abbrev pub fixed_cuts : CutLists
 fixed_cuts = record {
   proto = 1 ∷ 2 ∷ 6 ∷ 7 ∷ 17 ∷ 18 ∷ [];
@@ -128,15 +143,15 @@ fixed_cuts = record {
   q = 2048 ∷ 2049 ∷ [];
 }
 
--- what every place may ask: VPCs, interfaces and ACLs
+-- what every place may ask: VPCs, interfaces and ACLs (profile: notation)
 abbrev pub unbounded_standing : Description → CutLists
 unbounded_standing d = joined_cuts fixed_cuts (joined_cuts (all_cuts cuts_of_vpc d.vpcs) (joined_cuts (all_cuts cuts_of_interface d.interfaces) (all_cuts cuts_of_acl d.acls)))
 
--- what only some places ask: prefix lists, route tables, groups and transit gateway tables
+-- what only some places ask: prefix lists, route tables, groups and transit gateway tables (profile: notation)
 abbrev pub unbounded_asked : Description → CutLists
 unbounded_asked d = joined_cuts (all_cuts cuts_of_list d.lists) (joined_cuts (all_cuts (cuts_of_table d) d.tables) (joined_cuts (all_cuts (cuts_of_group d) d.groups) (all_cuts cuts_of_tgw_table d.tgw_tables)))
 
--- the cuts that lie on their sides
+-- the cuts that lie on their sides (profile: notation)
 abbrev pub on_sides : CutLists → CutLists
 on_sides c = record {
   proto = filter (λ x. nat_le x 255) c.proto;
@@ -145,27 +160,30 @@ on_sides c = record {
   q = filter (λ x. nat_le x 65535) c.q;
 }
 
--- the cuts of a description
+-- the cuts of a description (profile: notation)
 abbrev pub cuts_of : Description → CutLists
 cuts_of d = on_sides (joined_cuts (unbounded_standing d) (unbounded_asked d))
 
--- the cuts that don't depend on the place
+-- the cuts that don't depend on the place (profile: notation)
 abbrev pub standing_cuts : Description → CutLists
 standing_cuts d = on_sides (unbounded_standing d)
 
 -- ---- the cuts at a place
 
+-- the cuts of the group with this id, if it is described (profile: notation)
 abbrev pub cuts_of_group_id : Description → List ℕ → CutLists
 cuts_of_group_id d id = elim (group_of_id d id) [ None ↦ no_cuts | Some g ↦ cuts_of_group d (group_at d g) ]
 
+-- the cuts of an interface's groups (profile: notation)
 abbrev pub cuts_at_interface : Description → EniNo → CutLists
 cuts_at_interface d i = let e = interface_at d i in all_cuts (cuts_of_group_id d) e.groups
 
+-- the cuts of a transit gateway table, if there is one (profile: notation)
 abbrev pub cuts_at_tgw_table : Description → Option TgwTableNo → CutLists
 cuts_at_tgw_table d None = no_cuts
 cuts_at_tgw_table d (Some t) = cuts_of_tgw_table (tgw_table_at d t)
 
--- the cuts of the rows that the place asks
+-- the cuts of the rows that the place asks (profile: notation)
 abbrev pub asked_at : Description → Place → CutLists
 asked_at d (OutOf i) = cuts_at_interface d i
 asked_at d (Into i) = cuts_at_interface d i
@@ -180,6 +198,6 @@ asked_at d (NatIn n) = no_cuts
 asked_at d (Peer x v) = no_cuts
 asked_at d (TgwLeave a entered) = no_cuts
 
--- the cuts on which the step at a place depends
+-- the cuts on which the step at a place depends (profile: notation)
 abbrev pub cuts_at : Description → Place → CutLists
 cuts_at d p = on_sides (joined_cuts (unbounded_standing d) (asked_at d p))

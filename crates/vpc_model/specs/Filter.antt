@@ -4,16 +4,16 @@ use Rattle.vpc_base.specs.declared.headers.Header.{Header}
 use Rattle.vpc_base.specs.declared.headers.Dir.{Dir}
 use Rattle.vpc_base.specs.declared.headers.Dir.TheVariants.{Inward, Outward}
 
--- the address at the other side of an interface or subnet: the source of inbound packets, the destination of outbound ones
+-- the address at the other side: the source of inbound packets, the destination of outbound ones (VPC User Guide, "Security group rules")
 abbrev pub far_address : Dir → Header → ℕ
 far_address Inward h = h.src
 far_address Outward h = h.dst
 
--- a rule for all protocols, or for this one
+-- a rule for all protocols, or for this one (VPC User Guide, "Security group rules")
 abbrev pub matches_proto : Option ℕ → ℕ → Bool
 matches_proto None proto = true
 matches_proto (Some n) proto = n == proto
 
--- the number lies between the two, which it may not at all where the first is greater
+-- the number lies between the two, which it may not at all where the first is greater (profile: notation)
 abbrev pub is_between : ℕ → ℕ → ℕ → Bool
 is_between from to x = nat_le from x && nat_le x to

@@ -30,147 +30,147 @@ use Rattle.vpc_model.specs.declared.rows.Peering.{Peering}
 use Rattle.vpc_model.specs.declared.rows.Attachment.{Attachment}
 use Rattle.vpc_model.specs.declared.rows.TgwTable.{TgwTable}
 
--- the id stands in the list
+-- the id stands in the list (profile: notation)
 abbrev pub is_listed : List ℕ → List (List ℕ) → Bool
 is_listed id ids = list_any (λ i. bytes_eq i id) ids
 
 -- ---- rows by number
 
--- a row of DescribeVpcs
+-- a row of DescribeVpcs (EC2 API, DescribeVpcs)
 abbrev pub vpc_at : Description → VpcNo → Vpc
 vpc_at d v = slice_index_or d.vpcs v.0 (record { id = []; blocks = [] })
 
--- a row of DescribeSubnets
+-- a row of DescribeSubnets (EC2 API, DescribeSubnets)
 abbrev pub subnet_at : Description → SubnetNo → Subnet
 subnet_at d s = slice_index_or d.subnets s.0 (record { id = []; vpc = []; zone = [] })
 
--- an interface that sends and receives nothing
+-- an interface that sends and receives nothing (profile: notation)
 abbrev pub no_interface : Interface
 no_interface = record { id = []; subnet = []; primary = None; addresses = []; groups = []; checked = true; idle = true; kind = Host }
 
--- a row of DescribeNetworkInterfaces
+-- a row of DescribeNetworkInterfaces (EC2 API, DescribeNetworkInterfaces)
 abbrev pub interface_at : Description → EniNo → Interface
 interface_at d i = slice_index_or d.interfaces i.0 no_interface
 
--- a row of DescribeRouteTables
+-- a row of DescribeRouteTables (EC2 API, DescribeRouteTables)
 abbrev pub table_at : Description → TableNo → RouteTable
 table_at d t = slice_index_or d.tables t.0 (record { id = []; vpc = []; main = false; subnets = []; routes = [] })
 
--- a row of DescribeNetworkAcls
+-- a row of DescribeNetworkAcls (EC2 API, DescribeNetworkAcls)
 abbrev pub acl_at : Description → AclNo → Acl
 acl_at d a = slice_index_or d.acls a.0 (record { id = []; subnets = []; rows = [] })
 
--- a group without rules
+-- a group without rules (profile: notation)
 abbrev pub no_group : Group
 no_group = record { id = []; vpc = []; inward = []; outward = [] }
 
--- a row of DescribeSecurityGroups
+-- a row of DescribeSecurityGroups (EC2 API, DescribeSecurityGroups)
 abbrev pub group_at : Description → GroupNo → Group
 group_at d g = slice_index_or d.groups g.0 no_group
 
--- a row of DescribeInternetGateways
+-- a row of DescribeInternetGateways (EC2 API, DescribeInternetGateways)
 abbrev pub igw_at : Description → IgwNo → InternetGateway
 igw_at d g = slice_index_or d.igws g.0 (record { id = []; vpcs = [] })
 
--- a row of DescribeNatGateways
+-- a row of DescribeNatGateways (EC2 API, DescribeNatGateways)
 abbrev pub nat_at : Description → NatNo → NatGateway
 nat_at d n = slice_index_or d.nats n.0 (record { id = []; life = Gone })
 
--- a row of DescribeVpcPeeringConnections
+-- a row of DescribeVpcPeeringConnections (EC2 API, DescribeVpcPeeringConnections)
 abbrev pub peering_at : Description → PeerNo → Peering
 peering_at d x = slice_index_or d.peerings x.0 (record { id = []; pair = None })
 
--- a row of DescribeTransitGatewayVpcAttachments
+-- a row of DescribeTransitGatewayVpcAttachments (EC2 API, DescribeTransitGatewayVpcAttachments)
 abbrev pub attachment_at : Description → AttNo → Attachment
 attachment_at d a = slice_index_or d.attachments a.0 (record { id = []; gateway = []; vpc = []; subnets = [] })
 
--- a row of SearchTransitGatewayRoutes, by table
+-- a row of SearchTransitGatewayRoutes, by table (EC2 API, SearchTransitGatewayRoutes)
 abbrev pub tgw_table_at : Description → TgwTableNo → TgwTable
 tgw_table_at d t = slice_index_or d.tgw_tables t.0 (record { id = []; routes = [] })
 
 -- ---- numbers by id
 
--- the VPC with a VpcId
+-- the VPC with a VpcId (profile: notation)
 abbrev pub vpc_no : Description → List ℕ → VpcNo
 vpc_no d id = record { 0 = position_or_len (λ v. bytes_eq v.id id) d.vpcs }
 
--- the VPC is described
+-- the VPC is described (profile: notation)
 abbrev pub has_vpc : Description → List ℕ → Bool
 has_vpc d id = list_any (λ v. bytes_eq v.id id) d.vpcs
 
--- the subnet with a SubnetId
+-- the subnet with a SubnetId (profile: notation)
 abbrev pub subnet_no : Description → List ℕ → SubnetNo
 subnet_no d id = record { 0 = position_or_len (λ s. bytes_eq s.id id) d.subnets }
 
--- the interface with a NetworkInterfaceId
+-- the interface with a NetworkInterfaceId (profile: notation)
 abbrev pub eni_no : Description → List ℕ → EniNo
 eni_no d id = record { 0 = position_or_len (λ e. bytes_eq e.id id) d.interfaces }
 
--- the gateway with an InternetGatewayId
+-- the gateway with an InternetGatewayId (profile: notation)
 abbrev pub igw_no : Description → List ℕ → IgwNo
 igw_no d id = record { 0 = position_or_len (λ g. bytes_eq g.id id) d.igws }
 
--- the gateway with a NatGatewayId
+-- the gateway with a NatGatewayId (profile: notation)
 abbrev pub nat_no : Description → List ℕ → NatNo
 nat_no d id = record { 0 = position_or_len (λ n. bytes_eq n.id id) d.nats }
 
--- the peering with a VpcPeeringConnectionId
+-- the peering with a VpcPeeringConnectionId (profile: notation)
 abbrev pub peer_no : Description → List ℕ → PeerNo
 peer_no d id = record { 0 = position_or_len (λ x. bytes_eq x.id id) d.peerings }
 
--- the number of a described group, attachment or transit gateway table
+-- the number of the described group with a GroupId (profile: notation)
 abbrev pub group_of_id : Description → List ℕ → Option GroupNo
 group_of_id d id = option_map (λ k. record { 0 = k }) (position (λ g. bytes_eq g.id id) d.groups)
 
--- the same of a TransitGatewayAttachmentId
+-- the number of the described attachment with a TransitGatewayAttachmentId (profile: notation)
 abbrev pub attachment_of_id : Description → List ℕ → Option AttNo
 attachment_of_id d id = option_map (λ k. record { 0 = k }) (position (λ a. bytes_eq a.id id) d.attachments)
 
--- the same of a TransitGatewayRouteTableId
+-- the number of the described table with a TransitGatewayRouteTableId (profile: notation)
 abbrev pub tgw_table_of_id : Description → List ℕ → Option TgwTableNo
 tgw_table_of_id d id = option_map (λ k. record { 0 = k }) (position (λ t. bytes_eq t.id id) d.tgw_tables)
 
--- the blocks of a prefix list
+-- the blocks of a prefix list (EC2 API, GetManagedPrefixListEntries)
 abbrev pub entries_of : Description → List ℕ → List Block
 entries_of d id = let l = slice_index_or d.lists (position_or_len (λ l. bytes_eq l.id id) d.lists) (record { id = []; entries = [] }) in l.entries
 
 -- ---- what belongs to what
 
--- the VPC of a subnet (DescribeSubnets, VpcId)
+-- the VPC of a subnet, by its VpcId (EC2 API, DescribeSubnets)
 abbrev pub vpc_of_subnet : Description → SubnetNo → VpcNo
 vpc_of_subnet d s = let row = subnet_at d s in vpc_no d row.vpc
 
--- the subnet of an interface (DescribeNetworkInterfaces, SubnetId)
+-- the subnet of an interface, by its SubnetId (EC2 API, DescribeNetworkInterfaces)
 abbrev pub subnet_of : Description → EniNo → SubnetNo
 subnet_of d i = let e = interface_at d i in subnet_no d e.subnet
 
--- the VPC of an interface's subnet, by its id
+-- the VPC of an interface's subnet, by its id (EC2 API, DescribeSubnets)
 abbrev pub vpc_of_interface : Description → Interface → List ℕ
 vpc_of_interface d e = let s = subnet_at d (subnet_no d e.subnet) in s.vpc
 
--- the interface's subnet is in the VPC
+-- the interface's subnet is in the VPC (EC2 API, DescribeSubnets)
 abbrev pub is_in_vpc : Description → VpcNo → Interface → Bool
 is_in_vpc d v e = let vpc = vpc_at d v in bytes_eq (vpc_of_interface d e) vpc.id
 
--- the private address is one of the interface's
+-- the private address is one of the interface's (EC2 API, DescribeNetworkInterfaces)
 abbrev pub has_address : Interface → ℕ → Bool
 has_address e a = list_any (λ x. x.0 == a) e.addresses
 
--- the interface of a VPC with this private address
+-- the interface of a VPC with this private address (EC2 API, DescribeNetworkInterfaces)
 abbrev pub host_of : Description → VpcNo → ℕ → Option EniNo
 host_of d v a = option_map (λ k. record { 0 = k }) (position (λ e. has_address e a && is_in_vpc d v e) d.interfaces)
 
--- the table of a subnet: the one associated with it, else the main table of its VPC (VPC User Guide, "Subnet route tables")
+-- the table of a subnet: the one associated with it, else the main table of its VPC (VPC User Guide, "Route tables")
 abbrev pub table_of : Description → SubnetNo → TableNo
 table_of d s =
     let row = subnet_at d s in
     let main = position_or_len (λ t. t.main && bytes_eq t.vpc row.vpc) d.tables in
     record { 0 = unwrap_or (position (λ t. is_listed row.id t.subnets) d.tables) main }
 
--- the ACL of a subnet
+-- the ACL that is associated with a subnet (EC2 API, DescribeNetworkAcls)
 abbrev pub acl_of : Description → SubnetNo → AclNo
 acl_of d s = let row = subnet_at d s in record { 0 = position_or_len (λ a. is_listed row.id a.subnets) d.acls }
 
--- the internet gateway that is attached to a VPC
+-- the internet gateway that is attached to a VPC (EC2 API, DescribeInternetGateways)
 abbrev pub gateway_of : Description → VpcNo → Option IgwNo
 gateway_of d v = let row = vpc_at d v in option_map (λ k. record { 0 = k }) (position (λ g. is_listed row.id g.vpcs) d.igws)

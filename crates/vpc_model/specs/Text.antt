@@ -31,29 +31,29 @@ use Rattle.vpc_model.specs.Step.{no_gateway, no_route, no_tgw_route}
 
 -- ---- words and headers
 
--- a word after a blank
+-- a word after a blank (profile: output format)
 abbrev pub word : List ℕ → List ℕ
 word text = codes " " ++ text
 
--- a newline
+-- a newline (profile: output format)
 abbrev pub line_end : List ℕ
 line_end = 10 ∷ []
 
--- a protocol by name or number
+-- a protocol by name or number (profile: output format)
 abbrev pub proto_text : ℕ → List ℕ
 proto_text n = if n == 1 then codes "icmp" else (if n == 6 then codes "tcp" else (if n == 17 then codes "udp" else decimal n))
 
--- PROTO SRC DST P Q
+-- PROTO SRC DST P Q (profile: output format)
 abbrev pub header_text : Header → List ℕ
 header_text h = proto_text h.proto ++ word (addr_text h.src) ++ word (addr_text h.dst) ++ word (decimal h.p) ++ word (decimal h.q)
 
 -- ---- places and hops
 
--- the attached gateway of a VPC
+-- the attached gateway of a VPC (profile: output format)
 abbrev pub gateway_id : Description → VpcNo → List ℕ
 gateway_id d v = let g = igw_at d (unwrap_or (gateway_of d v) (no_gateway d)) in g.id
 
--- the kind of a place
+-- the kind of a place (profile: output format)
 abbrev pub place_kind : Place → List ℕ
 place_kind (OutOf i) = codes "out"
 place_kind (Router s came) = codes "router"
@@ -68,7 +68,7 @@ place_kind (Peer x v) = codes "peer"
 place_kind (Tgw a s) = codes "tgw"
 place_kind (TgwLeave a s) = codes "tgw-leave"
 
--- the id of a place
+-- the id of a place (profile: output format)
 abbrev pub place_id : Description → Place → List ℕ
 place_id d (OutOf i) = let e = interface_at d i in e.id
 place_id d (Router s came) = let row = subnet_at d s in row.id
@@ -83,39 +83,39 @@ place_id d (Peer x v) = let row = peering_at d x in row.id
 place_id d (Tgw a s) = let row = attachment_at d a in row.id
 place_id d (TgwLeave a s) = let row = attachment_at d a in row.id
 
--- the direction of a rule
+-- the direction of a rule (profile: output format)
 abbrev pub dir_text : Dir → List ℕ
 dir_text Inward = codes "in"
 dir_text Outward = codes "out"
 
--- by what the packet passed groups, if it did
+-- by what the packet passed groups, if it did (profile: output format)
 abbrev pub by_text : Description → By → List ℕ
 by_text d Nothing = []
 by_text d NoGroups = codes " by none"
 by_text d Tracked = codes " by tracked"
 by_text d (Rule r) = let g = group_at d r.group in codes " by" ++ word g.id ++ word (dir_text r.dir) ++ word (decimal r.number)
 
--- the line of the hop with this number, from 1
+-- the line of the hop with this number, from 1 (profile: output format)
 abbrev pub hop_line : Description → ℕ → Hop → List ℕ
 hop_line d n h = codes "hop" ++ word (decimal n) ++ word (place_kind h.place) ++ word (place_id d h.place) ++ word (header_text h.header) ++ by_text d h.by ++ line_end
 
--- the lines of hops, from a number on
+-- the lines of hops, from a number on (profile: output format)
 abbrev pub hop_lines_from : Description → ℕ → List Hop → List ℕ
 hop_lines_from d n [] = []
 hop_lines_from d n (h ∷ hs) = hop_line d n h ++ hop_lines_from d (n + 1) hs
 
--- the lines of all hops
+-- the lines of all hops (profile: output format)
 abbrev pub hop_lines : Description → List Hop → List ℕ
 hop_lines d hops = hop_lines_from d 1 hops
 
 -- ---- ends and stops
 
--- the id of an end
+-- the id of an end (profile: output format)
 abbrev pub end_id : Description → End → List ℕ
 end_id d (AtInterface i) = let e = interface_at d i in e.id
 end_id d AtInternet = codes "internet"
 
--- the name of a stop
+-- the name of a stop (profile: output format)
 abbrev pub stop_name : Stop → List ℕ
 stop_name (Detached i) = codes "Detached"
 stop_name (SourceCheck i) = codes "SourceCheck"
@@ -153,7 +153,7 @@ stop_name (WrongPlace e) = codes "WrongPlace"
 stop_name (WrongReturn e) = codes "WrongReturn"
 stop_name (NoReply e) = codes "NoReply"
 
--- the id of a route's target
+-- the id of a route's target (profile: output format)
 abbrev pub target_id : Target → List ℕ
 target_id Local = codes "local"
 target_id (ToInternet id) = id
@@ -163,15 +163,15 @@ target_id (ToPeer id) = id
 target_id (ToInterface id) = id
 target_id (Other id) = id
 
--- the id of the target of a table's route
+-- the id of the target of a table's route (profile: output format)
 abbrev pub route_target_id : Description → TableNo → ℕ → List ℕ
 route_target_id d t k = let table = table_at d t in let r = slice_index_or table.routes k no_route in target_id r.target
 
--- the id of the attachment of a transit gateway route
+-- the id of the attachment of a transit gateway route (profile: output format)
 abbrev pub tgw_route_attachment : Description → TgwTableNo → ℕ → List ℕ
 tgw_route_attachment d t k = let table = tgw_table_at d t in let r = slice_index_or table.routes k no_tgw_route in unwrap_or r.attachment []
 
--- the id of what isn't followed
+-- the id of what isn't followed (profile: output format)
 abbrev pub foreign_id : Description → Foreign → List ℕ
 foreign_id d (ForeignTarget t k) = route_target_id d t k
 foreign_id d (ForeignNat n) = let row = nat_at d n in row.id
@@ -180,7 +180,7 @@ foreign_id d (ForeignAttachment a) = let row = attachment_at d a in row.id
 foreign_id d (ForeignTable t) = let table = tgw_table_at d t in table.id
 foreign_id d (FarAttachment t k) = tgw_route_attachment d t k
 
--- the component that stopped the packet
+-- the component that stopped the packet (profile: output format)
 abbrev pub stop_id : Description → Stop → List ℕ
 stop_id d (Detached i) = let e = interface_at d i in e.id
 stop_id d (SourceCheck i) = let e = interface_at d i in e.id
@@ -218,12 +218,12 @@ stop_id d (WrongPlace e) = end_id d e
 stop_id d (WrongReturn e) = end_id d e
 stop_id d (NoReply e) = end_id d e
 
--- a route's prefix, or the id of its prefix list
+-- a route's prefix, or the id of its prefix list (profile: output format)
 abbrev pub reach_text : Reach → List ℕ
 reach_text (Block b) = block_text b
 reach_text (ByList id) = id
 
--- the rule that stopped the packet, or a dash
+-- the rule that stopped the packet, or a dash (profile: output format)
 abbrev pub stop_rule : Description → Stop → List ℕ
 stop_rule d (Blackhole t k) = let table = table_at d t in let r = slice_index_or table.routes k no_route in reach_text r.reach
 stop_rule d (AclOut a n) = decimal n
@@ -231,17 +231,17 @@ stop_rule d (AclIn a n) = decimal n
 stop_rule d (TgwBlackhole t k) = let table = tgw_table_at d t in let r = slice_index_or table.routes k no_tgw_route in block_text r.block
 stop_rule d _ = codes "-"
 
--- the name, the component and its rule
+-- the name, the component and its rule (profile: output format)
 abbrev pub stop_text : Description → Stop → List ℕ
 stop_text d s = stop_name s ++ word (stop_id d s) ++ word (stop_rule d s)
 
 -- ---- walks
 
--- the last line of a walk
+-- the last line of a walk (profile: output format)
 abbrev pub outcome_line : Description → Outcome → List ℕ
 outcome_line d (Arrived end h) = codes "arrived" ++ word (end_id d end) ++ line_end
 outcome_line d (Stopped s) = codes "stopped" ++ word (stop_text d s) ++ line_end
 
--- all lines of a walk
+-- all lines of a walk (profile: output format)
 abbrev pub walk_text : Description → List Hop → Outcome → List ℕ
 walk_text d hops outcome = hop_lines d hops ++ outcome_line d outcome

@@ -1,5 +1,5 @@
--- Transit gateways (Amazon VPC Transit Gateways guide, "How transit gateways work"). By which subnet a packet
--- leaves is this project's profile.
+-- Transit gateways (Transit Gateways guide, "How transit gateways work"). By which subnet a packet leaves is
+-- this project's profile.
 use Rattle.std.specs.Prelude.{ℕ, ◌==◌, ◌&&◌, ◌||◌, not, nat_lt, Bool, List, [], ◌∷◌, Option, Some, None, bytes_eq, find, position, option_map, option_and_then, if◌then◌else◌}
 use Rattle.prefix_text.specs.Block.{holds}
 use Rattle.vpc_model.specs.declared.numbers.SubnetNo.{SubnetNo}
@@ -10,45 +10,44 @@ use Rattle.vpc_model.specs.declared.rows.TgwRoute.{TgwRoute}
 use Rattle.vpc_model.specs.Choice.{or_else, chosen_place}
 use Rattle.vpc_model.specs.Lookup.{subnet_at, subnet_no, attachment_at, tgw_table_of_id, has_vpc}
 
--- the subnet is in the zone
+-- the subnet is in the zone (EC2 API, DescribeSubnets)
 abbrev pub is_in_zone : Description → List ℕ → List ℕ → Bool
 is_in_zone d zone id = let s = subnet_at d (subnet_no d id) in bytes_eq s.zone zone
 
--- the first of these subnets in the zone
+-- the first of these subnets in the zone (profile: notation)
 abbrev pub subnet_in_zone : Description → List ℕ → List (List ℕ) → Option SubnetNo
 subnet_in_zone d zone ids = option_map (subnet_no d) (find (is_in_zone d zone) ids)
 
--- the first attachment of the gateway to the VPC of the subnet
+-- the first attachment of the gateway to the VPC of the subnet (EC2 API, DescribeTransitGatewayVpcAttachments)
 abbrev pub attachment_for : Description → List ℕ → SubnetNo → Option AttNo
 attachment_for d gateway s =
     let row = subnet_at d s in
     option_map (λ k. record { 0 = k }) (position (λ a. bytes_eq a.gateway gateway && bytes_eq a.vpc row.vpc) d.attachments)
 
--- the attachment's first subnet in the zone of the subnet
+-- the attachment's first subnet in the zone of the subnet (Transit Gateways guide, "How transit gateways work")
 abbrev pub zone_subnet : Description → AttNo → SubnetNo → Option SubnetNo
 zone_subnet d a s = let row = subnet_at d s in let att = attachment_at d a in subnet_in_zone d row.zone att.subnets
 
--- the described table that the attachment is associated with
+-- the described table that the attachment is associated with (EC2 API, DescribeTransitGatewayAttachments)
 abbrev pub table_of_attachment : Description → AttNo → Option TgwTableNo
 table_of_attachment d a =
     let att = attachment_at d a in
     option_and_then (λ x. tgw_table_of_id d x.table) (find (λ x. bytes_eq x.attachment att.id) d.associations)
 
--- the first route has a longer prefix, or an equally long one and is static where the second is propagated
+-- the first route is longer, or equally long and static where the second is propagated (Transit Gateways guide, "How transit gateways work")
 abbrev pub beats_tgw : TgwRoute → TgwRoute → Bool
 beats_tgw r s = nat_lt s.block.length r.block.length || ((r.block.length == s.block.length) && (not r.propagated && s.propagated))
 
--- the place of the chosen route; of equal ones the first
+-- the place of the chosen route, where the profile takes the first of equal ones (Transit Gateways guide, "How transit gateways work")
 abbrev pub chosen_tgw_route : List TgwRoute → ℕ → Option ℕ
 chosen_tgw_route routes a = chosen_place (λ r. holds a r.block) beats_tgw routes
 
--- the first of these subnets
+-- the first of these subnets (profile)
 abbrev pub first_subnet : Description → List (List ℕ) → Option SubnetNo
 first_subnet d [] = None
 first_subnet d (id ∷ ids) = Some (subnet_no d id)
 
--- the subnet by which a packet leaves by the attachment, having entered the gateway through a subnet: the first in the zone of that
--- one, else the first; none where the attachment's VPC isn't described or it has no subnet
+-- by which subnet a packet leaves: the first in the zone where it entered, else the first; none without a described VPC or a subnet (profile)
 abbrev pub leave_subnet : Description → AttNo → SubnetNo → Option SubnetNo
 leave_subnet d a entered =
     let att = attachment_at d a in

@@ -19,20 +19,20 @@ use Rattle.vpc_model.specs.Connections.{Connection}
 use Rattle.vpc_model.specs.Nat.{Translation}
 use Rattle.vpc_model.specs.Step.{Moment, Next, go, arrive, stop, step_of}
 
--- two places are one: of one kind, with the same numbers, and a router reached in the same way
+-- two routers were reached in the same way: from one host, one NAT gateway or one attachment (profile)
 abbrev pub same_came : Came → Came → Bool
 same_came (Host i) (Host j) = i.0 == j.0
 same_came (Nat n) (Nat o) = n.0 == o.0
 same_came (Transit a) (Transit b) = a.0 == b.0
 same_came _ _ = false
 
--- entered by the same gateway or peering
+-- entered by the same gateway or peering (profile)
 abbrev pub same_enter : EnterBy → EnterBy → Bool
 same_enter Gateway Gateway = true
 same_enter (Peering x) (Peering y) = x.0 == y.0
 same_enter _ _ = false
 
--- the same kind of place, with the same numbers
+-- two places are one: of one kind, with the same numbers, and a router reached in the same way (profile)
 abbrev pub same_place : Place → Place → Bool
 same_place (OutOf i) (OutOf j) = i.0 == j.0
 same_place (Router s c) (Router t e) = (s.0 == t.0) && same_came c e
@@ -48,26 +48,26 @@ same_place (Tgw a s) (Tgw b t) = (a.0 == b.0) && (s.0 == t.0)
 same_place (TgwLeave a s) (TgwLeave b t) = (a.0 == b.0) && (s.0 == t.0)
 same_place _ _ = false
 
--- the place is among the hops
+-- the place is among the hops (profile)
 abbrev pub is_visited : List Hop → Place → Bool
 is_visited hops p = list_any (λ h. same_place h.place p) hops
 
--- the hops of a walk, how it ends, and what the network remembers after its last step
+-- the hops of a walk, how it ends, and what the network remembers after its last step (profile: notation)
 pub record Walk : Type 0 where
   pub hops : List Hop
   pub outcome : Outcome
   pub conns : List Connection
   pub nats : List Translation
 
--- a walk that ends so
+-- a walk that ends so (profile: notation)
 abbrev pub ended : List Hop → Outcome → List Connection → List Translation → Walk
 ended hops outcome conns nats = record { hops = hops; outcome = outcome; conns = conns; nats = nats }
 
--- a walk that doesn't go on to the next place: it was there, or it has come too far
+-- a walk that doesn't go on to the next place: it was there, or it has come too far (profile)
 abbrev pub turned_back : List Hop → Place → Stop
 turned_back hops p = if is_visited hops p then Loop p else TooFar p
 
--- the walk with these hops behind it, the last of which has this header, and n more places allowed, by what comes next
+-- the walk with these hops behind it, the last of which has this header, and n more places allowed, by what comes next (profile)
 abbrev pub walk_on : Description → Label → ℕ → List Hop → Header → Next → List Connection → List Translation → Walk
 walk_on d label n hops h (arrive end) conns nats = ended hops (Arrived end h) conns nats
 walk_on d label n hops h (stop s) conns nats = ended hops (Stopped s) conns nats
@@ -77,7 +77,7 @@ walk_on d label (suc n) hops h (go p k) conns nats =
     else (let s = step_of d label (record { place = p; header = k; conns = conns; nats = nats }) in
     walk_on d label n (hops ++ record { place = p; header = k; by = s.by } ∷ []) k s.next s.conns s.nats)
 
--- the walk of a packet from a place
+-- the walk of a packet from a place (profile)
 abbrev pub walk_of : Description → Label → Moment → Walk
 walk_of d label m =
     let s = step_of d label m in
