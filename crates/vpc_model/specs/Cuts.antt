@@ -2,7 +2,7 @@
 -- dropped where they lie past the last number of their side. Which lists give them in which order, and how
 -- often, doesn't matter: a number is a cut where it is in the list.
 use Rattle.std.specs.Prelude.{ℕ, ◌+◌, ◌-◌, ◌∷◌, ◌++◌, nat_le, List, [], Option, Some, None, filter, map}
-use Rattle.std.specs.List.{filter_map, flat_map}
+use Rattle.std.specs.List.{flat_map}
 use Rattle.prefix_text.specs.Block.{Block, last_of}
 use Rattle.vpc_base.specs.Cuts.{CutLists, no_cuts, joined_cuts}
 use Rattle.vpc_model.specs.declared.places.Place.{Place}

@@ -16,8 +16,11 @@ pub mod Walk
 pub mod Verdict
 pub mod Cuts
 pub mod Text
+pub mod Report
+pub mod ReportText
 pub mod Laws
 pub mod Networks
 pub mod Examples
 pub mod Printed
 pub mod Stops
+pub mod Reported

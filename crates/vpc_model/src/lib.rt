@@ -10,6 +10,8 @@ mod outcomes;
 mod places;
 mod rows;
 mod stops;
+#[cfg(test)]
+mod tests;
 
 pub use ids::Id;
 pub use numbers::{

@@ -1,5 +1,6 @@
 // What is printed of packets in small networks.
 ghost use Rattle.vpc_model.specs.Printed.{PrintsRequestAndReply, PrintsNatRoundTrip, PrintsLoop, PrintsStray, PrintsStops};
+ghost use Rattle.vpc_model.specs.Reported.{PrintsReachable, StopsAreTold, PrintsReport, PrintsMore};
 
 /// The hops of a request between two subnets, and of its reply.
 pub fn prints_request_and_reply()
@@ -24,4 +25,24 @@ pub fn prints_a_stray_answer()
 /// A stop with its component and rule.
 pub fn prints_stops()
     ensures { PrintsStops }
+{}
+
+/// The answer to a query with a header that gets through.
+pub fn prints_a_reachable_header()
+    ensures { PrintsReachable }
+{}
+
+/// What stops a request, and what stops a reply.
+pub fn tells_what_stops()
+    ensures { StopsAreTold }
+{}
+
+/// A report of one box.
+pub fn prints_a_report()
+    ensures { PrintsReport }
+{}
+
+/// Boxes that leave headers out.
+pub fn prints_more_boxes()
+    ensures { PrintsMore }
 {}
