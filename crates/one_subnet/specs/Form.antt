@@ -1,7 +1,7 @@
 -- The form of a description that is read so far: one VPC with one subnet, whose hosts are reached by the local
 -- route alone, and security groups whose rules name blocks of addresses alone. A member that is null is there:
 -- it isn't taken for an absent one.
-use Rattle.std.specs.Prelude.{ℕ, ◌==◌, ◌&&◌, not, nat_eq, nat_le, Bool, true, false, List, [], ◌∷◌, Option, Some, None, bytes_eq, codes, is_none, length, map, option_and_then, if◌then◌else◌, Result, Ok, Err}
+use Rattle.std.specs.Prelude.{ℕ, ◌==◌, ◌&&◌, nat_eq, nat_le, Bool, true, false, List, [], ◌∷◌, Option, Some, None, bytes_eq, codes, is_none, length, map, option_and_then, if◌then◌else◌, Result, Ok, Err}
 use Rattle.std.specs.List.{list_any}
 use Rattle.serde_json.specs.Data.{Data, null, boolean, string}
 use Rattle.serde_json.specs.Find.{get, as_str, as_number, as_u64}
@@ -10,6 +10,7 @@ use Rattle.json_fields.specs.Fields.{array_of, id_of, addr_of_field, prefix_of_f
 use Rattle.json_fields.specs.Paths.{bundle_path}
 use Rattle.json_fields.specs.declared.fault.FieldFault.{FieldFault}
 use Rattle.prefix_text.specs.Block.{Block}
+pub use Rattle.one_subnet.specs.Differ.{all_differ}
 use Rattle.one_subnet.specs.declared.site.Host.{Host}
 use Rattle.one_subnet.specs.declared.site.Rule.{Rule}
 use Rattle.one_subnet.specs.declared.site.RuleSet.{RuleSet}
@@ -198,11 +199,6 @@ host_in subnet groups row =
     only_if (has_text (codes "SubnetId") subnet row && is_plain row) (record { id = id; address = address; groups = listed }))))
 
 -- ---- the whole form
-
--- no item is the same as one before it
-abbrev pub all_differ : {A : Type 0} → (A → A → Bool) → List A → Bool
-all_differ same [] = true
-all_differ same (x ∷ xs) = not (list_any (λ y. same y x) xs) && all_differ same xs
 
 -- the only row of a list
 abbrev pub only_row : List ℕ → Data → Option Data

@@ -10,7 +10,7 @@ use std::alloc::{AllocError, Global};
 use std::marker::Model;
 
 /// Ids in order, found by their bytes.
-#[derive(Drop)]
+#[derive(Debug, Drop)]
 pub struct IdSet {
     ids: IndexSet<Vec<u8>>,
 }
@@ -24,7 +24,7 @@ impl Model for IdSet {
 }
 
 impl IdSet {
-    ghost use Rattle.std.specs.Prelude.{bytes_eq, not, ◌++◌, ◌∷◌, if◌then◌else◌, OnErr};
+    ghost use Rattle.std.specs.Prelude.{bytes_eq, not, ◌++◌, ◌∷◌, ◌<◌, if◌then◌else◌, IfSome, OnErr, length, position};
     ghost use Rattle.std.specs.List.{list_any};
 
     pub fn new(alloc: Global) -> IdSet
@@ -40,6 +40,14 @@ impl IdSet {
         ensures { result ≡ is_known self.now id.now }
     {
         self.ids.contains(id)
+    }
+
+    /// The place of the id, and `None` where it is not there.
+    pub fn place(&self, id: &[u8]) -> Option<usize>
+        ensures place { result ≡ position (λ i. bytes_eq i id.now) self.now }
+        ensures within { IfSome result (λ k. k < length self.now) }
+    {
+        self.ids.get_index_of(id)
     }
 
     /// Adds an id at the end, and tells whether it is new.

@@ -8,14 +8,14 @@ ghost use Rattle.prefix_text.specs.Block.{Block};
 ghost use Rattle.json_fields.specs.Bundle.{is_object};
 ghost use Rattle.one_subnet.specs.Formed.{Forms};
 
-use crate::distinct::{IdSet, group_ids, host_addresses, host_ids};
+use crate::distinct::{group_ids, host_addresses, host_ids};
+use crate::lookup::{Groups, Hosts};
 use crate::reader::{FormFault, Reader};
-use crate::site::{Frame, Host, RuleSet, Site};
+use crate::site::{Frame, Site};
 use crate::values::{elements_at, has_text, is_null_or_empty, is_text};
 use prefix_text::Prefix;
 use serde_json::Value;
 use std::alloc::Global;
-use vpc_base::OwnList;
 use vpc_model::Id;
 
 const MOST_ROWS: usize = 100_000;
@@ -106,22 +106,25 @@ impl Reader {
         })
     }
 
-    fn groups_of(&self, vpc: &[u8], bundle: &Value) -> Result<(Vec<RuleSet>, IdSet), FormFault>
-        ensures groups { Forms (λ g. g.0.items) (groups_of vpc.now (view bundle.now)) result }
-        ensures ids { IfOk result (λ g. g.1 ≡ map (λ r. r.id) g.0.items) }
+    fn groups_of(&self, vpc: &[u8], bundle: &Value) -> Result<Groups, FormFault>
+        ensures { Forms (λ g. g) (groups_of vpc.now (view bundle.now)) result }
     {
-        let groups = self.groups(vpc, some_rows(bundle, "SecurityGroups")?)?;
-        let known = group_ids(self.alloc, groups.as_slice())?;
-        Ok((groups, known))
+        let rows = self.groups(vpc, some_rows(bundle, "SecurityGroups")?)?;
+        let ids = group_ids(self.alloc, rows.as_slice())?;
+        Ok(Groups::of(rows, ids))
     }
 
-    fn hosts_of(&self, subnet: &[u8], known: &IdSet, bundle: &Value) -> Result<Vec<Host>, FormFault>
-        ensures { Forms (λ v. v.items) (hosts_of subnet.now known.now (view bundle.now)) result }
+    fn hosts_of(&self, subnet: &[u8], groups: &Groups, bundle: &Value) -> Result<Hosts, FormFault>
+        ensures { Forms (λ h. h) (hosts_of subnet.now (map (λ g. g.id) groups.now) (view bundle.now)) result }
     {
-        let hosts = self.hosts(subnet, known, some_rows(bundle, "NetworkInterfaces")?)?;
-        let _ids = host_ids(self.alloc, hosts.as_slice())?;
-        let _addresses = host_addresses(self.alloc, hosts.as_slice())?;
-        Ok(hosts)
+        let rows = self.hosts(
+            subnet,
+            groups.ids(),
+            some_rows(bundle, "NetworkInterfaces")?,
+        )?;
+        let ids = host_ids(self.alloc, rows.as_slice())?;
+        let addresses = host_addresses(self.alloc, rows.as_slice())?;
+        Ok(Hosts::of(rows, ids, addresses))
     }
 }
 
@@ -164,8 +167,8 @@ pub fn read_site(alloc: Global, bundle: &Value) -> Result<Site, FormFault>
     }
     let reader = Reader::of(alloc)?;
     let frame = reader.frame(bundle)?;
-    let (groups, known) = reader.groups_of(frame.vpc.bytes(), bundle)?;
-    let hosts = reader.hosts_of(frame.subnet.bytes(), &known, bundle)?;
+    let groups = reader.groups_of(frame.vpc.bytes(), bundle)?;
+    let hosts = reader.hosts_of(frame.subnet.bytes(), &groups, bundle)?;
     let Frame {
         vpc,
         subnet,
@@ -177,7 +180,7 @@ pub fn read_site(alloc: Global, bundle: &Value) -> Result<Site, FormFault>
         subnet,
         table,
         block,
-        hosts: OwnList::of(hosts),
-        groups: OwnList::of(groups),
+        hosts,
+        groups,
     })
 }

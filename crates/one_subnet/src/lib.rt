@@ -1,4 +1,5 @@
-//! Networks of one subnet: the form of a description that is followed so far, and its reader.
+//! Networks of one subnet: the form of a description that is followed so far, its reader, and such a
+//! network as the rows of `vpc_model`.
 //!
 //! The form is this project's profile, a condition on the JSON value. It has one VPC, one subnet and one
 //! route table whose only route is the active local one. There are at most 100,000 interfaces and at most
@@ -9,15 +10,18 @@
 //! as present.
 #![tactic(auto)]
 
+mod described;
 mod distinct;
 mod form;
 mod hosts;
+mod lookup;
 mod reader;
 mod rules;
 mod site;
 mod values;
 
 pub use form::read_site;
+pub use lookup::{Groups, Hosts};
 pub use reader::FormFault;
 pub use site::{Host, Rule, RuleSet, Site};
 

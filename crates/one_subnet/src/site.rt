@@ -1,4 +1,5 @@
 // A network of one subnet.
+use crate::lookup::{Groups, Hosts};
 use prefix_text::Prefix;
 use vpc_base::OwnList;
 use vpc_model::Id;
@@ -55,7 +56,7 @@ pub struct Site {
     /// The destination of the local route.
     pub block: Prefix,
     /// The hosts in the order listed. Their ids differ, and so do their addresses.
-    pub hosts: OwnList<Host>,
+    pub hosts: Hosts,
     /// The security groups in the order listed. Their ids differ.
-    pub groups: OwnList<RuleSet>,
+    pub groups: Groups,
 }

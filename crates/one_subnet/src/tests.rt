@@ -70,6 +70,75 @@ fn network_of_two_hosts(rt: HostRuntime) -> Result<(), Fail> {
     Ok(())
 }
 
+#[test]
+fn description_of_two_hosts(rt: HostRuntime) -> Result<(), Fail> {
+    let value = Value::from_str(rt.alloc(), TWO_HOSTS)?;
+    let network = read_site(rt.alloc(), &value)?.description(rt.alloc())?;
+    assert_eq!(rt; network.vpcs.as_slice().len(), 1);
+    assert_eq!(rt; network.acls.as_slice().len(), 0);
+    let [subnet] = network.subnets.as_slice() else {
+        return Err("not one subnet")?;
+    };
+    let [table] = network.tables.as_slice() else {
+        return Err("not one table")?;
+    };
+    let [_, interface] = network.interfaces.as_slice() else {
+        return Err("not two interfaces")?;
+    };
+    let [_, group] = network.groups.as_slice() else {
+        return Err("not two groups")?;
+    };
+    let [permission] = group.inward.as_slice() else {
+        return Err("not one permission")?;
+    };
+    let (subnet_id, interface_id): (&[u8], &[u8]) = (b"subnet-a", b"eni-b");
+    assert_eq!(rt; subnet.id.bytes(), subnet_id);
+    assert_eq!(rt; interface.id.bytes(), interface_id);
+    assert_eq!(rt; interface.subnet.bytes(), subnet_id);
+    assert_eq!(rt; interface.primary, Some(0x0A00_0114));
+    assert_eq!(rt; interface.groups.as_slice().len(), 1);
+    assert_eq!(rt; table.main, true);
+    assert_eq!(rt; table.routes.as_slice().len(), 1);
+    assert_eq!(rt; (permission.q_from, permission.q_to), (443, 443));
+    assert_eq!(rt; permission.blocks.as_slice().len(), 1);
+    assert_eq!(rt; group.outward.as_slice().len(), 0);
+    Ok(())
+}
+
+#[test]
+fn places(rt: HostRuntime) -> Result<(), Fail> {
+    let value = Value::from_str(rt.alloc(), TWO_HOSTS)?;
+    let site = read_site(rt.alloc(), &value)?;
+    let of_hosts = [
+        ("eni-a", Some(0)),
+        ("eni-b", Some(1)),
+        ("eni-", None),
+        ("sg-a", None),
+    ];
+    for (id, want) in of_hosts {
+        assert_eq!(rt; site.hosts.place_of_id(id.as_bytes()), want, "at {id}");
+    }
+    let of_addresses = [
+        (0x0A00_010A, Some(0)),
+        (0x0A00_0114, Some(1)),
+        (0x0A00_010B, None),
+        (0, None),
+    ];
+    for (address, want) in of_addresses {
+        assert_eq!(rt; site.hosts.place_of_address(address), want, "at {address}");
+    }
+    let of_groups = [
+        ("sg-a", Some(0)),
+        ("sg-b", Some(1)),
+        ("sg-c", None),
+        ("", None),
+    ];
+    for (id, want) in of_groups {
+        assert_eq!(rt; site.groups.place_of_id(id.as_bytes()), want, "at {id}");
+    }
+    Ok(())
+}
+
 fn is_of_form(alloc: Global, before: &str, change: &str, after: &str) -> Result<bool, Fail> {
     let text = format!(in alloc; "{SMALL}{before}{change}{after}")?;
     let site = site_told(alloc, text.as_str())?;

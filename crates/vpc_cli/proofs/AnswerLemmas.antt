@@ -1,5 +1,5 @@
 -- What is due, from what was read and walked.
-use Rattle.std.proofs.Common.{◌≡◌, ◌<◌, ℕ, List, Option, Some, None, Result, Ok, Err, IfOk, refl, sym, ap, subst, ◌∙◌, length}
+use Rattle.std.proofs.Common.{◌≡◌, ◌<◌, ℕ, Bool, true, false, List, Option, Some, None, Result, Ok, Err, IfOk, refl, sym, ap, subst, ◌∙◌, length}
 use Rattle.vpc_io.specs.Told.{IfTold}
 use Rattle.vpc_model.specs.Text.{walk_text}
 use Rattle.vpc_model.specs.declared.outcomes.Hop.{Hop}
@@ -7,14 +7,19 @@ use Rattle.vpc_model.specs.declared.outcomes.Outcome.{Outcome}
 use Rattle.vpc_model.specs.declared.outcomes.Outcome.TheVariants.{Arrived, Stopped}
 use Rattle.one_subnet.specs.Site.{description_of}
 use Rattle.one_subnet.specs.declared.site.Site.{Site}
+use Rattle.subnet_reach.specs.declared.query.Query.{Query as Asked}
 use Rattle.vpc_cli.specs.declared.packets.Packet.{Packet}
 use Rattle.vpc_cli.specs.declared.status.Status.{Status}
 use Rattle.vpc_cli.specs.declared.status.Status.TheVariants.{Yes, No, Words, Description as Refused, Query, More, Read, Write, Memory}
-use Rattle.vpc_cli.specs.Due.{Describes, file_name, IsAnswerTo, IsDue, IsDueBy, IsDueForBytes, IsDueForTrace, memory_text, traced_status, traced_text, status_of, walk_in, way_of, way_status, way_text}
+use Rattle.vpc_cli.specs.Asked.{IsAskAnswer}
+use Rattle.vpc_cli.specs.Described.{Describes}
+use Rattle.vpc_cli.specs.Due.{IsAnswerBy, IsAnswerIn, IsDue, IsDueBy, IsDueForBytes, IsDueForFile, memory_text, refusal_text_by}
 use Rattle.vpc_cli.specs.Packet.{packet_of}
-use Rattle.vpc_cli.specs.Trace.{hops_of, outcome_of}
-use Rattle.vpc_cli.specs.Words.{words_fault}
-use Rattle.vpc_cli.proofs.WalkLemmas.{walk_is}
+use Rattle.vpc_cli.specs.Query.{query_of}
+use Rattle.vpc_cli.specs.Traced.{IsTraceAnswer, IsTraced, IsWay, traced_status, traced_text, status_of, walk_in, way_of, way_status, way_text}
+use Rattle.vpc_cli.specs.Words.{is_ask, words_fault}
+use Rattle.subnet_walk.specs.Trace.{outcome_of}
+use Rattle.subnet_walk.proofs.WalkLemmas.{walk_is}
 
 abbrev walk_hops : Site → Packet → List Hop
 walk_hops site packet = let walk = walk_in site packet in walk.hops
@@ -29,44 +34,85 @@ text_is_walked site packet within =
     ap (λ (hops : List Hop). walk_text (description_of site) hops (outcome_of packet.start packet.header (way_of site packet))) (sym is.0)
     ∙ ap (walk_text (description_of site) (walk_hops site packet)) (sym is.1)
 
--- a walk that arrives or is stopped is an answer of its own status
-traced_due : (words : List (List ℕ)) (bytes : List ℕ) (site : Site) (packet : Packet) (status : Status) (text : List ℕ) (outcome : Outcome)
-    → Describes bytes site → packet_of site.hosts words ≡ Some packet → status ≡ status_of outcome → status ≡ traced_status site packet → text ≡ traced_text site packet
-    → IsDueForBytes words bytes status text
-traced_due words bytes site packet status text (Arrived end h) described asked is status_is text_is =
-    subst (λ (s : Status). IsDueForBytes words bytes s text) (sym is) (record { site = site; packet = packet; described = described; asked = asked; status_is = sym is ∙ status_is; text_is = text_is })
-traced_due words bytes site packet status text (Stopped stop) described asked is status_is text_is =
-    subst (λ (s : Status). IsDueForBytes words bytes s text) (sym is) (record { site = site; packet = packet; described = described; asked = asked; status_is = sym is ∙ status_is; text_is = text_is })
+pub traced_if_way : (site : Site) (packet : Packet) (status : Status) (text : List ℕ) → packet.start < length site.hosts → IsWay site packet status text → IsTraced site packet status text
+traced_if_way site packet status text within way =
+    record { status_is = way.0 ∙ status_is_walked site packet within; text_is = way.1 ∙ text_is_walked site packet within }
+
+-- ---- the statuses of answers in a network
+
+-- a status that a command may answer in a network, and the text of the one that refuses the words of `ask` (true) or `trace`
+abbrev IsAnswering : Bool → Status → List ℕ → Type 0
+IsAnswering asks Yes text = Unit {0}
+IsAnswering asks No text = Unit {0}
+IsAnswering asks Words text = ⊥
+IsAnswering asks Refused text = ⊥
+IsAnswering asks Query text = text ≡ refusal_text_by asks
+IsAnswering asks More text = Unit {0}
+IsAnswering asks Read text = ⊥
+IsAnswering asks Write text = ⊥
+IsAnswering asks Memory text = ⊥
+
+ask_answers : (site : Site) (query : Option Asked) (status : Status) (text : List ℕ) → IsAskAnswer site query status text → IsAnswering true status text
+ask_answers site None status text answer = subst (λ (s : Status). IsAnswering true s text) (sym answer.0) answer.1
+ask_answers site (Some query) Yes text answer = tt
+ask_answers site (Some query) No text answer = tt
+ask_answers site (Some query) Words text answer = answer
+ask_answers site (Some query) Refused text answer = answer
+ask_answers site (Some query) Query text answer = absurd answer
+ask_answers site (Some query) More text answer = tt
+ask_answers site (Some query) Read text answer = answer
+ask_answers site (Some query) Write text answer = answer
+ask_answers site (Some query) Memory text answer = answer
+
+walk_answers : (status : Status) (text : List ℕ) (outcome : Outcome) → status ≡ status_of outcome → IsAnswering false status text
+walk_answers status text (Arrived end h) is = subst (λ (s : Status). IsAnswering false s text) (sym is) tt
+walk_answers status text (Stopped stop) is = subst (λ (s : Status). IsAnswering false s text) (sym is) tt
+
+trace_answers : (site : Site) (packet : Option Packet) (status : Status) (text : List ℕ) → IsTraceAnswer site packet status text → IsAnswering false status text
+trace_answers site None status text answer = subst (λ (s : Status). IsAnswering false s text) (sym answer.0) answer.1
+trace_answers site (Some packet) status text answer = walk_answers status text (let walk = walk_in site packet in walk.outcome) answer.status_is
+
+answers : (words : List (List ℕ)) (site : Site) (asks : Bool) (status : Status) (text : List ℕ) → IsAnswerBy asks words site status text → IsAnswering asks status text
+answers words site true status text answer = ask_answers site (query_of site.hosts words) status text answer
+answers words site false status text answer = trace_answers site (packet_of site.hosts words) status text answer
 
 -- an answer in a described network is due for its bytes
-pub answer_due : (words : List (List ℕ)) (bytes : List ℕ) (site : Site) (packet : Option Packet) (status : Status) (text : List ℕ)
-    → Describes bytes site → packet_of site.hosts words ≡ packet → IsAnswerTo site packet status text → IsDueForBytes words bytes status text
-answer_due words bytes site None status text described asked answer =
-    subst (λ (s : Status). IsDueForBytes words bytes s text) (sym answer.0) (answer.1, (site, described, asked))
-answer_due words bytes site (Some packet) status text described asked answer =
-    traced_due words bytes site packet status text (outcome_of packet.start packet.header (way_of site packet)) described asked answer.1
-    (answer.1 ∙ status_is_walked site packet answer.0) (answer.2 ∙ text_is_walked site packet answer.0)
+pub answer_due : (words : List (List ℕ)) (bytes : List ℕ) (site : Site) (status : Status) (text : List ℕ)
+    → Describes bytes site → IsAnswerIn words site status text → IsDueForBytes words bytes status text
+answer_due words bytes site Yes text described answer = record { site = site; described = described; answer = answer }
+answer_due words bytes site No text described answer = record { site = site; described = described; answer = answer }
+answer_due words bytes site Words text described answer = answers words site (is_ask words) Words text answer
+answer_due words bytes site Refused text described answer = absurd (answers words site (is_ask words) Refused text answer)
+answer_due words bytes site Query text described answer = record { site = site; described = described; answer = answer }
+answer_due words bytes site More text described answer = record { site = site; described = described; answer = answer }
+answer_due words bytes site Read text described answer = answers words site (is_ask words) Read text answer
+answer_due words bytes site Write text described answer = answers words site (is_ask words) Write text answer
+answer_due words bytes site Memory text described answer = answers words site (is_ask words) Memory text answer
+
+-- the text of a refusal of the words
+refusal_text_is : (words : List (List ℕ)) (bytes : List ℕ) (text : List ℕ) → IsDueForBytes words bytes Query text → text ≡ refusal_text_by (is_ask words)
+refusal_text_is words bytes text due = answers words due.site (is_ask words) Query text due.answer
 
 -- an answer that is due for the bytes that were read is due for the file
 pub due_if_told : (words : List (List ℕ)) (told : Option (List ℕ)) (failed : Type 0) (bytes : List ℕ) (status : Status) (text : List ℕ)
-    → IfTold told (λ b. bytes ≡ b) → IsDueForBytes words bytes status text → IsDueForTrace words told failed status text
+    → IfTold told (λ b. bytes ≡ b) → IsDueForBytes words bytes status text → IsDueForFile words told failed status text
 due_if_told words None failed bytes Yes text is due = tt
 due_if_told words None failed bytes No text is due = tt
 due_if_told words None failed bytes Words text is due = due
 due_if_told words None failed bytes Refused text is due = (due.0, tt)
-due_if_told words None failed bytes Query text is due = (due.0, tt)
-due_if_told words None failed bytes More text is due = due
+due_if_told words None failed bytes Query text is due = (refusal_text_is words bytes text due, tt)
+due_if_told words None failed bytes More text is due = tt
 due_if_told words None failed bytes Read text is due = absurd due
 due_if_told words None failed bytes Write text is due = due
 due_if_told words None failed bytes Memory text is due = absurd due
 due_if_told words (Some b) failed bytes status text is due = by status (subst (λ (x : List ℕ). IsDueForBytes words x status text) is due)
   where
-    by : (s : Status) → IsDueForBytes words b s text → IsDueForTrace words (Some b) failed s text
+    by : (s : Status) → IsDueForBytes words b s text → IsDueForFile words (Some b) failed s text
     by Yes d = d
     by No d = d
     by Words d = d
     by Refused d = d
-    by Query d = d
+    by Query d = (refusal_text_is words b text d, d)
     by More d = d
     by Read d = absurd d
     by Write d = d

@@ -1,3 +1,4 @@
 pub mod Lists
-pub mod WalkLemmas
 pub mod AnswerLemmas
+pub mod CompleteLemmas
+pub mod ReachableLemmas

@@ -1,31 +1,19 @@
 -- The answers that are due: pairs of a status and a text.
-use Rattle.std.specs.Prelude.{ℕ, ◌≡◌, ◌<◌, ◌≤◌, ◌⊎◌, ◌++◌, ◌∷◌, List, [], Option, Some, None, length, codes, decimal, IsUtf8}
-use Rattle.serde_json.specs.Data.{Data}
-use Rattle.serde_json.specs.Read.{read}
+use Rattle.std.specs.Prelude.{ℕ, ◌≡◌, ◌⊎◌, ◌++◌, Bool, true, false, List, Option, Some, None, codes, decimal}
 use Rattle.vpc_io.specs.Sink.{with_text, AddsProperPrefix}
 use Rattle.vpc_io.specs.Told.{IfTold}
-use Rattle.vpc_model.specs.declared.outcomes.Outcome.{Outcome}
-use Rattle.vpc_model.specs.declared.outcomes.Outcome.TheVariants.{Arrived, Stopped}
-use Rattle.vpc_model.specs.Text.{line_end, word, walk_text}
-use Rattle.vpc_model.specs.declared.places.Place.TheVariants.{OutOf}
-use Rattle.vpc_model.specs.Walk.{Walk, walk_of}
+use Rattle.vpc_model.specs.Text.{word}
 use Rattle.one_subnet.specs.declared.site.Site.{Site}
+use Rattle.subnet_reach.specs.declared.query.Query.{Query as Asked}
 use Rattle.vpc_cli.specs.declared.status.Status.{Status}
 use Rattle.vpc_cli.specs.declared.status.Status.TheVariants.{Yes, No, Words, Description as Refused, Query, More, Read, Write, Memory}
-use Rattle.one_subnet.specs.Form.{site_of}
-use Rattle.vpc_cli.specs.declared.packets.Packet.{Packet}
+use Rattle.vpc_cli.specs.Asked.{IsAskAnswer, IsDecided, query_text}
+use Rattle.vpc_cli.specs.Described.{Describes, DescribesNone}
+use Rattle.vpc_cli.specs.Lines.{line}
 use Rattle.vpc_cli.specs.Packet.{packet_of, word_at}
-use Rattle.one_subnet.specs.Site.{description_of}
-use Rattle.vpc_cli.specs.declared.tracing.Trace.{Trace}
-use Rattle.vpc_cli.specs.Trace.{hops_of, outcome_of, trace_of}
-use Rattle.vpc_cli.specs.Words.{words_fault}
-
--- the most bytes of one file
-abbrev pub file_limit : ℕ
-file_limit = 67108864
-
-abbrev pub line : List ℕ → List ℕ
-line text = text ++ line_end
+use Rattle.vpc_cli.specs.Query.{query_of}
+use Rattle.vpc_cli.specs.Traced.{IsTraceAnswer, packet_text}
+use Rattle.vpc_cli.specs.Words.{is_ask, words_fault}
 
 abbrev pub words_text : ℕ → List ℕ
 words_text n = line (codes "refused words" ++ word (decimal n))
@@ -33,102 +21,57 @@ words_text n = line (codes "refused words" ++ word (decimal n))
 abbrev pub description_text : List ℕ
 description_text = line (codes "refused description NotYet")
 
-abbrev pub packet_text : List ℕ
-packet_text = line (codes "refused packet NotYet")
-
 abbrev pub fault_text : List ℕ
 fault_text = line (codes "read fault 1")
 
 abbrev pub memory_text : List ℕ
 memory_text = line (codes "want of memory")
 
--- the bytes are the JSON text of the value
-abbrev pub IsJson : List ℕ → Data → Type 0
-IsJson bytes value = IsUtf8 bytes × (read bytes ≡ Some value)
+-- ---- what a command answers in a described network
 
--- they are the JSON text of none
-abbrev pub IsNoJson : List ℕ → Type 0
-IsNoJson bytes = IsUtf8 bytes → read bytes ≡ None
+-- `ask` (true) or `trace`
+abbrev pub IsAnswerBy : Bool → List (List ℕ) → Site → Status → List ℕ → Type 0
+IsAnswerBy true words site status text = IsAskAnswer site (query_of site.hosts words) status text
+IsAnswerBy false words site status text = IsTraceAnswer site (packet_of site.hosts words) status text
 
--- the bytes describe the network
-abbrev pub Describes : List ℕ → Site → Type 0
-Describes bytes site = (length bytes ≤ file_limit) × ((value : Data) × IsJson bytes value × (site_of value ≡ Some site))
+abbrev pub IsAnswerIn : List (List ℕ) → Site → Status → List ℕ → Type 0
+IsAnswerIn words site status text = IsAnswerBy (is_ask words) words site status text
 
--- they describe none: they are too many, no JSON text or of another form
-abbrev pub DescribesNone : List ℕ → Type 0
-DescribesNone bytes = (file_limit < length bytes) ⊎ (IsNoJson bytes ⊎ ((value : Data) × IsJson bytes value × (site_of value ≡ None)))
+-- the refusal of the words of `ask` (true), or of `trace`, that ask nothing in a described network
+abbrev pub refusal_text_by : Bool → List ℕ
+refusal_text_by true = query_text
+refusal_text_by false = packet_text
 
--- the network that the bytes describe, or none where they describe none
-abbrev pub IsSiteIn : List ℕ → Option Site → Type 0
-IsSiteIn bytes None = DescribesNone bytes
-IsSiteIn bytes (Some site) = Describes bytes site
-
--- what a walk answers
-abbrev pub status_of : Outcome → Status
-status_of (Arrived end h) = Yes
-status_of (Stopped s) = No
-
--- the walk of a packet in the described network, with nothing remembered before it
-abbrev pub walk_in : Site → Packet → Walk
-walk_in site packet = walk_of (description_of site) packet.label (record { place = OutOf (record { 0 = packet.start }); header = packet.header; conns = []; nats = [] })
-
-abbrev pub traced_status : Site → Packet → Status
-traced_status site packet = let walk = walk_in site packet in status_of walk.outcome
-
-abbrev pub traced_text : Site → Packet → List ℕ
-traced_text site packet = let walk = walk_in site packet in walk_text (description_of site) walk.hops walk.outcome
-
--- the same by the six ways inside one subnet
-abbrev pub way_of : Site → Packet → Trace
-way_of site packet = trace_of site packet.start packet.header
-
-abbrev pub way_status : Site → Packet → Status
-way_status site packet = status_of (outcome_of packet.start packet.header (way_of site packet))
-
-abbrev pub way_text : Site → Packet → List ℕ
-way_text site packet = walk_text (description_of site) (hops_of packet.start packet.header (way_of site packet)) (outcome_of packet.start packet.header (way_of site packet))
-
--- what `trace` answers in the network: the words' refusal, or the walk of their packet
-abbrev pub IsAnswerTo : Site → Option Packet → Status → List ℕ → Type 0
-IsAnswerTo site None status text = (status ≡ Query) × (text ≡ packet_text)
-IsAnswerTo site (Some packet) status text = (packet.start < length site.hosts) × (status ≡ way_status site packet) × (text ≡ way_text site packet)
-
--- the packet's walk in the network that these bytes describe
-pub record IsTraced (words : List (List ℕ)) (bytes : List ℕ) (status : Status) (text : List ℕ) : Type 0 where
+-- the answer in the network that these bytes describe
+pub record IsAnswered (words : List (List ℕ)) (bytes : List ℕ) (status : Status) (text : List ℕ) : Type 0 where
   pub site : Site
-  pub packet : Packet
   pub described : Describes bytes site
-  pub asked : packet_of site.hosts words ≡ Some packet
-  pub status_is : status ≡ traced_status site packet
-  pub text_is : text ≡ traced_text site packet
+  pub answer : IsAnswerIn words site status text
 
--- the words are no packet in the network that these bytes describe
-abbrev pub IsNoPacket : List (List ℕ) → List ℕ → Type 0
-IsNoPacket words bytes = (site : Site) × Describes bytes site × (packet_of site.hosts words ≡ None)
+-- ---- what is due for the bytes of a file
 
--- an answer of `trace` to these bytes
 abbrev pub IsDueForBytes : List (List ℕ) → List ℕ → Status → List ℕ → Type 0
-IsDueForBytes words bytes Yes text = IsTraced words bytes Yes text
-IsDueForBytes words bytes No text = IsTraced words bytes No text
+IsDueForBytes words bytes Yes text = IsAnswered words bytes Yes text
+IsDueForBytes words bytes No text = IsAnswered words bytes No text
 IsDueForBytes words bytes Words text = ⊥
 IsDueForBytes words bytes Refused text = (text ≡ description_text) × DescribesNone bytes
-IsDueForBytes words bytes Query text = (text ≡ packet_text) × IsNoPacket words bytes
-IsDueForBytes words bytes More text = ⊥
+IsDueForBytes words bytes Query text = IsAnswered words bytes Query text
+IsDueForBytes words bytes More text = IsAnswered words bytes More text
 IsDueForBytes words bytes Read text = ⊥
 IsDueForBytes words bytes Write text = ⊥
 IsDueForBytes words bytes Memory text = ⊥
 
--- an answer of `trace`, by the bytes of its file where they are told, and whether taking them failed
-abbrev pub IsDueForTrace : List (List ℕ) → Option (List ℕ) → Type 0 → Status → List ℕ → Type 0
-IsDueForTrace words told failed Yes text = IfTold told (λ bytes. IsDueForBytes words bytes Yes text)
-IsDueForTrace words told failed No text = IfTold told (λ bytes. IsDueForBytes words bytes No text)
-IsDueForTrace words told failed Words text = ⊥
-IsDueForTrace words told failed Refused text = (text ≡ description_text) × IfTold told DescribesNone
-IsDueForTrace words told failed Query text = (text ≡ packet_text) × IfTold told (IsNoPacket words)
-IsDueForTrace words told failed More text = ⊥
-IsDueForTrace words told failed Read text = (text ≡ fault_text) × failed
-IsDueForTrace words told failed Write text = ⊥
-IsDueForTrace words told failed Memory text = text ≡ memory_text
+-- an answer of a command, by the bytes of its file where they are told, and whether taking them failed
+abbrev pub IsDueForFile : List (List ℕ) → Option (List ℕ) → Type 0 → Status → List ℕ → Type 0
+IsDueForFile words told failed Yes text = IfTold told (λ bytes. IsDueForBytes words bytes Yes text)
+IsDueForFile words told failed No text = IfTold told (λ bytes. IsDueForBytes words bytes No text)
+IsDueForFile words told failed Words text = ⊥
+IsDueForFile words told failed Refused text = (text ≡ description_text) × IfTold told DescribesNone
+IsDueForFile words told failed Query text = (text ≡ refusal_text_by (is_ask words)) × IfTold told (λ bytes. IsDueForBytes words bytes Query text)
+IsDueForFile words told failed More text = IfTold told (λ bytes. IsDueForBytes words bytes More text)
+IsDueForFile words told failed Read text = (text ≡ fault_text) × failed
+IsDueForFile words told failed Write text = ⊥
+IsDueForFile words told failed Memory text = text ≡ memory_text
 
 -- an answer for words that are no command
 abbrev pub IsDueForWords : ℕ → Status → List ℕ → Type 0
@@ -148,7 +91,7 @@ file_name words = word_at words 1
 
 abbrev pub IsDueBy : Option ℕ → List (List ℕ) → (List ℕ → Option (List ℕ)) → (List ℕ → Type 0) → Status → List ℕ → Type 0
 IsDueBy (Some n) words told failed status text = IsDueForWords n status text
-IsDueBy None words told failed status text = IsDueForTrace words (told (file_name words)) (failed (file_name words)) status text
+IsDueBy None words told failed status text = IsDueForFile words (told (file_name words)) (failed (file_name words)) status text
 
 -- the pairs that are due for these words
 abbrev pub IsDue : List (List ℕ) → (List ℕ → Option (List ℕ)) → (List ℕ → Type 0) → Status → List ℕ → Type 0
@@ -173,3 +116,16 @@ IsAnswer due old new failed More = IsAdded due old new More
 IsAnswer due old new failed Read = IsAdded due old new Read
 IsAnswer due old new failed Write = failed × IsCutShort due old new
 IsAnswer due old new failed Memory = IsAdded due old new Memory
+
+-- ---- completeness
+
+-- a command that could not read, could not write or wanted memory
+abbrev pub IsFault : Status → Type 0
+IsFault status = (status ≡ Read) ⊎ ((status ≡ Write) ⊎ (status ≡ Memory))
+
+-- where the told bytes describe a network and the words ask a query in it, `ask` decides it, unless a device or memory failed
+abbrev pub IsComplete : List (List ℕ) → (List ℕ → Option (List ℕ)) → Status → Type 0
+IsComplete words told status =
+    (bytes : List ℕ) (site : Site) (query : Asked) → words_fault words ≡ None → is_ask words ≡ true → told (file_name words) ≡ Some bytes
+    → Describes bytes site → query_of site.hosts words ≡ Some query
+    → IsFault status ⊎ IsDecided site query status

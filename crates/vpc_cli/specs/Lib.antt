@@ -1,6 +1,10 @@
 pub mod Status
 pub mod Words
 pub mod Packet
-pub mod Trace
+pub mod Query
 pub mod Lines
+pub mod Reachable
+pub mod Described
+pub mod Traced
+pub mod Asked
 pub mod Due

@@ -1,13 +1,17 @@
 -- The parts of printed lines.
-use Rattle.std.specs.Prelude.{ℕ, ◌<◌, ◌++◌, List, codes, decimal, length}
+use Rattle.std.specs.Prelude.{ℕ, ◌++◌, List, codes, decimal}
 use Rattle.vpc_base.specs.declared.headers.Header.{Header}
-use Rattle.vpc_model.specs.Text.{word, header_text, line_end}
-use Rattle.one_subnet.specs.declared.site.RuleSet.{RuleSet}
+use Rattle.vpc_model.specs.Report.{phase_text}
+use Rattle.vpc_model.specs.Text.{word, header_text, line_end, stop_text}
 use Rattle.one_subnet.specs.declared.site.Site.{Site}
-use Rattle.vpc_cli.specs.declared.tracing.PassedBy.{PassedBy}
-use Rattle.vpc_cli.specs.declared.tracing.PassedBy.TheVariants.{NoGroups, Rule}
-use Rattle.vpc_cli.specs.declared.tracing.Trace.{Trace}
-use Rattle.vpc_cli.specs.declared.tracing.Trace.TheVariants.{WrongSource, GroupsRefuseOut, OffRoute, HostMissing, GroupsRefuseIn, Delivered}
+use Rattle.one_subnet.specs.Site.{description_of}
+use Rattle.subnet_walk.specs.declared.barrier.Barrier.{Barrier}
+use Rattle.subnet_walk.specs.Reach.{barrier_stop}
+use Rattle.subnet_reach.specs.declared.query.Query.{Query}
+
+-- a text with its newline
+abbrev pub line : List ℕ → List ℕ
+line text = text ++ line_end
 
 -- what a hop's line has before what the packet passed
 abbrev pub place_line : ℕ → List ℕ → List ℕ → Header → List ℕ
@@ -20,16 +24,10 @@ arrived_line id = codes "arrived" ++ word id ++ line_end
 abbrev pub stopped_line : List ℕ → List ℕ → List ℕ
 stopped_line name id = codes "stopped" ++ word (name ++ word id ++ word (codes "-")) ++ line_end
 
--- the group is one of these
-abbrev pub IsGroupOf : List RuleSet → PassedBy → Type 0
-IsGroupOf groups NoGroups = Unit {0}
-IsGroupOf groups (Rule group number) = group < length groups
+-- a phase, and a stop that no rule explains
+abbrev pub stopped_text : List ℕ → List ℕ → List ℕ → List ℕ
+stopped_text phase name id = phase ++ word (name ++ word id ++ word (codes "-"))
 
--- the groups and hosts are the network's
-abbrev pub IsKnown : Site → Trace → Type 0
-IsKnown site WrongSource = Unit {0}
-IsKnown site GroupsRefuseOut = Unit {0}
-IsKnown site (OffRoute out) = IsGroupOf site.groups out
-IsKnown site (HostMissing out) = IsGroupOf site.groups out
-IsKnown site (GroupsRefuseIn out receiver) = IsGroupOf site.groups out × (receiver < length site.hosts)
-IsKnown site (Delivered out receiver by) = IsGroupOf site.groups out × (receiver < length site.hosts) × IsGroupOf site.groups by
+-- what stops the requests of a row, or their replies
+abbrev pub barrier_text : Site → Query → Barrier → List ℕ
+barrier_text s query b = let stop = barrier_stop query.start query.goal b in phase_text stop.0 ++ word (stop_text (description_of s) stop.1)

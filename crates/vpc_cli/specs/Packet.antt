@@ -1,5 +1,5 @@
 -- The words of a packet.
-use Rattle.std.specs.Prelude.{ℕ, ◌==◌, ◌&&◌, ◌||◌, Bool, true, false, List, [], ◌∷◌, Option, Some, None, bytes_eq, codes, position, slice_index_or, if◌then◌else◌}
+use Rattle.std.specs.Prelude.{ℕ, ◌==◌, ◌&&◌, ◌||◌, Bool, List, [], Option, Some, None, bytes_eq, codes, position, slice_index_or, if◌then◌else◌}
 use Rattle.prefix_text.specs.Addr.{addr_of}
 use Rattle.prefix_text.specs.Number.{number_of}
 use Rattle.vpc_base.specs.declared.headers.Header.{Header}

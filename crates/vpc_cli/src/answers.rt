@@ -1,21 +1,32 @@
 // The answer to a command: its status with its text.
-ghost use Rattle.std.specs.Prelude.{◌≡◌, ◌≤◌, ℕ, IfOk, length, map, string_bytes};
+ghost use Rattle.std.specs.Prelude.{◌≡◌, ◌≤◌, ◌<◌, ℕ, IfOk, length, map, string_bytes};
 ghost use Rattle.serde_json.specs.View.{view};
-ghost use Rattle.vpc_base.specs.declared.headers.Header.{Header as Packet};
+ghost use Rattle.vpc_base.specs.declared.headers.Header.{Header as Asked};
 ghost use Rattle.vpc_io.specs.Rose.{Rose};
 ghost use Rattle.one_subnet.specs.Form.{site_of};
-ghost use Rattle.vpc_cli.specs.Due.{IsAnswerTo, IsDue, IsDueForBytes, IsDueForTrace, IsDueForWords, IsSiteIn, description_text, line, status_of};
+ghost use Rattle.subnet_reach.specs.Query.{IsQueryIn};
+ghost use Rattle.subnet_walk.specs.Trace.{outcome_of};
+ghost use Rattle.vpc_cli.specs.Asked.{IsAskAnswer, IsQueryAnswer};
+ghost use Rattle.vpc_cli.specs.Described.{IsSiteIn};
+ghost use Rattle.vpc_cli.specs.Due.{IsAnswerIn, IsDue, IsDueForBytes, IsDueForFile, IsDueForWords, description_text};
+ghost use Rattle.vpc_cli.specs.Lines.{line};
 ghost use Rattle.vpc_cli.specs.Packet.{packet_of};
-ghost use Rattle.vpc_cli.specs.Trace.{outcome_of};
+ghost use Rattle.vpc_cli.specs.Query.{query_of};
+ghost use Rattle.vpc_cli.specs.Traced.{IsTraceAnswer, IsWay, status_of};
+ghost use Rattle.vpc_cli.specs.Words.{HasCount};
 
-use crate::packets::{read_packet, word};
+use crate::packets::{Packet, read_packet, word};
 use crate::printing::{put, put_end, put_number_word, put_walk};
+use crate::queries::read_query;
+use crate::reachable::put_reachable;
+use crate::reports::{put_more, put_report};
 use crate::status::Status;
-use crate::tracing::{Trace, walk_from};
-use crate::words::words_fault;
+use crate::words::{is_ask, words_fault};
 use one_subnet::{FormFault, Site, read_site};
 use serde_json::Value;
 use std::alloc::Global;
+use subnet_reach::{Query, Reached, reach};
+use subnet_walk::{Trace, walk_from};
 use vpc_base::NoMemory;
 use vpc_io::{Shelf, ShelfFault};
 
@@ -53,7 +64,7 @@ fn words_refusal(alloc: Global, number: usize) -> Result<Answer, NoMemory>
 
 // What a walk answers.
 fn status(trace: &Trace) -> Status
-    ensures { (i : ℕ) → (h : Packet) → result ≡ status_of (outcome_of i h trace.now) }
+    ensures { (i : ℕ) → (h : Asked) → result ≡ status_of (outcome_of i h trace.now) }
 {
     match trace {
         Trace::Delivered(_, _, _) => Status::Yes,
@@ -61,13 +72,10 @@ fn status(trace: &Trace) -> Status
     }
 }
 
-fn traced(alloc: Global, site: &Site, words: &[String]) -> Result<Answer, NoMemory>
-    requires { length words.now ≡ 10 }
-    ensures { IfOk result (λ a. IsAnswerTo site.now (packet_of site.now.hosts (map string_bytes words.now)) a.status a.text.items) }
+fn walked(alloc: Global, site: &Site, packet: &Packet) -> Result<Answer, NoMemory>
+    requires { packet.now.start < length site.now.hosts }
+    ensures { IfOk result (λ a. IsWay site.now packet.now a.status a.text.items) }
 {
-    let Some(packet) = read_packet(site.hosts.as_slice(), words) else {
-        return refusal(alloc, Status::Query, b"refused packet NotYet");
-    };
     let walk = walk_from(site, packet.start, &packet.header);
     let mut text = Vec::new(alloc);
     put_walk(&mut text, site, packet.start, &packet.header, &walk)?;
@@ -75,6 +83,60 @@ fn traced(alloc: Global, site: &Site, words: &[String]) -> Result<Answer, NoMemo
         status: status(&walk),
         text,
     })
+}
+
+fn traced(alloc: Global, site: &Site, words: &[String]) -> Result<Answer, NoMemory>
+    requires { length words.now ≡ 10 }
+    ensures { IfOk result (λ a. IsTraceAnswer site.now (packet_of site.now.hosts (map string_bytes words.now)) a.status a.text.items) }
+{
+    match read_packet(site.hosts.as_slice(), words) {
+        Some(packet) => walked(alloc, site, &packet),
+        None => refusal(alloc, Status::Query, b"refused packet NotYet"),
+    }
+}
+
+fn reached(alloc: Global, site: &Site, query: &Query) -> Result<Answer, NoMemory>
+    requires { IsQueryIn site.now query.now }
+    ensures { IfOk result (λ a. IsQueryAnswer site.now query.now a.status a.text.items) }
+{
+    let mut text = Vec::new(alloc);
+    let status = match reach(alloc, site, query)? {
+        Reached::Through(header) => {
+            put_reachable(&mut text, site, query, &header)?;
+            Status::Yes
+        }
+        Reached::Blocked(rows) => {
+            put_report(&mut text, site, query, rows.as_slice())?;
+            Status::No
+        }
+        Reached::More(rows, next, cells) => {
+            put_more(&mut text, site, query, rows.as_slice(), &next, cells)?;
+            Status::More
+        }
+    };
+    Ok(Answer { status, text })
+}
+
+fn asked(alloc: Global, site: &Site, words: &[String]) -> Result<Answer, NoMemory>
+    requires { 6 ≤ length words.now }
+    ensures { IfOk result (λ a. IsAskAnswer site.now (query_of site.now.hosts (map string_bytes words.now)) a.status a.text.items) }
+{
+    match read_query(site, words) {
+        Some(query) => reached(alloc, site, &query),
+        None => refusal(alloc, Status::Query, b"refused query NotYet"),
+    }
+}
+
+// What the command answers in a described network.
+fn answered(alloc: Global, site: &Site, words: &[String]) -> Result<Answer, NoMemory>
+    requires { HasCount (map string_bytes words.now) }
+    ensures { IfOk result (λ a. IsAnswerIn (map string_bytes words.now) site.now a.status a.text.items) }
+{
+    if is_ask(words) {
+        asked(alloc, site, words)
+    } else {
+        traced(alloc, site, words)
+    }
 }
 
 fn form_refusal(alloc: Global) -> Result<Answer, NoMemory>
@@ -107,24 +169,24 @@ fn site_in(alloc: Global, bytes: &[u8]) -> Result<Option<Site>, NoMemory>
 }
 
 fn described(alloc: Global, bytes: &[u8], words: &[String]) -> Result<Answer, NoMemory>
-    requires words { length words.now ≡ 10 }
+    requires words { HasCount (map string_bytes words.now) }
     requires bytes { length bytes.now ≤ FILE_LIMIT }
     ensures { IfOk result (λ a. IsDueForBytes (map string_bytes words.now) bytes.now a.status a.text.items) }
 {
     match site_in(alloc, bytes)? {
-        Some(site) => traced(alloc, &site, words),
+        Some(site) => answered(alloc, &site, words),
         None => form_refusal(alloc),
     }
 }
 
-fn answer_trace<S: Shelf>(
+fn answer_file<S: Shelf>(
     alloc: Global,
     words: &[String],
     name: &str,
     shelf: &mut S,
 ) -> Result<Answer, NoMemory>
-    requires { length words.now ≡ 10 }
-    ensures { IfOk result (λ a. IsDueForTrace (map string_bytes words.now) (S.told shelf.old name.now) (Rose (S.faults shelf.old name.now) (S.faults shelf.new name.now)) a.status a.text.items) }
+    requires { HasCount (map string_bytes words.now) }
+    ensures { IfOk result (λ a. IsDueForFile (map string_bytes words.now) (S.told shelf.old name.now) (Rose (S.faults shelf.old name.now) (S.faults shelf.new name.now)) a.status a.text.items) }
 {
     match shelf.take(alloc, name, FILE_LIMIT) {
         Ok(bytes) => described(alloc, bytes.as_slice(), words),
@@ -144,6 +206,6 @@ pub fn answer_to<S: Shelf>(
 {
     match words_fault(words) {
         Some(number) => words_refusal(alloc, number),
-        None => answer_trace(alloc, words, word(words, 1), shelf),
+        None => answer_file(alloc, words, word(words, 1), shelf),
     }
 }

@@ -1,7 +1,7 @@
 // The top call.
 ghost use Rattle.std.specs.Prelude.{◌≡◌, map, string_bytes};
 ghost use Rattle.vpc_io.specs.Rose.{Rose};
-ghost use Rattle.vpc_cli.specs.Due.{IsAnswer, IsDue, file_name};
+ghost use Rattle.vpc_cli.specs.Due.{IsAnswer, IsComplete, IsDue, file_name};
 
 use crate::answers::answer_to;
 use crate::status::Status;
@@ -16,6 +16,8 @@ pub fn run<S: Shelf, O: Sink>(alloc: Global, words: &[String], shelf: &mut S, ou
     // proper prefix of a due text.
     ensures due { IsAnswer (IsDue (map string_bytes words.now) (S.told shelf.old) (λ n. Rose (S.faults shelf.old n) (S.faults shelf.new n))) (O.held out.old) (O.held out.new) (Rose (O.faults out.old) (O.faults out.new)) result }
     ensures read_only_where_faults_rose { result ≡ Status.Read → Rose (S.faults shelf.old (file_name (map string_bytes words.now))) (S.faults shelf.new (file_name (map string_bytes words.now))) }
+    // `ask` says yes where some header gets through, and no where none does and the cells are at most `max`.
+    ensures complete { IsComplete (map string_bytes words.now) (S.told shelf.old) result }
     ensures write_only_where_faults_rose { result ≡ Status.Write → Rose (O.faults out.old) (O.faults out.new) }
 {
     match answer_to(alloc, words, shelf) {

@@ -5,10 +5,12 @@ mod answers;
 mod commands;
 mod packets;
 mod printing;
+mod queries;
+mod reachable;
+mod reports;
 mod status;
 #[cfg(test)]
 mod tests;
-mod tracing;
 mod words;
 
 use commands::run;

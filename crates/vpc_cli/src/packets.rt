@@ -48,7 +48,8 @@ fn host_place(hosts: &[Host], id: &[u8]) -> Option<usize>
     hosts.iter().position(|h| h.id.bytes() == id)
 }
 
-fn host(hosts: &[Host], word: &str) -> Option<usize>
+/// The place of the host that the word names.
+pub fn host(hosts: &[Host], word: &str) -> Option<usize>
     ensures value { result ≡ host_word hosts.now word.now }
     ensures within { IfSome result (λ k. k < length hosts.now) }
 {

@@ -3,23 +3,24 @@ ghost use Rattle.std.specs.Prelude.{◌≡◌, ◌<◌, ◌++◌, ◌∷◌, [],
 ghost use Rattle.vpc_model.specs.Text.{word, line_end, proto_text, header_text, by_text, dir_text, hop_line, hop_lines, outcome_line, walk_text};
 ghost use Rattle.std.specs.Option.{ForSome};
 ghost use Rattle.vpc_base.specs.declared.headers.Dir.TheVariants.{Inward, Outward};
-ghost use Rattle.vpc_cli.specs.Trace.{by_of, by_if, out_hop, router_hop, in_hop, hops_of, outcome_of};
+ghost use Rattle.subnet_walk.specs.Trace.{by_of, by_if, out_hop, router_hop, in_hop, hops_of, outcome_of};
 ghost use Rattle.prefix_text.specs.Addr.{addr_text};
-ghost use Rattle.vpc_cli.specs.Lines.{arrived_line, place_line, stopped_line, IsGroupOf, IsKnown};
+ghost use Rattle.subnet_walk.specs.Known.{IsGroupOf, IsKnown};
+ghost use Rattle.vpc_cli.specs.Lines.{arrived_line, place_line, stopped_line};
 ghost use Rattle.one_subnet.specs.Site.{description_of};
 ghost use Rattle.vpc_model.specs.Lookup.{group_at, interface_at};
 
-use crate::tracing::{PassedBy, Trace};
 use one_subnet::Site;
 use prefix_text::{put_addr, put_number};
+use subnet_walk::{PassedBy, Trace};
 use vpc_base::{Dir, Header, NoMemory};
 
 /// A numbered place of a walk, as it is printed.
 #[derive(Clone, Copy)]
-struct Place<'a> {
-    number: u128,
-    kind: &'a [u8],
-    id: &'a [u8],
+pub struct Place<'a> {
+    pub number: u128,
+    pub kind: &'a [u8],
+    pub id: &'a [u8],
 }
 
 /// Appends a text.
@@ -81,15 +82,16 @@ fn put_header(out: &mut Vec<u8>, h: &Header) -> Result<(), NoMemory>
     put_number_word(out, u128::from(h.q))
 }
 
-fn put_header_word(out: &mut Vec<u8>, h: &Header) -> Result<(), NoMemory>
+/// Appends a blank and a header.
+pub fn put_header_word(out: &mut Vec<u8>, h: &Header) -> Result<(), NoMemory>
     ensures { OnOk result (out.new.items ≡ out.old.items ++ word (header_text h.now)) }
 {
     put(out, b" ")?;
     put_header(out, h)
 }
 
-// What each hop's line has before what the packet passed.
-fn put_place(
+/// Appends what each hop's line has before what the packet passed.
+pub fn put_place(
     out: &mut Vec<u8>,
     number: u128,
     kind: &[u8],
@@ -105,7 +107,8 @@ fn put_place(
     put_header_word(out, h)
 }
 
-fn host_id(site: &Site, host: usize) -> &[u8]
+/// The id of a host.
+pub fn host_id(site: &Site, host: usize) -> &[u8]
     requires { host < length site.now.hosts }
     ensures { let e = interface_at (description_of site.now) (record { 0 = host }) in result.now ≡ e.id }
 {
@@ -191,7 +194,13 @@ fn put_out_hop(
     put_hop(out, site, &place, h, Dir::Outward, by)
 }
 
-fn put_router_hop(out: &mut Vec<u8>, site: &Site, start: usize, h: &Header) -> Result<(), NoMemory>
+/// Appends the hop at the router, which is the second.
+pub fn put_router_hop(
+    out: &mut Vec<u8>,
+    site: &Site,
+    start: usize,
+    h: &Header,
+) -> Result<(), NoMemory>
     ensures { OnOk result (out.new.items ≡ out.old.items ++ hop_line (description_of site.now) 2 (router_hop start h.now)) }
 {
     put_place(out, 2, b"router", site.subnet.bytes(), h)?;
@@ -276,7 +285,8 @@ fn put_stopped_at(out: &mut Vec<u8>, name: &[u8], site: &Site, host: usize) -> R
     put_stopped(out, name, host_id(site, host))
 }
 
-fn put_arrived_at(out: &mut Vec<u8>, site: &Site, host: usize) -> Result<(), NoMemory>
+/// Appends the last line of a walk that arrives at a host.
+pub fn put_arrived_at(out: &mut Vec<u8>, site: &Site, host: usize) -> Result<(), NoMemory>
     requires { host < length site.now.hosts }
     ensures { let e = interface_at (description_of site.now) (record { 0 = host }) in OnOk result (out.new.items ≡ out.old.items ++ arrived_line e.id) }
 {

@@ -1,4 +1,6 @@
 // Worked commands, on a network of two hosts in one subnet.
+mod asks;
+
 ghost use Rattle.std.specs.Prelude.{◌<◌, ◌≢◌};
 
 use crate::commands::run;

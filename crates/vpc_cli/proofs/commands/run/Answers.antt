@@ -2,7 +2,15 @@ use Rattle.std.proofs.Common.{map, string_bytes}
 use Rattle.vpc_cli.specs.Due.{memory_text}
 use Rattle.vpc_cli.specs.declared.status.Status.TheVariants.{Memory}
 use Rattle.vpc_cli.proofs.AnswerLemmas.{memory_due}
+use Rattle.vpc_cli.proofs.CompleteLemmas.{answer_if_due, complete_if_due}
 use Rattle.vpc_cli.proofs.commands.run.Goals as goal
+
+pub returns-in-Ok-put_all-clause-due : goal.returns-in-Ok-put_all-clause-due
+returns-in-Ok-put_all-clause-due g c =
+    answer_if_due (map string_bytes c.args.words.now) _ _ _ _ _ c.in-Ok.answer.status c.in-Ok.answer.text.items c.in-Ok.ensures (rw c.as_slice.ensures.value at c.in-Ok-put_all.ensures.whole)
+
+pub returns-in-Ok-put_all-clause-complete : goal.returns-in-Ok-put_all-clause-complete
+returns-in-Ok-put_all-clause-complete g c = complete_if_due (map string_bytes c.args.words.now) _ _ c.in-Ok.answer.status c.in-Ok.answer.text.items c.in-Ok.ensures
 
 pub returns-in-Ok-clause-due : goal.returns-in-Ok-clause-due
 returns-in-Ok-clause-due g c = (

@@ -1,9 +1,9 @@
-use Rattle.std.proofs.Common.{◌≡◌, ◌++◌, List, ℕ, subst}
+use Rattle.std.proofs.Common.{◌≡◌, List, ℕ, subst}
 use Rattle.std.specs.Prelude.{OnOk}
 use Rattle.one_subnet.specs.Site.{description_of}
 use Rattle.vpc_model.specs.Text.{by_text, line_end}
 use Rattle.vpc_cli.specs.Lines.{place_line}
-use Rattle.vpc_cli.specs.Trace.{by_if}
+use Rattle.subnet_walk.specs.Trace.{by_if}
 use Rattle.vpc_cli.proofs.Lists.{append_parts}
 use Rattle.vpc_cli.proofs.printing.put_hop.Goals as goal
 

@@ -1,0 +1,5 @@
+pub mod Tables
+pub mod Rules
+pub mod Steps
+pub mod Barriers
+pub mod Reports

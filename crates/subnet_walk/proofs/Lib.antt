@@ -1,0 +1,4 @@
+pub mod WalkLemmas
+pub mod VerdictLemmas
+pub mod ReplyLemmas
+pub mod BarrierLemmas

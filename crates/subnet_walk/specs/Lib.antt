@@ -1,0 +1,4 @@
+pub mod Trace
+pub mod Known
+pub mod Reach
+pub mod Laws

@@ -1,0 +1,209 @@
+-- What is due decides a query.
+use Rattle.std.proofs.Common.{◌≡◌, ◌<◌, ◌≤◌, ◌⊎◌, ◌∷◌, ◌||◌, ℕ, Bool, true, false, zero, suc, List, [], Option, Some, None, inl, inr, refl, sym, ap, subst, ◌∙◌, arith}
+use Rattle.std.specs.List.{All, AllPairs, Contains}
+use Rattle.std.proofs.lemmas.List.Kept.{AllPairs-from_increasing}
+use Rattle.serde_json.specs.Data.{Data}
+use Rattle.serde_json.specs.Read.{read}
+use Rattle.vpc_base.specs.Cuts.{CutLists}
+use Rattle.vpc_base.specs.declared.headers.Header.{Header}
+use Rattle.header_boxes.specs.Boxes.{holds}
+use Rattle.header_boxes.specs.Cells.{cells_of}
+use Rattle.header_boxes.specs.declared.boxes.Box5.{Box5}
+use Rattle.vpc_model.specs.Report.{BoxRow, HasText, IsCellCount, ending_text, is_reported}
+use Rattle.vpc_model.specs.Verdict.{verdict_of}
+use Rattle.vpc_model.specs.declared.outcomes.Verdict.TheVariants.{Through}
+use Rattle.vpc_model.specs.declared.places.End.{End}
+use Rattle.vpc_model.specs.declared.rows.Description.{Description}
+use Rattle.one_subnet.specs.Form.{site_of}
+use Rattle.one_subnet.specs.Site.{description_of}
+use Rattle.subnet_reach.specs.Query.{box_of, end_at}
+use Rattle.one_subnet.specs.declared.site.Site.{Site}
+use Rattle.subnet_reach.specs.declared.query.Query.{Query as Asked}
+use Rattle.vpc_cli.specs.Asked.{IsAskAnswer, IsDecided, IsQueryAnswer, IsReachable, IsReported, IsReportedInPart}
+use Rattle.vpc_cli.specs.Described.{Describes, DescribesNone}
+use Rattle.vpc_cli.specs.Due.{file_name, IsAnswer, IsAnswerBy, IsAnswered, IsComplete, IsDue, IsDueBy, IsDueForBytes, IsDueForFile, IsFault}
+use Rattle.vpc_cli.specs.Query.{query_of}
+use Rattle.vpc_cli.specs.Words.{is_ask, words_fault}
+use Rattle.vpc_cli.specs.declared.status.Status.{Status}
+use Rattle.vpc_cli.specs.declared.status.Status.TheVariants.{Yes, No, Words, Description as Refused, Query, More, Read, Write, Memory}
+use Rattle.vpc_io.specs.Sink.{with_text}
+
+-- ---- cuts are told by their members
+
+-- each number is below all later ones
+abbrev Rises : List ℕ → Type 0
+Rises [] = Unit {0}
+Rises (x ∷ xs) = ((c : ℕ) → Contains xs c → x < c) × Rises xs
+
+rises : (xs : List ℕ) → AllPairs (λ x y. x < y) xs → Rises xs
+rises [] pairs = tt
+rises (x ∷ xs) pairs = (
+  (λ c within. subst (λ (n : ℕ). x < n) within.2 (pairs 0 (suc within.0) c (omega arith) (omega arith))),
+  rises xs (λ i j d lt below. pairs (suc i) (suc j) d (omega arith) (omega arith)),
+)
+
+abbrev Within : List ℕ → List ℕ → Type 0
+Within xs ys = (c : ℕ) → Contains xs c → Contains ys c
+
+first_or_later : (x c : ℕ) (xs : List ℕ) → Contains (x ∷ xs) c → (x ≡ c) ⊎ Contains xs c
+first_or_later x c xs (zero, below, e) = inl e
+first_or_later x c xs (suc k, below, e) = inr (k, omega arith, e)
+
+here : (x : ℕ) (xs : List ℕ) → Contains (x ∷ xs) x
+here x xs = (0, omega arith, refl)
+
+later : (x c : ℕ) (xs : List ℕ) → Contains xs c → Contains (x ∷ xs) c
+later x c xs (k, below, e) = (suc k, omega arith, e)
+
+same_first : (x y : ℕ) (xs ys : List ℕ) → Rises (x ∷ xs) → Rises (y ∷ ys) → (y ≡ x) ⊎ Contains ys x → (x ≡ y) ⊎ Contains xs y → x ≡ y
+same_first x y xs ys rx ry (inl e) b = sym e
+same_first x y xs ys rx ry (inr a) (inl e) = e
+same_first x y xs ys rx ry (inr a) (inr b) = let below = rx.0 y b in let above = ry.0 x a in absurd (omega arith)
+
+not_first : (x y c : ℕ) (ys : List ℕ) → x ≡ y → x < c → (y ≡ c) ⊎ Contains ys c → Contains ys c
+not_first x y c ys same below (inl e) = absurd (omega arith)
+not_first x y c ys same below (inr within) = within
+
+-- lists that rise and have the same members are the same
+same_list : (xs ys : List ℕ) → Rises xs → Rises ys → Within xs ys → Within ys xs → xs ≡ ys
+same_list [] [] rx ry a b = refl
+same_list [] (y ∷ ys) rx ry a b = let none = b y (here y ys) in let below = none.1 in absurd (omega arith)
+same_list (x ∷ xs) [] rx ry a b = let none = a x (here x xs) in let below = none.1 in absurd (omega arith)
+same_list (x ∷ xs) (y ∷ ys) rx ry a b =
+    let e : x ≡ y = same_first x y xs ys rx ry (first_or_later y x ys (a x (here x xs))) (first_or_later x y xs (b y (here y ys))) in
+    let rest = same_list xs ys rx.1 ry.1
+    (λ c within. not_first x y c ys e (rx.0 c within) (first_or_later y c ys (a c (later x c xs within))))
+    (λ c within. not_first y x c xs (sym e) (ry.0 c within) (first_or_later x c xs (b c (later y c ys within)))) in
+    ap (λ (n : ℕ). n ∷ xs) e ∙ ap (λ (l : List ℕ). y ∷ l) rest
+
+-- a box has one number of cells
+cells_are : (d : Description) (whole : Box5) (m n : ℕ) → IsCellCount d whole m → IsCellCount d whole n → m ≡ n
+cells_are d whole m n a b =
+    let proto = same_list a.cuts.proto b.cuts.proto (rises a.cuts.proto (AllPairs-from_increasing a.cuts.proto a.ascending.proto)) (rises b.cuts.proto (AllPairs-from_increasing b.cuts.proto b.ascending.proto))
+    (λ c h. b.all.proto c (a.no_others.proto c h)) (λ c h. a.all.proto c (b.no_others.proto c h)) in
+    let addr = same_list a.cuts.addr b.cuts.addr (rises a.cuts.addr (AllPairs-from_increasing a.cuts.addr a.ascending.addr)) (rises b.cuts.addr (AllPairs-from_increasing b.cuts.addr b.ascending.addr))
+    (λ c h. b.all.addr c (a.no_others.addr c h)) (λ c h. a.all.addr c (b.no_others.addr c h)) in
+    let p = same_list a.cuts.p b.cuts.p (rises a.cuts.p (AllPairs-from_increasing a.cuts.p a.ascending.p)) (rises b.cuts.p (AllPairs-from_increasing b.cuts.p b.ascending.p))
+    (λ c h. b.all.p c (a.no_others.p c h)) (λ c h. a.all.p c (b.no_others.p c h)) in
+    let q = same_list a.cuts.q b.cuts.q (rises a.cuts.q (AllPairs-from_increasing a.cuts.q a.ascending.q)) (rises b.cuts.q (AllPairs-from_increasing b.cuts.q b.ascending.q))
+    (λ c h. b.all.q c (a.no_others.q c h)) (λ c h. a.all.q c (b.no_others.q c h)) in
+    a.count ∙ (same_cells a.cuts b.cuts proto addr p q ∙ sym b.count)
+  where
+    same_cells : (x y : CutLists) → x.proto ≡ y.proto → x.addr ≡ y.addr → x.p ≡ y.p → x.q ≡ y.q → cells_of x whole ≡ cells_of y whole
+    same_cells x y proto addr p q =
+        ap (λ (l : List ℕ). cells_of (record { proto = l; addr = x.addr; p = x.p; q = x.q }) whole) proto
+        ∙ (ap (λ (l : List ℕ). cells_of (record { proto = y.proto; addr = l; p = x.p; q = x.q }) whole) addr
+        ∙ (ap (λ (l : List ℕ). cells_of (record { proto = y.proto; addr = y.addr; p = l; q = x.q }) whole) p
+        ∙ ap (λ (l : List ℕ). cells_of (record { proto = y.proto; addr = y.addr; p = y.p; q = l }) whole) q))
+
+-- ---- a report holds no header that gets through
+
+no_text : (d : Description) (start goal : End) (row : BoxRow) (h : Header) → ending_text d (verdict_of d start goal h) ≡ Some row.text → verdict_of d start goal h ≡ Through → ⊥
+no_text d start goal row h told through = let none : None ≡ Some row.text = ap (ending_text d) (sym through) ∙ told in cc
+
+by_first : (d : Description) (start goal : End) (row : BoxRow) (rows : List BoxRow) (h : Header) (b : Bool) → holds h row.part ≡ b → HasText d start goal row
+    → is_reported (row ∷ rows) h ≡ true → verdict_of d start goal h ≡ Through → (is_reported rows h ≡ true → ⊥) → ⊥
+by_first d start goal row rows h true inside text reported through rest = no_text d start goal row h (text h inside) through
+by_first d start goal row rows h false outside text reported through rest = rest (ap (λ (c : Bool). c || is_reported rows h) (sym outside) ∙ reported)
+
+not_through : (d : Description) (start goal : End) (rows : List BoxRow) (h : Header) → All (HasText d start goal) rows → is_reported rows h ≡ true → verdict_of d start goal h ≡ Through → ⊥
+not_through d start goal [] h texts reported through = cc
+not_through d start goal (row ∷ rows) h texts reported through =
+    by_first d start goal row rows h (holds h row.part) refl (texts 0 row (omega arith)) reported through
+    (λ in_rest. not_through d start goal rows h (λ k e below. texts (suc k) e (omega arith)) in_rest through)
+
+-- ---- bytes describe one network
+
+same_value : (bytes : List ℕ) (v w : Data) → read bytes ≡ Some v → read bytes ≡ Some w → v ≡ w
+same_value bytes v w a b = let same : Some v ≡ Some w = sym a ∙ b in cc
+
+same_site : (bytes : List ℕ) (s t : Site) → Describes bytes s → Describes bytes t → s ≡ t
+same_site bytes s t a b =
+    let value = same_value bytes a.1.0 b.1.0 a.1.1.1 b.1.1.1 in
+    let same : Some s ≡ Some t = sym a.1.2 ∙ (ap site_of value ∙ b.1.2) in
+    cc
+
+none_described : (bytes : List ℕ) (site : Site) → DescribesNone bytes → Describes bytes site → ⊥
+none_described bytes site (inl long) described = let few = described.0 in absurd (omega arith)
+none_described bytes site (inr (inl no_json)) described = let same : None ≡ Some described.1.0 = sym (no_json described.1.1.0) ∙ described.1.1.1 in cc
+none_described bytes site (inr (inr other)) described =
+    let value = same_value bytes other.0 described.1.0 other.1.1 described.1.1.1 in
+    let same : None ≡ Some site = sym other.2 ∙ (ap site_of value ∙ described.1.2) in
+    cc
+
+-- ---- an answer decides the query
+
+asked : (words : List (List ℕ)) (bytes : List ℕ) (site : Site) (query : Asked) (status : Status) (text : List ℕ)
+    → IsAnswered words bytes status text → is_ask words ≡ true → Describes bytes site → query_of site.hosts words ≡ Some query → IsQueryAnswer site query status text
+asked words bytes site query status text x asks described query_is =
+    let same = same_site bytes x.site site x.described described in
+    let answer : IsAnswerBy true words x.site status text = subst (λ (b : Bool). IsAnswerBy b words x.site status text) asks x.answer in
+    let answer_here : IsAskAnswer site (query_of site.hosts words) status text = subst (λ (s : Site). IsAskAnswer s (query_of s.hosts words) status text) same answer in
+    subst (λ (o : Option Asked). IsAskAnswer site o status text) query_is answer_here
+
+yes_decides : (site : Site) (query : Asked) (text : List ℕ) → IsReachable site query text → IsDecided site query Yes
+yes_decides site query text x = record { yes = λ some. refl; no = λ few. absurd (few.none x.header x.first.inside x.first.through) }
+
+no_decides : (site : Site) (query : Asked) (text : List ℕ) → IsReported site query text → IsDecided site query No
+no_decides site query text x = record {
+  yes = λ some. absurd (not_through (description_of site) (end_at query.start) (end_at query.goal) x.rows some.header x.report.are_true.text (x.report.holds_all some.header some.inside) some.through);
+  no = λ few. refl;
+}
+
+more_decides : (site : Site) (query : Asked) (text : List ℕ) → IsReportedInPart site query text → IsDecided site query More
+more_decides site query text x = record {
+  yes = λ some. absurd (x.report.none some.header some.inside some.through);
+  no = λ few. absurd (too_few query.max x.cells few.cells x.report.many few.few (cells_are (description_of site) (box_of site query) few.cells x.cells few.cells_are x.report.cells_are));
+}
+  where
+    too_few : (max cells few : ℕ) → max < cells → few ≤ max → few ≡ cells → ⊥
+    too_few max cells few many at_most same = omega arith
+
+decided_by : (words : List (List ℕ)) (bytes : List ℕ) (site : Site) (query : Asked) (status : Status) (text : List ℕ)
+    → IsDueForBytes words bytes status text → is_ask words ≡ true → Describes bytes site → query_of site.hosts words ≡ Some query → IsFault status ⊎ IsDecided site query status
+decided_by words bytes site query Yes text due asks described query_is = inr (yes_decides site query text (asked words bytes site query Yes text due asks described query_is))
+decided_by words bytes site query No text due asks described query_is = inr (no_decides site query text (asked words bytes site query No text due asks described query_is))
+decided_by words bytes site query Words text due asks described query_is = absurd due
+decided_by words bytes site query Refused text due asks described query_is = absurd (none_described bytes site due.1 described)
+decided_by words bytes site query Query text due asks described query_is = absurd (asked words bytes site query Query text due asks described query_is)
+decided_by words bytes site query More text due asks described query_is = inr (more_decides site query text (asked words bytes site query More text due asks described query_is))
+decided_by words bytes site query Read text due asks described query_is = absurd due
+decided_by words bytes site query Write text due asks described query_is = absurd due
+decided_by words bytes site query Memory text due asks described query_is = absurd due
+
+decided_for : (words : List (List ℕ)) (bytes : List ℕ) (failed : Type 0) (site : Site) (query : Asked) (status : Status) (text : List ℕ)
+    → IsDueForFile words (Some bytes) failed status text → is_ask words ≡ true → Describes bytes site → query_of site.hosts words ≡ Some query → IsFault status ⊎ IsDecided site query status
+decided_for words bytes failed site query Yes text due = decided_by words bytes site query Yes text due
+decided_for words bytes failed site query No text due = decided_by words bytes site query No text due
+decided_for words bytes failed site query Words text due = absurd due
+decided_for words bytes failed site query Refused text due = decided_by words bytes site query Refused text due
+decided_for words bytes failed site query Query text due = decided_by words bytes site query Query text due.1
+decided_for words bytes failed site query More text due = decided_by words bytes site query More text due
+decided_for words bytes failed site query Read text due = λ asks described query_is. inl (inl refl)
+decided_for words bytes failed site query Write text due = absurd due
+decided_for words bytes failed site query Memory text due = λ asks described query_is. inl (inr (inr refl))
+
+-- a pair that is due is complete
+pub complete_if_due : (words : List (List ℕ)) (told : List ℕ → Option (List ℕ)) (failed : List ℕ → Type 0) (status : Status) (text : List ℕ) → IsDue words told failed status text → IsComplete words told status
+complete_if_due words told failed status text due bytes site query right asks told_is described query_is =
+    let by_words : IsDueBy None words told failed status text = subst (λ (o : Option ℕ). IsDueBy o words told failed status text) right due in
+    let by_bytes : IsDueForFile words (Some bytes) (failed (file_name words)) status text = subst (λ (o : Option (List ℕ)). IsDueForFile words o (failed (file_name words)) status text) told_is by_words in
+    decided_for words bytes (failed (file_name words)) site query status text by_bytes asks described query_is
+
+-- ---- a due pair whose text was added is an answer
+
+never_write : (fault : Option ℕ) (words : List (List ℕ)) (told : List ℕ → Option (List ℕ)) (failed : List ℕ → Type 0) (text : List ℕ) → IsDueBy fault words told failed Write text → ⊥
+never_write None words told failed text due = due
+never_write (Some n) words told failed text due = due
+
+pub answer_if_due : (words : List (List ℕ)) (told : List ℕ → Option (List ℕ)) (failed : List ℕ → Type 0) (old new : Option (List ℕ)) (unwritten : Type 0) (status : Status) (text : List ℕ)
+    → IsDue words told failed status text → new ≡ with_text old text → IsAnswer (IsDue words told failed) old new unwritten status
+answer_if_due words told failed old new unwritten Yes text due added = (text, due, added)
+answer_if_due words told failed old new unwritten No text due added = (text, due, added)
+answer_if_due words told failed old new unwritten Words text due added = (text, due, added)
+answer_if_due words told failed old new unwritten Refused text due added = (text, due, added)
+answer_if_due words told failed old new unwritten Query text due added = (text, due, added)
+answer_if_due words told failed old new unwritten More text due added = (text, due, added)
+answer_if_due words told failed old new unwritten Read text due added = (text, due, added)
+answer_if_due words told failed old new unwritten Write text due added = absurd (never_write (words_fault words) words told failed text due)
+answer_if_due words told failed old new unwritten Memory text due added = (text, due, added)
