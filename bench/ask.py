@@ -53,7 +53,7 @@ def main():
     print("|---|---:|---:|---:|---:|---:|---:|")
     for name, made, code in CASES:
         for count in (1_000, 10_000, 50_000):
-            path = written(f"ask-{made.__name__}-{count}.json", made(count))
+            path = written(f"ask-{made.__name__}-{count}.json", made, count)
             ours, peak = measured([program(), "ask", path, "from", "eni-0", "to", "eni-1"], code)
             theirs, _ = loaded(path)
             size = os.path.getsize(path) / 2**20

@@ -15,12 +15,17 @@ def program():
     return sys.argv[1] if len(sys.argv) > 1 else os.path.join(TOP, "crates/vpc_cli/out/vpc_cli")
 
 
-def written(name, value):
-    """The value as a JSON file in bench/out."""
+def written(name, make, count):
+    """What is made of the count, as a JSON file in bench/out. A child makes it, since a process that is started
+    is first counted with the memory of the one that starts it."""
     os.makedirs(OUT, exist_ok=True)
     path = os.path.join(OUT, name)
-    with open(path, "w") as file:
-        json.dump(value, file)
+    child = os.fork()
+    if child == 0:
+        with open(path, "w") as file:
+            json.dump(make(count), file)
+        os._exit(0)
+    os.waitpid(child, 0)
     return path
 
 

@@ -32,11 +32,11 @@ def head(what):
 def main():
     head("interfaces")
     for hosts in (1_000, 10_000, 100_000):
-        row(hosts, written(f"one-subnet-{hosts}.json", description(hosts)), hosts)
+        row(hosts, written(f"one-subnet-{hosts}.json", description, hosts), hosts)
     print()
     head("groups of each interface")
     for groups in (1_000, 10_000, 100_000):
-        row(groups, written(f"groups-{groups}.json", in_all_groups(groups)), 2)
+        row(groups, written(f"groups-{groups}.json", in_all_groups, groups), 2)
 
 
 if __name__ == "__main__":

@@ -25,6 +25,7 @@ use crate::words::{is_ask, words_fault};
 use one_subnet::{FormFault, Site, read_site};
 use serde_json::Value;
 use std::alloc::Global;
+use std::mem;
 use subnet_reach::{Query, Reached, reach};
 use subnet_walk::{Trace, walk_from};
 use vpc_base::NoMemory;
@@ -89,7 +90,7 @@ fn traced(alloc: Global, site: &Site, words: &[String]) -> Result<Answer, NoMemo
     requires { length words.now ≡ 10 }
     ensures { IfOk result (λ a. IsTraceAnswer site.now (packet_of site.now.hosts (map string_bytes words.now)) a.status a.text.items) }
 {
-    match read_packet(site.hosts.as_slice(), words) {
+    match read_packet(&site.hosts, words) {
         Some(packet) => walked(alloc, site, &packet),
         None => refusal(alloc, Status::Query, b"refused packet NotYet"),
     }
@@ -162,7 +163,13 @@ fn site_in(alloc: Global, bytes: &[u8]) -> Result<Option<Site>, NoMemory>
     ensures { IfOk result (IsSiteIn bytes.now) }
 {
     match Value::from_slice(alloc, bytes) {
-        Ok(value) => site_if(alloc, &value),
+        Ok(value) => {
+            let site = site_if(alloc, &value);
+            // The process ends with its answer. Giving back each of the many pieces of a large value would
+            // take about as long as all else but reading it.
+            mem::forget(value);
+            site
+        }
         Err(e) if e.is_memory() => Err(NoMemory),
         Err(_) => Ok(None),
     }

@@ -1,9 +1,9 @@
 // The words of a packet.
-ghost use Rattle.std.specs.Prelude.{◌≡◌, ◌<◌, IfSome, bytes_eq, length, map, position, string_bytes};
+ghost use Rattle.std.specs.Prelude.{◌≡◌, ◌<◌, IfSome, length, map, string_bytes};
 ghost use Rattle.prefix_text.specs.Number.{number_of};
 ghost use Rattle.vpc_cli.specs.Packet.{has_ports, header_of_words, host_word, label_of, packet_from, packet_of, proto_word, word_at};
 
-use one_subnet::Host;
+use one_subnet::Hosts;
 use prefix_text::{read_addr, read_number};
 use vpc_base::{Header, Label};
 
@@ -41,22 +41,15 @@ fn proto(word: &str) -> Option<u8>
     }
 }
 
-fn host_place(hosts: &[Host], id: &[u8]) -> Option<usize>
-    ensures value { result ≡ position (λ h. bytes_eq h.id id.now) hosts.now }
-    ensures within { IfSome result (λ k. k < length hosts.now) }
-{
-    hosts.iter().position(|h| h.id.bytes() == id)
-}
-
 /// The place of the host that the word names.
-pub fn host(hosts: &[Host], word: &str) -> Option<usize>
+pub fn host(hosts: &Hosts, word: &str) -> Option<usize>
     ensures value { result ≡ host_word hosts.now word.now }
     ensures within { IfSome result (λ k. k < length hosts.now) }
 {
     if word == "internet" {
         None
     } else {
-        host_place(hosts, word.as_bytes())
+        hosts.place_of_id(word.as_bytes())
     }
 }
 
@@ -93,7 +86,7 @@ fn header(proto_word: &str, src: &str, dst: &str, p: &str, q: &str) -> Option<He
 }
 
 fn packet_from(
-    hosts: &[Host],
+    hosts: &Hosts,
     label_word: &str,
     from: &str,
     start: &str,
@@ -124,7 +117,7 @@ pub fn word(words: &[String], place: usize) -> &str
 }
 
 /// The packet that the words of `trace` give: LABEL `from` END PROTO SRC DST P Q, from the third word on.
-pub fn read_packet(hosts: &[Host], words: &[String]) -> Option<Packet>
+pub fn read_packet(hosts: &Hosts, words: &[String]) -> Option<Packet>
     requires { length words.now ≡ 10 }
     ensures value { result ≡ packet_of hosts.now (map string_bytes words.now) }
     ensures within { IfSome result (λ x. x.start < length hosts.now) }

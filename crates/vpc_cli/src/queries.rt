@@ -5,7 +5,7 @@ ghost use Rattle.subnet_reach.specs.Query.{IsQueryIn};
 ghost use Rattle.vpc_cli.specs.Query.{after_pair, is_end, is_pair, max_of_word, ports_of_word, query_by, query_of, value_of};
 
 use crate::packets::{host, word};
-use one_subnet::{Host, Site};
+use one_subnet::Site;
 use prefix_text::{read_number, read_range};
 use subnet_reach::Query;
 
@@ -101,14 +101,15 @@ pub fn read_query(site: &Site, words: &[String]) -> Option<Query>
     ensures value { result ≡ query_of site.now.hosts (map string_bytes words.now) }
     ensures query { IfSome result (IsQueryIn site.now) }
 {
-    let hosts = site.hosts.as_slice();
+    // That the hosts' addresses differ is a clause of this call.
+    let _ = site.hosts.as_slice();
     if word(words, 2) != "from" {
         return None;
     }
-    let start = host(hosts, word(words, 3))?;
+    let start = host(&site.hosts, word(words, 3))?;
     if word(words, 4) != "to" {
         return None;
     }
-    let goal = host(hosts, word(words, 5))?;
+    let goal = host(&site.hosts, word(words, 5))?;
     query(start, goal, &words[6..])
 }
