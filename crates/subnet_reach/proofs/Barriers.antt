@@ -10,7 +10,7 @@ use Rattle.vpc_model.specs.Cuts.{cuts_of}
 use Rattle.vpc_model.specs.Verdict.{verdict_of}
 use Rattle.one_subnet.specs.Site.{description_of}
 use Rattle.one_subnet.specs.declared.site.Site.{Site}
-use Rattle.subnet_walk.proofs.BarrierLemmas.{verdict_by_barrier_is}
+use Rattle.subnet_walk.proofs.BarrierLemmas.{barrier_in_is, verdict_by_barrier_is}
 use Rattle.subnet_walk.specs.Laws.{AddressesDiffer}
 use Rattle.subnet_walk.specs.Reach.{barrier_in, barrier_of, lets_pass, verdict_by_barrier}
 use Rattle.subnet_walk.specs.Trace.{no_host}
@@ -69,14 +69,6 @@ by_port s i j h = barrier_is s i j h ∙ sym (barrier_is s i j (request_to s i j
 
 -- ---- verdicts
 
--- a barrier's verdict names the barrier
-pub named : (i j : ℕ) (o : Option Barrier) → barrier_in (verdict_by_barrier i j o) ≡ o
-named i j None = refl
-named i j (Some SenderGroups) = refl
-named i j (Some Route) = refl
-named i j (Some ReceiverGroups) = refl
-named i j (Some ReturnRoute) = refl
-
 pub verdict_is : (s : Site) (i j : ℕ) (h : Header) → i < length s.hosts → j < length s.hosts → AddressesDiffer s
     → verdict_of (description_of s) (end_at i) (end_at j) (asked s i j h) ≡ verdict_by_barrier i j (barrier_of s i j (asked s i j h))
 verdict_is s i j h start goal differ = verdict_by_barrier_is s i j (asked s i j h) start goal differ refl refl refl
@@ -85,7 +77,7 @@ verdict_is s i j h start goal differ = verdict_by_barrier_is s i j (asked s i j 
 pub word_is : (s : Site) (i j : ℕ) (h : Header) → i < length s.hosts → j < length s.hosts → AddressesDiffer s → word_of s i j h ≡ barrier_at s i j h.q
 word_is s i j h start goal differ =
     ap barrier_in (verdict_is s i j h start goal differ)
-    ∙ (named i j (barrier_of s i j (asked s i j h)) ∙ by_port s i j h)
+    ∙ (barrier_in_is i j (barrier_of s i j (asked s i j h)) ∙ by_port s i j h)
 
 -- ---- parts
 

@@ -31,7 +31,8 @@ use Rattle.subnet_reach.specs.Probe.{Asking, IsAsking, asked, word_of}
 use Rattle.subnet_reach.specs.Query.{IsReached, address_at, box_of, end_at, row_of, rows_of}
 use Rattle.subnet_reach.specs.declared.query.Reached.TheVariants.{Through as Reach, Blocked, More}
 use Rattle.subnet_reach.specs.declared.query.Query.{Query}
-use Rattle.subnet_reach.proofs.Barriers.{named, verdict_is}
+use Rattle.subnet_reach.proofs.Barriers.{verdict_is}
+use Rattle.subnet_walk.proofs.BarrierLemmas.{barrier_in_is}
 
 -- ---- the headers of a query
 
@@ -70,7 +71,7 @@ tells s query start goal differ h held =
     let told = verdict_is s i j h start goal differ in
     ap verdict (sym (is_asked (address_at s i) (address_at s j) query.p query.q h held))
     ∙ (told
-    ∙ ap (verdict_by_barrier i j) (sym (ap barrier_in told ∙ named i j (barrier_of s i j k))))
+    ∙ ap (verdict_by_barrier i j) (sym (ap barrier_in told ∙ barrier_in_is i j (barrier_of s i j k))))
 
 -- ---- headers that get through
 
@@ -79,7 +80,7 @@ gets_through s i j box told h held e = told h held ∙ ap (verdict_by_barrier i 
 
 stays_out : (s : Site) (i j : ℕ) (box : Box5) → Tells s i j box → (h : Header) → holds h box ≡ true → word_of s i j h ≢ None → verdict_of (description_of s) (end_at i) (end_at j) h ≢ Through
 stays_out s i j box told h held some e =
-    some (sym (named i j (word_of s i j h)) ∙ ap barrier_in (sym (told h held) ∙ e))
+    some (sym (barrier_in_is i j (word_of s i j h)) ∙ ap barrier_in (sym (told h held) ∙ e))
 
 first_through : (s : Site) (i j : ℕ) (box : Box5) (h : Header) → Tells s i j box → IsFirst (word_of s i j) box h → IsFirstThrough (description_of s) (end_at i) (end_at j) box h
 first_through s i j box h told found = record {

@@ -30,7 +30,7 @@ use Rattle.vpc_model.specs.declared.rows.Interface.{Interface}
 use Rattle.vpc_model.specs.declared.rows.Route.{Route}
 use Rattle.vpc_model.specs.Choice.{chosen_place, or_else}
 use Rattle.vpc_model.specs.Connections.{Connection, Passing, answer_passing, label_passing, open_passing, passing_groups, passing_of}
-use Rattle.vpc_model.specs.Filter.{far_address}
+use Rattle.vpc_model.specs.Filter.{far_address, is_between, matches_proto}
 use Rattle.vpc_model.specs.Groups.{first_rule_of, first_rule, rule_of_group, permission_allows, permissions_of}
 use Rattle.vpc_model.specs.Lookup.{group_of_id, group_at, no_group, has_address, host_of, interface_at, is_in_vpc, no_interface, subnet_at, subnet_no, subnet_of, table_at, table_of, vpc_no, vpc_of_subnet}
 use Rattle.vpc_model.specs.Routes.{beats, chosen_route, is_candidate, kind_of, match_length}
@@ -48,7 +48,7 @@ use Rattle.subnet_walk.specs.declared.tracing.PassedBy.{PassedBy}
 use Rattle.subnet_walk.specs.declared.tracing.PassedBy.TheVariants.{Rule as PassedRule}
 use Rattle.subnet_walk.specs.declared.tracing.Trace.{Trace}
 use Rattle.subnet_walk.specs.declared.tracing.Trace.TheVariants.{WrongSource, OffRoute}
-use Rattle.subnet_walk.specs.Trace.{after_in, after_out, after_route, by_of, first_rule_in, hops_of, host_with, no_host, no_set, out_hop, outcome_of, passes_by, router_hop, rule_allows, rule_at, rule_in, rules_of, trace_of}
+use Rattle.subnet_walk.specs.Trace.{after_in, after_out, after_route, by_of, first_rule_in, hops_of, host_with, names, no_host, no_set, out_hop, outcome_of, passes_by, router_hop, rule_allows, rule_at, rule_in, rules_of, trace_of}
 
 -- ---- lists and tests
 
@@ -153,6 +153,15 @@ group_of_id_is s id = ap (option_map group_no) (position_map (group_of s) (λ g.
 
 group_at_is : (s : Site) (k : ℕ) → k < length s.groups → group_at (description_of s) (group_no k) ≡ group_of s (slice_index_or s.groups k no_set)
 group_at_is s k lt = index-map (group_of s) s.groups k no_set no_group lt
+
+-- the ports of a rule are asked apart from what it names
+pub rule_allows_is : (dir : Dir) (h : Header) (r : Rule) → rule_allows dir h r ≡ (names dir h r && is_between r.q_from r.q_to h.q)
+rule_allows_is dir h r = by (matches_proto r.proto h.proto) (is_between r.q_from r.q_to h.q) (list_any (holds (far_address dir h)) r.blocks)
+  where
+    by : (a b c : Bool) → (a && (b && c)) ≡ ((a && c) && b)
+    by true true c = sym (and_true c)
+    by true false c = sym (and_false c)
+    by false b c = refl
 
 allows_is : (d : Description) (vpc : List ℕ) (dir : Dir) (h : Header) (r : Rule) → permission_allows d vpc dir h (permission_of r) ≡ rule_allows dir h r
 allows_is d vpc dir h r = rw (or_false (list_any (holds (far_address dir h)) r.blocks))

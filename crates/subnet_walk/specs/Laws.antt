@@ -1,21 +1,25 @@
 -- What the six ways of a walk say of the walks and verdicts of the model.
-use Rattle.std.specs.Prelude.{ℕ, ◌≡◌, ◌<◌, ◌==◌, false, true, [], Some, length, map, nat_eq, slice_index_or}
+use Rattle.std.specs.Prelude.{ℕ, ◌≡◌, ◌<◌, ◌==◌, ◌&&◌, false, true, [], Option, Some, length, map, nat_eq, slice_index_or}
 use Rattle.prefix_text.specs.Block.{holds}
 use Rattle.vpc_base.specs.Header.{reply_of}
 use Rattle.vpc_base.specs.declared.headers.Header.{Header}
+use Rattle.vpc_base.specs.declared.headers.Dir.{Dir}
 use Rattle.vpc_base.specs.declared.headers.Label.{Label}
 use Rattle.vpc_model.specs.declared.outcomes.Outcome.TheVariants.{Arrived}
 use Rattle.vpc_model.specs.declared.places.End.TheVariants.{Interface}
 use Rattle.vpc_model.specs.declared.places.Place.TheVariants.{OutOf}
+use Rattle.vpc_model.specs.Filter.{is_between}
 use Rattle.vpc_model.specs.Verdict.{reply_walk, request_walk, verdict_of}
 use Rattle.vpc_model.specs.Walk.{walk_of}
+use Rattle.one_subnet.specs.declared.site.Rule.{Rule}
 use Rattle.one_subnet.specs.declared.site.Site.{Site}
 use Rattle.one_subnet.specs.Differ.{all_differ}
 use Rattle.one_subnet.specs.Site.{description_of}
+use Rattle.subnet_walk.specs.declared.barrier.Barrier.{Barrier}
 use Rattle.subnet_walk.specs.declared.tracing.PassedBy.{PassedBy}
 use Rattle.subnet_walk.specs.declared.tracing.Trace.TheVariants.{Delivered}
-use Rattle.subnet_walk.specs.Reach.{barrier_of, reach_of, return_hops, verdict_by_barrier}
-use Rattle.subnet_walk.specs.Trace.{hops_of, no_host, outcome_of, trace_of}
+use Rattle.subnet_walk.specs.Reach.{barrier_in, barrier_of, reach_of, return_hops, verdict_by_barrier}
+use Rattle.subnet_walk.specs.Trace.{hops_of, names, no_host, outcome_of, rule_allows, trace_of}
 
 -- no two hosts have one address
 abbrev pub AddressesDiffer : Site → Type 0
@@ -49,3 +53,11 @@ VerdictsAreBarriers =
     → (let host = slice_index_or s.hosts i no_host in host.address ≡ h.src) → (let host = slice_index_or s.hosts j no_host in host.address ≡ h.dst)
     → (h.proto == 1) ≡ false
     → verdict_of (description_of s) (Interface (record { 0 = i })) (Interface (record { 0 = j })) h ≡ verdict_by_barrier i j (barrier_of s i j h)
+
+-- a verdict by a barrier names that barrier
+abbrev pub VerdictsNameBarriers : Type 0
+VerdictsNameBarriers = (i j : ℕ) (b : Option Barrier) → barrier_in (verdict_by_barrier i j b) ≡ b
+
+-- a rule allows a header where it names the far address and the protocol, and has the port
+abbrev pub RulesAllowByPorts : Type 0
+RulesAllowByPorts = (dir : Dir) (h : Header) (r : Rule) → rule_allows dir h r ≡ (names dir h r && is_between r.q_from r.q_to h.q)

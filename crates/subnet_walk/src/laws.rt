@@ -1,6 +1,6 @@
 // What the six ways of a walk say of the walks and verdicts of the model. The functions do nothing: their
 // contracts say the laws.
-ghost use Rattle.subnet_walk.specs.Laws.{RepliesReturn, VerdictsAreBarriers, VerdictsAreWays, WalksAreWays};
+ghost use Rattle.subnet_walk.specs.Laws.{RepliesReturn, RulesAllowByPorts, VerdictsAreBarriers, VerdictsAreWays, VerdictsNameBarriers, WalksAreWays};
 
 /// The walk of a packet has the hops and the outcome of its way.
 pub fn walks_are_ways()
@@ -20,4 +20,14 @@ pub fn replies_return()
 /// The verdict of a request between the hosts' own addresses is that of its barrier.
 pub fn verdicts_are_barriers()
     ensures { VerdictsAreBarriers }
+{}
+
+/// A verdict by a barrier names that barrier.
+pub fn verdicts_name_barriers()
+    ensures { VerdictsNameBarriers }
+{}
+
+/// A rule allows what it names, at its ports.
+pub fn rules_allow_by_ports()
+    ensures { RulesAllowByPorts }
 {}
