@@ -2,7 +2,7 @@
 """Times the search over boxes and prints a table in Markdown.
 
 Runs the program of crates/cover_bench, which `rt run` in that folder builds. Each time is the least
-processor time of five runs of the whole process, so that other programs on the machine count little, less
+processor time of 25 runs of the whole process, so that other programs on the machine count little, less
 that of a run whose search asks once: what is left is the search, with the making of its rows.
 """
 
@@ -13,7 +13,7 @@ import subprocess
 import sys
 
 PROGRAM = pathlib.Path(__file__).resolve().parent.parent / "crates/cover_bench/out/cover_bench"
-RUNS = 5
+RUNS = 25
 CASES = [
     ("one answer for all, open", ["open"]),
     ("one answer for all, blocked", ["shut"]),
@@ -21,6 +21,9 @@ CASES = [
     ("line of 4,000 pieces", ["line", "4000"]),
     ("line of 16,000 pieces", ["line", "16000"]),
     ("grid of 200 by 200", ["grid", "200"]),
+    ("stairs of 1,000 steps", ["stairs", "1000"]),
+    ("stairs of 4,000 steps", ["stairs", "4000"]),
+    ("stairs of 16,000 steps", ["stairs", "16000"]),
 ]
 
 
