@@ -2,8 +2,8 @@
 """Times the search over boxes and prints a table in Markdown.
 
 Runs the program of crates/cover_bench, which `rt run` in that folder builds. Each time is the least
-processor time of five runs of the whole process, so that other programs on the machine count little, less
-that of a run whose search asks once: what is left is the search, with the making of its rows.
+processor time of the whole process in 100 rounds over all cases, so that other programs on the machine count
+little, less that of a run whose search asks once: what is left is the search, with the making of its rows.
 """
 
 import os
@@ -13,7 +13,7 @@ import subprocess
 import sys
 
 PROGRAM = pathlib.Path(__file__).resolve().parent.parent / "crates/cover_bench/out/cover_bench"
-RUNS = 5
+ROUNDS = 100
 CASES = [
     ("one answer for all, open", ["open"]),
     ("one answer for all, blocked", ["shut"]),
@@ -21,6 +21,9 @@ CASES = [
     ("line of 4,000 pieces", ["line", "4000"]),
     ("line of 16,000 pieces", ["line", "16000"]),
     ("grid of 200 by 200", ["grid", "200"]),
+    ("stairs of 1,000 steps", ["stairs", "1000"]),
+    ("stairs of 4,000 steps", ["stairs", "4000"]),
+    ("stairs of 16,000 steps", ["stairs", "16000"]),
 ]
 
 
@@ -35,10 +38,15 @@ def run(words):
     return text, used.ru_utime + used.ru_stime
 
 
-def least(words):
-    """What the program prints, and the least seconds of some runs."""
-    results = [run(words) for _ in range(RUNS)]
-    return results[0][0], min(seconds for _, seconds in results)
+def lesser(words):
+    """The lesser of two runs in a row: the first finds the caches as another case left them."""
+    return min(run(words), run(words), key=lambda result: result[1])
+
+
+def least_of(all_words):
+    """What the program prints for each of the words, and its least seconds in some rounds over them all."""
+    rounds = [[lesser(words) for words in all_words] for _ in range(ROUNDS)]
+    return [(results[0][0], min(seconds for _, seconds in results)) for results in zip(*rounds)]
 
 
 def number(pattern, text):
@@ -53,9 +61,9 @@ def main():
     print("| Case | Search | Rows | Probes | Time (ms) | Time of a probe (µs) |")
     print("|---|---|---:|---:|---:|---:|")
     for search in ["cover", "first"]:
-        _, start = least(["open", search])
-        for name, words in CASES:
-            text, seconds = least([*words, search])
+        results = least_of([[*words, search] for _, words in CASES])
+        start = results[0][1]
+        for (name, _), (text, seconds) in zip(CASES, results):
             rows = number(r"(\d+) rows", text) if search == "cover" else "-"
             probes = number(r"(\d+) probes", text)
             took = max(seconds - start, 0)

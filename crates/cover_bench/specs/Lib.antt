@@ -1,2 +1,3 @@
 pub mod Pieces
 pub mod Cases
+pub mod Stairs

@@ -7,6 +7,8 @@ ghost use Rattle.cover_bench.specs.Cases.{IsCase};
 pub enum Case {
     /// Blocked cells: so many pieces of p, and so many of q.
     Grid(u16, u16),
+    /// Blocked stairs of so many steps.
+    Stairs(u16),
     /// Every header gets through.
     Open,
     /// No header gets through, for one reason.
@@ -52,6 +54,7 @@ pub fn case_of(words: &[String]) -> Option<Case>
             Some(Case::Grid(side, side))
         }
         [name, rows] if name.as_str() == "line" => Some(Case::Grid(1, count_of(rows.as_str())?)),
+        [name, steps] if name.as_str() == "stairs" => Some(Case::Stairs(count_of(steps.as_str())?)),
         _ => None,
     }
 }

@@ -2,6 +2,7 @@
 //!
 //! - `cover_bench grid SIDE`: SIDE by SIDE blocked cells of `p` and `q`.
 //! - `cover_bench line ROWS`: ROWS blocked pieces of `q`.
+//! - `cover_bench stairs STEPS`: STEPS blocked pieces of `q` that leave as many boxes open.
 //! - `cover_bench open`, `cover_bench shut`: every header gets through, or none, and nothing is cut.
 //!
 //! A further word, `cover` or `first`, runs that search alone. Exit code 2: the words are none of these.
@@ -18,7 +19,7 @@ use cases::{Case, Searches, case_of, searches_of};
 use header_boxes::Box5;
 use ordered_cover::search::{cover, first};
 use ordered_cover::{Cover, Probe};
-use probes::{Grid, Uniform};
+use probes::{Grid, Stairs, Uniform};
 use std::alloc::Global;
 use std::cell::Cell;
 use std::process::ExitCode;
@@ -125,6 +126,20 @@ fn run_grid(rt: &HostRuntime, p: u16, q: u16, searches: Searches) -> io::Result<
     run(rt, &grid, &grid.asked, sides, searches)
 }
 
+fn run_stairs(rt: &HostRuntime, steps: u16, searches: Searches) -> io::Result<bool> {
+    let stairs = Stairs {
+        steps,
+        asked: Cell::new(0),
+    };
+    run(
+        rt,
+        &stairs,
+        &stairs.asked,
+        sides_of(ALL_PORTS, ALL_PORTS),
+        searches,
+    )
+}
+
 fn run_uniform(rt: &HostRuntime, word: Option<u16>, searches: Searches) -> io::Result<bool> {
     let probe = Uniform {
         word,
@@ -144,6 +159,7 @@ fn run_case(rt: &HostRuntime, case: Case, searches: Searches) -> io::Result<bool
 {
     match case {
         Case::Grid(p, q) => run_grid(rt, p, q, searches),
+        Case::Stairs(steps) => run_stairs(rt, steps, searches),
         Case::Open => run_uniform(rt, None, searches),
         Case::Shut => run_uniform(rt, Some(0), searches),
     }

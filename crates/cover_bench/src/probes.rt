@@ -1,6 +1,7 @@
 // The probes that the search is measured with. Each counts how often it is asked.
-ghost use Rattle.std.specs.Prelude.{◌≡◌, ◌≤◌, Some};
+ghost use Rattle.std.specs.Prelude.{◌≡◌, ◌≤◌, ◌<◌, ◌+◌, Some};
 ghost use Rattle.cover_bench.specs.Pieces.{IsEnd, cuts_of, piece_of, place_of};
+ghost use Rattle.cover_bench.specs.Stairs.{IsStepEnd, stair_cuts, step_of};
 ghost use Rattle.vpc_base.specs.Cuts.{no_cuts};
 
 use header_boxes::Box5;
@@ -20,6 +21,14 @@ pub struct Place {
 pub struct Grid {
     pub p_last: u16,
     pub q_last: u16,
+    pub asked: Cell<u64>,
+}
+
+/// Blocks every header: with its q as the word where p + q is less than the number of steps, elsewhere with that
+/// number. Where all ports are asked, each step leaves one more box open, and all these are asked after the last.
+#[derive(Drop)]
+pub struct Stairs {
+    pub steps: u16,
     pub asked: Cell<u64>,
 }
 
@@ -73,6 +82,41 @@ impl Probe for Grid {
             q: piece_of(self.q_last, sides.q.0),
         };
         (part, Some(place))
+    }
+}
+
+// Where the step at q ends, or the side of p if that is earlier.
+fn end_of_step(steps: u16, q: u16, side: (u16, u16)) -> u16
+    requires valid { side.0 ≤ side.1 }
+    requires below { side.0 + q < steps }
+    ensures { IsStepEnd steps q side result }
+{
+    side.1.min(steps - 1 - q)
+}
+
+impl Probe for Stairs {
+    type Word = u16;
+
+    ghost meaning = { λ s h. Some (step_of s.steps h) };
+
+    ghost cuts = { λ s. stair_cuts s.steps };
+
+    ghost near = { λ s h. stair_cuts s.steps };
+
+    ghost near_among = { λ s h. record { proto = λ c k. k; addr = λ c k. k; p = λ c k. k; q = λ c k. k } };
+
+    fn probe(&self, sides: &Box5) -> (Box5, Option<u16>) {
+        count(&self.asked);
+        let (p, q) = (sides.p.0, sides.q.0);
+        if u32::from(p) + u32::from(q) >= u32::from(self.steps) {
+            return (*sides, Some(self.steps));
+        }
+        let part = Box5 {
+            p: (p, end_of_step(self.steps, q, sides.p)),
+            q: (q, q),
+            ..*sides
+        };
+        (part, Some(q))
     }
 }
 
