@@ -34,15 +34,15 @@ anywhere = block 0 0
 
 -- a rule for all packets
 abbrev pub allow_all : Permission
-allow_all = record { proto = None; q_from = 0; q_to = 65535; blocks = anywhere ∷ []; lists = []; groups = [] }
+allow_all = record { id = None; proto = None; q_from = 0; q_to = 65535; blocks = anywhere ∷ []; lists = []; groups = [] }
 
 -- a rule for TCP to port 443, from a block
 abbrev pub https_from : Block → Permission
-https_from b = record { proto = Some 6; q_from = 443; q_to = 443; blocks = b ∷ []; lists = []; groups = [] }
+https_from b = record { id = None; proto = Some 6; q_from = 443; q_to = 443; blocks = b ∷ []; lists = []; groups = [] }
 
 -- a rule for TCP to port 443, from the members of a group
 abbrev pub https_from_group : List ℕ → Permission
-https_from_group g = record { proto = Some 6; q_from = 443; q_to = 443; blocks = []; lists = []; groups = g ∷ [] }
+https_from_group g = record { id = None; proto = Some 6; q_from = 443; q_to = 443; blocks = []; lists = []; groups = g ∷ [] }
 
 -- an ACL row that allows all protocols, or TCP to ports of a range
 abbrev pub allow_row : ℕ → Bool → Block → AclRow
@@ -108,6 +108,7 @@ bare vpcs subnets = record {
   attachments = [];
   associations = [];
   tgw_tables = [];
+  appliances = [];
 }
 
 -- ---- tables alone

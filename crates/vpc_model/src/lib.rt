@@ -20,8 +20,8 @@ pub use numbers::{
 pub use outcomes::{By, Event, Hop, Outcome, Phase, RuleRef, Verdict};
 pub use places::{Came, End, EnterBy, Place, start_place};
 pub use rows::{
-    Acl, AclRow, Association, Attachment, Description, Group, Interface, InterfaceKind,
-    InternetGateway, NatGateway, NatLife, Peering, Permission, PrefixList, Reach, Route,
-    RouteTable, Subnet, Target, TgwRoute, TgwTable, Vpc,
+    Acl, AclRow, Appliance, ApplianceKind, Association, Attachment, Description, Group, Interface,
+    InterfaceKind, InternetGateway, NatGateway, NatLife, Peering, Permission, PrefixList, Reach,
+    Route, RouteTable, Subnet, Target, TgwRoute, TgwTable, Vpc,
 };
 pub use stops::{Foreign, Stop, StopName};

@@ -121,6 +121,8 @@ pub struct Acl {
 /// ACL row.
 #[derive(Debug, Drop)]
 pub struct Permission {
+    /// The id of the rule (DescribeSecurityGroupRules), where the rule was told by that call.
+    pub id: Option<Id>,
     /// None for all protocols.
     pub proto: Option<u8>,
     pub q_from: u16,
@@ -211,6 +213,26 @@ pub struct TgwTable {
     pub routes: OwnList<TgwRoute>,
 }
 
+/// What a middlebox appliance forwards. It keeps no connections.
+#[derive(Debug, Drop)]
+pub enum ApplianceKind {
+    All,
+    Nothing,
+    /// TCP and UDP to or from the ports of a range, both ends included.
+    Service(u16, u16),
+    /// Packets from or to a block.
+    Peer(Prefix),
+}
+
+/// An interface whose machine forwards packets that aren't for its own addresses. AWS describes no such
+/// thing: a bundle's `Appliances` are written by hand.
+#[derive(Debug, Drop)]
+pub struct Appliance {
+    /// The id of the interface.
+    pub id: Id,
+    pub kind: ApplianceKind,
+}
+
 /// A whole described network.
 #[derive(Debug, Drop)]
 pub struct Description {
@@ -227,4 +249,5 @@ pub struct Description {
     pub attachments: OwnList<Attachment>,
     pub associations: OwnList<Association>,
     pub tgw_tables: OwnList<TgwTable>,
+    pub appliances: OwnList<Appliance>,
 }
