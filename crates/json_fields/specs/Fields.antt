@@ -1,5 +1,5 @@
 -- What the members of a row mean.
-use Rattle.std.specs.Prelude.{ℕ, ◌∷◌, ◌&&◌, ℤ, List, [], Option, Some, None, Result, Ok, option_and_then, option_map, if◌then◌else◌, Bool, int_le}
+use Rattle.std.specs.Prelude.{ℕ, ◌∷◌, ◌&&◌, ℤ, List, [], Option, Some, None, Result, Ok, option_and_then, option_map, if◌then◌else◌, Bool, int_le, unwrap_or}
 use Rattle.serde_json.specs.Data.{Data, null, Items, no_items, item}
 use Rattle.serde_json.specs.Find.{get, as_array, as_str, as_number, as_integer, as_bool}
 use Rattle.prefix_text.specs.Addr.{addr_of}
@@ -18,6 +18,10 @@ unless_null (Some value) = Some value
 -- the member of this name, unless it is absent or null
 abbrev pub member_of : Data → List ℕ → Option Data
 member_of row field = unless_null (get field row)
+
+-- the member of this name, in which other members may stand; null has none
+abbrev pub inner_of : Data → List ℕ → Data
+inner_of row field = unwrap_or (member_of row field) null
 
 -- what the member of this name gives, if it is there
 abbrev pub field_of : {A : Type 0} → (Data → Option A) → Data → List ℕ → List ℕ → Result (Option A) FieldFault
