@@ -1,9 +1,8 @@
 // Members of objects, and the elements of arrays.
 ghost use Rattle.std.specs.Prelude.{◌≡◌, map, option_map, IfOk};
-ghost use Rattle.serde_json.specs.Data.{null};
 ghost use Rattle.serde_json.specs.View.{view};
 ghost use Rattle.json_fields.specs.FieldFault.{Reads};
-ghost use Rattle.json_fields.specs.Fields.{inner_of, member_of, list_of};
+ghost use Rattle.json_fields.specs.Fields.{member_of, list_of};
 
 use crate::{FieldFault, Path};
 use serde_json::Value;
@@ -46,17 +45,5 @@ pub fn list_if<'a>(
     match value.as_array() {
         Some(values) => Ok(references(alloc, values.as_slice())?),
         None => Err(FieldFault::wrong_shape(alloc, path, field)),
-    }
-}
-
-/// The member of this name, in which other members may stand, or `nothing` where it is absent or null.
-/// With JSON's null for `nothing`, none of them is there then.
-pub fn inner<'a>(row: &'a Value, field: &str, nothing: &'a Value) -> &'a Value
-    requires { view nothing.now ≡ null }
-    ensures { view result.now ≡ inner_of (view row.now) field.now }
-{
-    match member(row, field) {
-        Some(value) => value,
-        None => nothing,
     }
 }
