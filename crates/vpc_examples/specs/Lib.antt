@@ -1,0 +1,5 @@
+pub mod Networks
+pub mod Examples
+pub mod Stops
+pub mod Printed
+pub mod Reported
