@@ -1,3 +1,4 @@
+pub mod Types
 pub mod Networks
 pub mod Examples
 pub mod Stops
