@@ -4,3 +4,9 @@ pub mod Examples
 pub mod Stops
 pub mod Printed
 pub mod Reported
+pub mod Choices
+pub mod Crossings
+pub mod Middleboxes
+pub mod Told
+pub mod CutRows
+pub mod Refused
