@@ -5,7 +5,6 @@ use Rattle.vpc_model.specs.declared.rows.ApplianceKind.TheVariants as forwards
 use Rattle.vpc_model.specs.declared.rows.NatLife.TheVariants as lives
 use Rattle.vpc_model.specs.declared.refusals.Refusal.TheVariants as refusals
 use Rattle.vpc_model.specs.declared.rows.Target.TheVariants as targets
-use Rattle.vpc_examples.specs.Examples.{subnet, vpc}
 use Rattle.vpc_examples.specs.Middleboxes.{with_appliance}
 use Rattle.vpc_examples.specs.Networks.{acl, acl_1, allow_all, anywhere, bare, behind_nat, gone_route, group, https_from_group, list_route, low_ports_in, main_table, open_rows, peered, route, site_host, site_table, subnet_table, transit, two_subnets, v4, vpc_1}
 use Rattle.vpc_examples.specs.Stops.{eni_a, eni_b, plain_vpc, with_hosts, with_route}

@@ -4,12 +4,12 @@ use Rattle.vpc_examples.specs.Types.{Box5, Description, End, Verdict}
 use Rattle.vpc_model.specs.declared.places.End.TheVariants as ends
 use Rattle.vpc_model.specs.declared.stops.StopName.TheVariants as names
 use Rattle.vpc_model.specs.declared.outcomes.Phase.TheVariants as phases
-use Rattle.vpc_examples.specs.Examples.{a_to_c, eni, rule, tcp, verdict_in}
+use Rattle.vpc_examples.specs.Examples.{a_to_c, eni, tcp, verdict_in}
 use Rattle.vpc_examples.specs.Networks.{acl_1, high_ports_only, two_subnets, v4}
 use Rattle.vpc_examples.specs.Printed.{lines}
 use Rattle.vpc_model.specs.Report.{ending_of}
 use Rattle.vpc_model.specs.ReportText.{more_text, reachable_text, report_text}
-use Rattle.vpc_model.specs.Text.{told_text, word}
+use Rattle.vpc_model.specs.Text.{told_text}
 
 -- TCP from eni-a to eni-b, from these source ports to these ports
 abbrev pub a_to_b : ℕ × ℕ → ℕ × ℕ → Box5
