@@ -7,7 +7,8 @@ use std::sync::ledger::Ledger;
 impl Pieces {
     ghost use Rattle.piece_table.specs.Pieces.{ArePieces, first_at, last_at, told_at};
 
-    /// The first and the last address of the piece that holds an address, and what the piece tells.
+    /// The first and the last address of the piece that holds an address, and what the piece tells. It
+    /// reads at most 2 + log2(count) pieces.
     pub fn find<L: Ledger>(&self, x: u32, steps: &mut Steps<L>) -> (u32, u32, Option<u32>)
         ensures first { result.0 ≡ first_at self.now x }
         ensures last { result.1 ≡ last_at self.now x }
@@ -18,11 +19,11 @@ impl Pieces {
         ensures few { 2 ^ (steps.new - steps.old) ≤ 4 * length self.now.firsts }
         ensures pieces { ArePieces self.now }
     {
-        // The last address comes from the reads too: a read that begins after x is the next piece so far.
+        // No read is spent on the last address: the latest read that begins after x is the next piece.
         let mut high = self.count();
         let mut last = u32::MAX;
         let mut low = 0;
-        let (mut first, mut told) = self.at(low as u32, steps);
+        let (mut first, mut told) = self.at(0, steps);
         while high - low > 1 {
             let middle = low + (high - low) / 2;
             let (begin, tells) = self.at(middle as u32, steps);
