@@ -4,13 +4,13 @@ use Rattle.std.proofs.lemmas.Bool.{cases_lt}
 use Rattle.std.proofs.lemmas.List.{get_or_default, get_or_past}
 use Rattle.vpc_base.specs.Cuts.{IsSideAligned}
 use Rattle.piece_table.specs.Pieces.{PieceLists, ArePieces, LiesIn, first_of, last_of, told_of, number_at, first_at, last_at, told_at}
-use Rattle.piece_table.proofs.Ascending.{place-le, count_by-nat_le, last_up_to}
+use Rattle.piece_table.proofs.Ascending.{number-le, count_by-nat_le, last_up_to}
 
 -- there are at most as many pieces as addresses
 pub length-firsts-le : (p : PieceLists) → ArePieces p → length p.firsts ≤ 2 ^ 32
 length-firsts-le p h =
     let last : length p.firsts - 1 < length p.firsts = omega (arith, h.some) in
-    let place = place-le p.firsts h.ascending (length p.firsts - 1) last in
+    let least = number-le p.firsts h.ascending (length p.firsts - 1) last in
     let below = h.fit (length p.firsts - 1) 0 last in
     omega (arith, h.some)
 
@@ -25,7 +25,7 @@ pub at_number : {X : Type 0} (f : PieceLists → ℕ → X) (p : PieceLists) (k 
     → y ≡ f p (number_at p x)
 at_number f p k next x y h e within from after is = is ∙ sym (ap (λ m. f p m) (number_at_is p k next x h e within from after))
 
--- each piece ends below 2^32, and the next one begins one after it
+-- the next piece, or the end of the line, comes after where a piece begins
 pub next-gt : (p : PieceLists) (k : ℕ) → ArePieces p → k < length p.firsts → first_of p k < slice_index_or p.firsts (k + 1) (2 ^ 32)
 next-gt p k h within =
     ⊎_elim (λ inside. let up = h.ascending k inside in let same = get_or_default p.firsts (k + 1) (2 ^ 32) 0 inside in omega (arith, up, same))
@@ -42,8 +42,8 @@ pub lies_in_its_piece : (p : PieceLists) (x : ℕ) → ArePieces p → x < 2 ^ 3
 lies_in_its_piece p x h fits =
     let end = get_or_past p.firsts (length p.firsts) (2 ^ 32) (omega arith) in
     let l = last_up_to p.firsts x (2 ^ 32) (length p.firsts) (omega (arith, h.zero)) h.some (omega arith) (omega (arith, end)) in
-    let lies : LiesIn p l.place x = record { within = l.within; from = l.here; upto = omega (arith, l.after) } in
-    subst (λ k. LiesIn p k x) (sym (number_at-LiesIn p l.place x h lies)) lies
+    let lies : LiesIn p l.number x = record { within = l.within; from = l.here; upto = omega (arith, l.after) } in
+    subst (λ k. LiesIn p k x) (sym (number_at-LiesIn p l.number x h lies)) lies
 
 -- what a piece tells is told of each of its addresses
 pub told_at-LiesIn : (p : PieceLists) (k x : ℕ) → ArePieces p → LiesIn p k x → told_at p x ≡ told_of p k
