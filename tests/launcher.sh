@@ -6,7 +6,7 @@ here=$(cd -- "$(dirname -- "$0")" && pwd)
 room=$(mktemp -d)
 trap 'chmod -R u+w "$room"; rm -rf "$room"' EXIT
 passed=0 failed=0
-stand_in=$here/stand-in:$PATH
+stand_in=$here/kit:$PATH
 # The kit may be in PATH: without it there is none of its folder.
 no_kit=$(printf '%s' "$PATH" | tr ':' '\n' | while read -r it; do [ -x "$it/rt" ] || printf '%s:' "$it"; done)
 CALLS=$room/calls
