@@ -108,7 +108,7 @@ is 'the kit again: calls' "$calls" ''
 touch "$top/crates/base/src/lib.rt"
 start "$stand_in" "$top/vpc" again
 is 'touched: output' "$out" "one $PWD again"
-is 'touched: calls' "$calls" 'rt version'
+is 'touched: calls' "$calls" ''
 start "$no_kit" "$top/vpc" again
 is 'touched, no kit' "$out" "one $PWD again"
 
@@ -134,10 +134,10 @@ start "$stand_in" "$top/vpc" again
 fits 'a file removed' "$calls" '*rt all check*'
 echo '// more' >>"$top/crates/other/src/lib.rt"
 start "$stand_in" "$top/vpc" again
-is "edit of a crate that isn't needed" "$calls" 'rt version'
+is "edit of a crate that isn't needed" "$(grep -c 'all check' "$CALLS")" 0
 sed -i 's/^other: base$/other: base left/; s/^# lowest/# the lowest/' "$top/crates.txt"
 start "$stand_in" "$top/vpc" again
-is 'edit of another line of crates.txt' "$calls" 'rt version'
+is 'edit of another line of crates.txt' "$(grep -c 'all check' "$CALLS")" 0
 sed -i 's/^left: base arrayvec$/left: base/' "$top/crates.txt"
 start "$stand_in" "$top/vpc" again
 fits 'edit of a line of crates.txt' "$calls" '*rt all check*'
@@ -145,10 +145,14 @@ settle
 start "$stand_in" "$top/vpc" again
 start "$stand_in" env KIT='stand-in 2' "$top/vpc" again
 is 'rt looks the same' "$calls" ''
-touch "$top/crates/base/src/lib.rt"
-start "$stand_in" env KIT='stand-in 2' "$top/vpc" again
+mkdir "$room/other-kit"
+cp "$here/kit/rt" "$room/other-kit/rt"
+start "$room/other-kit:$stand_in" "$top/vpc" again
+is 'another rt, the same kit' "$calls" 'rt version'
+start "$stand_in" "$top/vpc" again
+is 'the first rt again' "$calls" 'rt version'
+start "$room/other-kit:$stand_in" env KIT='stand-in 2' "$top/vpc" again
 fits 'another kit' "$calls" '*rt all check*'
-touch "$top/crates/base/src/lib.rt"
 start "$stand_in" "$top/vpc" again
 fits 'the first kit again' "$calls" '*rt all check*'
 
