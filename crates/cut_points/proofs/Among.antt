@@ -6,7 +6,7 @@ use Rattle.std.proofs.lemmas.Grind.{flat_map-append}
 use Rattle.std.proofs.lemmas.List.Elements.{Contains-append_left, Contains-append_right, Contains-append_cases}
 use Rattle.prefix_text.specs.Block.{Block}
 use Rattle.vpc_base.specs.Cuts.{AreAmong, CutLists, joined_cuts, no_cuts}
-use Rattle.vpc_model.specs.Types.{Description, Permission, PrefixList, Reach}
+use Rattle.cut_points.specs.Types.{Description, Permission, PrefixList, Reach}
 use Rattle.vpc_model.specs.declared.rows.Reach.TheVariants as reaches
 use Rattle.vpc_model.specs.Cuts.{all_cuts, block_cuts, blocks_of_reach, cuts_of, cuts_of_blocks, cuts_of_group, cuts_of_list, cuts_of_permission, cuts_of_route, cuts_of_rule, cuts_of_table, cuts_of_tgw_table, on_sides, all_permissions, unbounded_asked, unbounded_standing}
 use Rattle.vpc_model.specs.Lookup.{entries_of}

@@ -2,7 +2,7 @@
 use Rattle.std.proofs.Common.{ℕ, List, [], ◌∷◌, Option, Some, None, zero, suc}
 use Rattle.std.specs.Prelude.{false, slice_index_or}
 use Rattle.vpc_base.specs.Cuts.{AreAmong, CutLists, joined_cuts, no_cuts}
-use Rattle.vpc_model.specs.Types.{Description, EniNo, GroupNo, Place, TableNo, TgwTableNo}
+use Rattle.cut_points.specs.Types.{Description, EniNo, GroupNo, Place, TableNo, TgwTableNo}
 use Rattle.vpc_model.specs.declared.places.Place.TheVariants as places
 use Rattle.vpc_model.specs.Cuts.{all_cuts, asked_at, cuts_at, cuts_at_tgw_table, cuts_of, cuts_of_group, cuts_of_group_id, cuts_of_list, cuts_of_table, cuts_of_tgw_table, unbounded_asked, unbounded_standing}
 use Rattle.vpc_model.specs.Lookup.{group_at, group_of_id, interface_at, no_group, table_at, table_of}

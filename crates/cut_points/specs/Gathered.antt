@@ -1,7 +1,7 @@
 -- What is gathered: the cuts of each row, without the entries of the prefix lists that it names, since each
 -- list gives its own.
 use Rattle.std.specs.Prelude.{◌∷◌, [], List, Option, ℕ}
-use Rattle.vpc_model.specs.Types.{ApplianceKind, Block, Box5, Description, Group, Permission, Reach, Route, RouteTable}
+use Rattle.cut_points.specs.Types.{ApplianceKind, Block, Box5, Description, Group, Permission, Reach, Route, RouteTable}
 use Rattle.vpc_model.specs.declared.rows.Reach.TheVariants as reaches
 use Rattle.vpc_base.specs.Cuts.{CutLists, joined_cuts, no_cuts}
 use Rattle.vpc_model.specs.Appliances.{addresses_of, all_headers, boxes_of_kind}
