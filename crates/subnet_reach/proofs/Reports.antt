@@ -11,7 +11,10 @@ use Rattle.header_boxes.specs.Rows.{IsFirstThrough, NoneThrough}
 use Rattle.ordered_cover.specs.Cover.{IsBlocked, IsMore}
 use Rattle.vpc_model.specs.Cuts.{cuts_of}
 use Rattle.vpc_model.specs.Report.{ending_of}
-use Rattle.vpc_model.specs.Types.{Box5, Header, Row, Verdict}
+use Rattle.header_boxes.specs.declared.boxes.Box5.{Box5}
+use Rattle.vpc_base.specs.declared.headers.Header.{Header}
+use Rattle.header_boxes.specs.declared.rows.Row.{Row}
+use Rattle.vpc_model.specs.declared.outcomes.Verdict.{Verdict}
 use Rattle.vpc_model.specs.Verdict.{verdict_of}
 use Rattle.cut_points.specs.Cuts.{HasCuts}
 use Rattle.one_subnet.specs.Site.{description_of}

@@ -1,6 +1,10 @@
 -- What is answered to a query, in the words of the model.
 use Rattle.std.specs.Prelude.{◌<◌, ◌≤◌, List, Option, length, map, slice_index_or, ℕ}
-use Rattle.vpc_model.specs.Types.{Box5, End, Header, Row, StopText}
+use Rattle.header_boxes.specs.declared.boxes.Box5.{Box5}
+use Rattle.vpc_model.specs.declared.places.End.{End}
+use Rattle.vpc_base.specs.declared.headers.Header.{Header}
+use Rattle.header_boxes.specs.declared.rows.Row.{Row}
+use Rattle.vpc_model.specs.declared.stop_texts.StopText.{StopText}
 use Rattle.vpc_model.specs.declared.places.End.TheVariants as ends
 use Rattle.header_boxes.specs.Rows.{IsFirstThrough}
 use Rattle.vpc_model.specs.Appliances.{Appliances, appliances_of}

@@ -9,7 +9,11 @@ use Rattle.header_boxes.specs.Boxes.{holds}
 use Rattle.header_boxes.specs.Cells.{cells_of}
 use Rattle.header_boxes.specs.Rows.{HasWord, is_covered}
 use Rattle.vpc_model.specs.Report.{IsCellCount, ending_of}
-use Rattle.vpc_model.specs.Types.{Box5, Description, Header, Row, StopText}
+use Rattle.header_boxes.specs.declared.boxes.Box5.{Box5}
+use Rattle.vpc_model.specs.declared.rows.Description.{Description}
+use Rattle.vpc_base.specs.declared.headers.Header.{Header}
+use Rattle.header_boxes.specs.declared.rows.Row.{Row}
+use Rattle.vpc_model.specs.declared.stop_texts.StopText.{StopText}
 use Rattle.one_subnet.specs.Form.{site_of}
 use Rattle.one_subnet.specs.Site.{description_of}
 use Rattle.subnet_reach.specs.Query.{box_of, meaning_in}

@@ -7,7 +7,8 @@ use Rattle.vpc_base.specs.declared.headers.Label.TheVariants.{Opening}
 use Rattle.vpc_model.specs.declared.outcomes.Hop.{Hop}
 use Rattle.vpc_model.specs.declared.outcomes.Outcome.{Outcome}
 use Rattle.vpc_model.specs.declared.outcomes.Verdict.TheVariants.{Through, Stopped}
-use Rattle.vpc_model.specs.Types.{Description, Verdict}
+use Rattle.vpc_model.specs.declared.rows.Description.{Description}
+use Rattle.vpc_model.specs.declared.outcomes.Verdict.{Verdict}
 use Rattle.vpc_model.specs.Report.{ending_of}
 use Rattle.vpc_model.specs.ReportText.{arrived_header, lines_of_walk, reachable_text, reply_lines}
 use Rattle.vpc_model.specs.Text.{header_text, line_end, walk_text, word}

@@ -1,7 +1,9 @@
 -- Rules of a network of one subnet have no ids of their own, so each is printed by its number.
 use Rattle.std.proofs.Common.{◌≡◌, ◌-◌, ℕ, zero, suc, List, [], ◌∷◌, Option, None, refl, ap, decimal, map}
 use Rattle.std.specs.Prelude.{slice_index_or, unwrap_or}
-use Rattle.vpc_model.specs.Types.{Dir, Group, Permission}
+use Rattle.vpc_base.specs.declared.headers.Dir.{Dir}
+use Rattle.vpc_model.specs.declared.rows.Group.{Group}
+use Rattle.vpc_model.specs.declared.rows.Permission.{Permission}
 use Rattle.vpc_base.specs.declared.headers.Dir.TheVariants as dirs
 use Rattle.vpc_model.specs.Groups.{no_permission, permissions_of}
 use Rattle.vpc_model.specs.Lookup.{no_group}

@@ -1,6 +1,8 @@
 -- What `ask` answers in a described network.
 use Rattle.std.specs.Prelude.{◌≡◌, ◌≤◌, List, None, Option, Some, codes, length, true, ℕ}
-use Rattle.vpc_model.specs.Types.{Header, Row, StopText}
+use Rattle.vpc_base.specs.declared.headers.Header.{Header}
+use Rattle.header_boxes.specs.declared.rows.Row.{Row}
+use Rattle.vpc_model.specs.declared.stop_texts.StopText.{StopText}
 use Rattle.vpc_model.specs.declared.outcomes.Verdict.TheVariants as verdicts
 use Rattle.header_boxes.specs.Boxes.{holds}
 use Rattle.header_boxes.specs.Rows.{IsFirstThrough, NoneThrough}

@@ -1,6 +1,6 @@
 -- The parts of printed lines.
 use Rattle.std.specs.Prelude.{◌++◌, List, codes, decimal, ℕ}
-use Rattle.vpc_model.specs.Types.{Header}
+use Rattle.vpc_base.specs.declared.headers.Header.{Header}
 use Rattle.vpc_model.specs.Text.{header_text, line_end, told_text, word}
 use Rattle.one_subnet.specs.declared.site.Site.{Site}
 use Rattle.subnet_walk.specs.declared.barrier.Barrier.{Barrier}

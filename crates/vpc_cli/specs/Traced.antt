@@ -1,6 +1,6 @@
 -- What `trace` answers in a described network.
 use Rattle.std.specs.Prelude.{ℕ, ◌≡◌, List, [], Option, Some, None, codes}
-use Rattle.vpc_model.specs.Types.{Outcome}
+use Rattle.vpc_model.specs.declared.outcomes.Outcome.{Outcome}
 use Rattle.vpc_model.specs.declared.outcomes.Outcome.TheVariants as outcomes
 use Rattle.vpc_model.specs.declared.places.Place.TheVariants as places
 use Rattle.vpc_model.specs.Appliances.{appliances_of}
