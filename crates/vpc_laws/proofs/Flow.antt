@@ -1,40 +1,36 @@
 -- An open keeps its protocol and q.
-use Rattle.std.proofs.Common.{◌≡◌, ℕ, ◌<◌, ◌^◌, ◌==◌, ◌&&◌, ◌||◌, not, Bool, true, false, List, [], ◌∷◌, Option, Some, None, refl, ◌∙◌, is_none}
+use Rattle.std.proofs.Common.{◌≡◌, ℕ, ◌<◌, ◌^◌, ◌==◌, ◌&&◌, ◌||◌, not, Bool, true, false, List, [], ◌∷◌, Option, Some, None, refl, cond, ◌∙◌, is_none}
 use Rattle.std.specs.List.{AllByRecursion, find, slice_index_or}
 use Rattle.std.proofs.lemmas.Bool.{cond_both, and_parts, eqb-true, true≢false}
-use Rattle.vpc_base.specs.declared.headers.Header.{Header}
 use Rattle.vpc_base.specs.declared.headers.Dir.TheVariants.{Inward, Outward}
-use Rattle.vpc_base.specs.declared.headers.Label.{Label}
 use Rattle.vpc_base.specs.declared.headers.Label.TheVariants.{Opening}
-use Rattle.vpc_model.specs.declared.numbers.VpcNo.{VpcNo}
-use Rattle.vpc_model.specs.declared.numbers.SubnetNo.{SubnetNo}
-use Rattle.vpc_model.specs.declared.numbers.EniNo.{EniNo}
-use Rattle.vpc_model.specs.declared.numbers.TableNo.{TableNo}
-use Rattle.vpc_model.specs.declared.numbers.IgwNo.{IgwNo}
-use Rattle.vpc_model.specs.declared.numbers.NatNo.{NatNo}
-use Rattle.vpc_model.specs.declared.numbers.PeerNo.{PeerNo}
-use Rattle.vpc_model.specs.declared.numbers.AttNo.{AttNo}
-use Rattle.vpc_model.specs.declared.numbers.TgwTableNo.{TgwTableNo}
-use Rattle.vpc_model.specs.declared.outcomes.By.{By}
-use Rattle.vpc_model.specs.declared.places.Place.{Place}
 use Rattle.vpc_model.specs.declared.places.Place.TheVariants.{OutOf, Router, Enter, Into, IgwOut, Internet, IgwIn, NatOut, NatIn, Peer, Tgw, TgwLeave}
-use Rattle.vpc_model.specs.declared.rows.Description.{Description}
-use Rattle.vpc_model.specs.declared.rows.NatLife.{NatLife}
 use Rattle.vpc_model.specs.declared.rows.NatLife.TheVariants.{Gone, Unmodelled as WithoutSubnet, Live}
-use Rattle.vpc_model.specs.declared.rows.Target.{Target}
 use Rattle.vpc_model.specs.declared.rows.Target.TheVariants.{Local, Internet as ToInternet, Nat as ToNat, Transit as ToTransit, Peer as ToPeer, Interface as ToInterface, Other}
-use Rattle.vpc_model.specs.declared.stops.Stop.{Stop}
-use Rattle.vpc_model.specs.declared.stops.Stop.TheVariants.{NotAHost}
+use Rattle.vpc_model.specs.declared.stops.Stop.TheVariants.{ApplianceDrop, NotAHost}
+use Rattle.vpc_model.specs.declared.places.End.TheVariants.{Interface}
+use Rattle.vpc_laws.specs.Types.{AttNo, Box5, By, Description, EniNo, Header, IgwNo, Label, NatLife, NatNo, PeerNo, Place, Stop, SubnetNo, TableNo, Target, TgwTableNo, VpcNo}
+use Rattle.vpc_laws.specs.Step.{KeepsFlow, SendsSame, is_rewriting}
+use Rattle.vpc_laws.specs.Translations.{IsTranslation}
+use Rattle.vpc_model.specs.Appliances.{Appliances, boxes_at, passes}
 use Rattle.vpc_model.specs.Connections.{Connection, passing_of, same_header}
 use Rattle.vpc_model.specs.Internet.{is_unroutable, owner_of, public_of}
 use Rattle.vpc_model.specs.Lookup.{attachment_of_id, eni_no, gateway_of, has_address, has_vpc, host_of, igw_no, interface_at, nat_at, nat_no, peer_no, peering_at, subnet_no, subnet_of, table_at, table_of, tgw_table_at, vpc_at, vpc_no, vpc_of_subnet}
 use Rattle.vpc_model.specs.Nat.{Translation, is_full, is_translatable, translation_of}
 use Rattle.vpc_model.specs.Peerings.{has_block, other_side}
 use Rattle.vpc_model.specs.Routes.{chosen_route}
-use Rattle.vpc_model.specs.Step.{Moment, Next, Step, go, arrive, stop, by_attachment, by_pair, by_route, by_tgw_route, by_tgw_table, crossing, deliver, deliver_by, enter_host, entering, go_public, in_passing, is_attached, is_gateway, leave_by, leaving, nat_of, no_route, no_tgw_route, out_passing, over_peering, own_address, step_at, step_internet, step_into, step_nat_out, step_of, step_out, step_router, to_attachment, to_host, to_interface, to_internet, to_nat, to_owner, to_peer, to_target, to_transit, to_zone, translate, unless_stopped}
-use Rattle.vpc_model.specs.Transit.{attachment_for, zone_subnet, table_of_attachment, chosen_tgw_route, leave_subnet}
+use Rattle.vpc_model.specs.Step.{step_at, step_of}
+use Rattle.vpc_model.specs.Step.Crossing.{crossing, deliver, deliver_by, entering, is_gateway, leaving, nat_of}
+use Rattle.vpc_model.specs.Step.Enter.{enter_host}
+use Rattle.vpc_model.specs.Step.Interface.{forwarded, in_passing, out_passing, step_into, step_out}
+use Rattle.vpc_model.specs.Step.Internet.{go_public, step_internet, to_owner}
+use Rattle.vpc_model.specs.Step.Nat.{own_address, step_nat_out, translate}
+use Rattle.vpc_model.specs.Step.Peering.{by_pair, over_peering}
+use Rattle.vpc_model.specs.Step.Router.{by_route, is_attached, no_route, step_router, to_host, to_interface, to_internet, to_nat, to_peer, to_target, to_transit, to_zone}
+use Rattle.vpc_model.specs.Step.Transit.{by_attachment, by_tgw_route, by_tgw_table, leave_by, no_tgw_route, to_attachment}
+use Rattle.vpc_model.specs.Step.Words.{Moment, Next, Step, arrive, go, stop, unless_stopped}
+use Rattle.vpc_model.specs.Transit.{attachment_for, chosen_tgw_route, leave_subnet, table_of_attachment, zone_subnet}
 use Rattle.vpc_laws.proofs.Ports.{new_translation-fits}
-use Rattle.vpc_laws.specs.Laws.{KeepsFlow, SendsSame, IsTranslation, is_rewriting}
 
 -- a header of the same protocol and q, whose p fits its field where the first's does; it is the first where nothing is rewritten
 pub record IsFlow (rewritten : Bool) (h k : Header) : Type 0 where
@@ -58,9 +54,20 @@ out_passing-flow : (d : Description) (i : EniNo) (m : Moment) (by : Option By) (
 out_passing-flow d i m None conns = tt
 out_passing-flow d i m (Some by) conns = record { proto = refl; q = refl; p = λ fits. fits; same = λ _. refl }
 
-in_passing-flow : (i : EniNo) (m : Moment) (by : Option By) (conns : List Connection) → Flows false m.header (in_passing i m (record { by = by; conns = conns })).next
-in_passing-flow i m None conns = tt
-in_passing-flow i m (Some by) conns = tt
+-- arrived or sent on, by the boxes of the appliance there
+abbrev taken_by : Description → EniNo → Header → Option (List Box5) → Next
+taken_by d i h None = arrive (Interface i)
+taken_by d i h (Some boxes) = cond (has_address (interface_at d i) h.dst) (arrive (Interface i)) (forwarded i h boxes)
+
+taken_by-flow : (d : Description) (i : EniNo) (h : Header) (boxes : Option (List Box5)) → Flows false h (taken_by d i h boxes)
+taken_by-flow d i h None = tt
+taken_by-flow d i h (Some boxes) =
+    cond_both (has_address (interface_at d i) h.dst) (arrive (Interface i)) (forwarded i h boxes) (λ (x : Next). Flows false h x) (λ _. tt)
+    (λ _. cond_both (passes boxes h) (go (OutOf i) h) (stop (ApplianceDrop i)) (λ (x : Next). Flows false h x) (λ _. record { proto = refl; q = refl; p = λ fits. fits; same = λ _. refl }) (λ _. tt))
+
+in_passing-flow : (d : Description) (appliances : Appliances) (i : EniNo) (m : Moment) (by : Option By) (conns : List Connection) → Flows false m.header (in_passing d appliances i m (record { by = by; conns = conns })).next
+in_passing-flow d appliances i m None conns = tt
+in_passing-flow d appliances i m (Some by) conns = taken_by-flow d i m.header (boxes_at appliances i)
 
 step_out-flow : (d : Description) (label : Label) (i : EniNo) (m : Moment) → Flows false m.header (step_out d label i m).next
 step_out-flow d label i m =
@@ -70,13 +77,13 @@ step_out-flow d label i m =
     (λ _. cond_both (e.checked && not (has_address e m.header.src)) _ _ (λ (s : Step). Flows false m.header s.next) (λ _. tt)
     (λ _. out_passing-flow d i m passing.by passing.conns))
 
-step_into-flow : (d : Description) (label : Label) (i : EniNo) (m : Moment) → Flows false m.header (step_into d label i m).next
-step_into-flow d label i m =
+step_into-flow : (d : Description) (appliances : Appliances) (label : Label) (i : EniNo) (m : Moment) → Flows false m.header (step_into d appliances label i m).next
+step_into-flow d appliances label i m =
     let e = interface_at d i in
     let passing = passing_of d label i Inward m.header m.conns in
     cond_both e.idle _ _ (λ (s : Step). Flows false m.header s.next) (λ _. tt)
     (λ _. cond_both (e.checked && not (has_address e m.header.dst)) _ _ (λ (s : Step). Flows false m.header s.next) (λ _. tt)
-    (λ _. in_passing-flow i m passing.by passing.conns))
+    (λ _. in_passing-flow d appliances i m passing.by passing.conns))
 
 deliver_by-flow : (d : Description) (i : EniNo) (h : Header) (n : Option NatNo) → Flows false h (deliver_by d i h n)
 deliver_by-flow d i h (Some n) = record { proto = refl; q = refl; p = λ fits. fits; same = λ _. refl }
@@ -244,46 +251,46 @@ leave_by-flow a h (Some s) = record { proto = refl; q = refl; p = λ fits. fits;
 
 -- ---- all places
 
-pub step_at-flow : (d : Description) (p : Place) (m : Moment) → AllByRecursion IsTranslation m.nats → Flows (is_rewriting p) m.header (step_at d Opening p m).next
-step_at-flow d (OutOf i) m all = step_out-flow d Opening i m
-step_at-flow d (Router s came) m all = step_router-flow d s m
-step_at-flow d (Enter v by) m all = enter_host-flow d v m.header (host_of d v m.header.dst)
-step_at-flow d (Into i) m all = step_into-flow d Opening i m
-step_at-flow d (IgwOut v) m all = go_public-flow d v m.header (public_of d v m.header.src)
-step_at-flow d Internet m all = step_internet-flow d m
-step_at-flow d (IgwIn v) m all = record { proto = refl; q = refl; p = λ fits. fits; same = λ e. absurd (true≢false e) }
-step_at-flow d (NatOut n) m all = step_nat_out-flow d n m all
-step_at-flow d (NatIn n) m all = tt
-step_at-flow d (Peer x v) m all = let row = peering_at d x in by_pair-flow d x v m.header row.pair
-step_at-flow d (Tgw a s) m all = by_tgw_table-flow d a s m.header (table_of_attachment d a)
-step_at-flow d (TgwLeave a s) m all = leave_by-flow a m.header (leave_subnet d a s)
+pub step_at-flow : (d : Description) (appliances : Appliances) (p : Place) (m : Moment) → AllByRecursion IsTranslation m.nats → Flows (is_rewriting p) m.header (step_at d appliances Opening p m).next
+step_at-flow d appliances (OutOf i) m all = step_out-flow d Opening i m
+step_at-flow d appliances (Router s came) m all = step_router-flow d s m
+step_at-flow d appliances (Enter v by) m all = enter_host-flow d v m.header (host_of d v m.header.dst)
+step_at-flow d appliances (Into i) m all = step_into-flow d appliances Opening i m
+step_at-flow d appliances (IgwOut v) m all = go_public-flow d v m.header (public_of d v m.header.src)
+step_at-flow d appliances Internet m all = step_internet-flow d m
+step_at-flow d appliances (IgwIn v) m all = record { proto = refl; q = refl; p = λ fits. fits; same = λ e. absurd (true≢false e) }
+step_at-flow d appliances (NatOut n) m all = step_nat_out-flow d n m all
+step_at-flow d appliances (NatIn n) m all = tt
+step_at-flow d appliances (Peer x v) m all = let row = peering_at d x in by_pair-flow d x v m.header row.pair
+step_at-flow d appliances (Tgw a s) m all = by_tgw_table-flow d a s m.header (table_of_attachment d a)
+step_at-flow d appliances (TgwLeave a s) m all = leave_by-flow a m.header (leave_subnet d a s)
 
 pub Flows-keeps : (rewritten : Bool) (h : Header) (x : Next) → Flows rewritten h x → KeepsFlow h x
 Flows-keeps rewritten h (go p k) flow = (flow.proto, flow.q)
 Flows-keeps rewritten h (arrive end) flow = tt
 Flows-keeps rewritten h (stop s) flow = tt
 
-pub open_keeps_flow : (d : Description) (m : Moment) → AllByRecursion IsTranslation m.nats → KeepsFlow m.header (step_of d Opening m).next
-open_keeps_flow d m all = Flows-keeps (is_rewriting m.place) m.header (step_of d Opening m).next (step_at-flow d m.place m all)
+pub open_keeps_flow : (d : Description) (appliances : Appliances) (m : Moment) → AllByRecursion IsTranslation m.nats → KeepsFlow m.header (step_of d appliances Opening m).next
+open_keeps_flow d appliances m all = Flows-keeps (is_rewriting m.place) m.header (step_of d appliances Opening m).next (step_at-flow d appliances m.place m all)
 
 Flows-same : (h : Header) (x : Next) → Flows false h x → SendsSame h x
 Flows-same h (go p k) flow = flow.same refl
 Flows-same h (arrive end) flow = tt
 Flows-same h (stop s) flow = tt
 
-step_at-same : (d : Description) (label : Label) (p : Place) (m : Moment) → is_rewriting p ≡ false → SendsSame m.header (step_at d label p m).next
-step_at-same d label (OutOf i) m e = Flows-same m.header (step_out d label i m).next (step_out-flow d label i m)
-step_at-same d label (Router s came) m e = Flows-same m.header (step_router d s m).next (step_router-flow d s m)
-step_at-same d label (Enter v by) m e = Flows-same m.header (enter_host d v m.header (host_of d v m.header.dst)) (enter_host-flow d v m.header (host_of d v m.header.dst))
-step_at-same d label (Into i) m e = Flows-same m.header (step_into d label i m).next (step_into-flow d label i m)
-step_at-same d label (IgwOut v) m e = absurd (true≢false e)
-step_at-same d label Internet m e = Flows-same m.header (step_internet d m).next (step_internet-flow d m)
-step_at-same d label (IgwIn v) m e = absurd (true≢false e)
-step_at-same d label (NatOut n) m e = absurd (true≢false e)
-step_at-same d label (NatIn n) m e = absurd (true≢false e)
-step_at-same d label (Peer x v) m e = let row = peering_at d x in Flows-same m.header (by_pair d x v m.header row.pair) (by_pair-flow d x v m.header row.pair)
-step_at-same d label (Tgw a s) m e = Flows-same m.header (by_tgw_table d a s m.header (table_of_attachment d a)) (by_tgw_table-flow d a s m.header (table_of_attachment d a))
-step_at-same d label (TgwLeave a s) m e = Flows-same m.header (leave_by a m.header (leave_subnet d a s)) (leave_by-flow a m.header (leave_subnet d a s))
+step_at-same : (d : Description) (appliances : Appliances) (label : Label) (p : Place) (m : Moment) → is_rewriting p ≡ false → SendsSame m.header (step_at d appliances label p m).next
+step_at-same d appliances label (OutOf i) m e = Flows-same m.header (step_out d label i m).next (step_out-flow d label i m)
+step_at-same d appliances label (Router s came) m e = Flows-same m.header (step_router d s m).next (step_router-flow d s m)
+step_at-same d appliances label (Enter v by) m e = Flows-same m.header (enter_host d v m.header (host_of d v m.header.dst)) (enter_host-flow d v m.header (host_of d v m.header.dst))
+step_at-same d appliances label (Into i) m e = Flows-same m.header (step_into d appliances label i m).next (step_into-flow d appliances label i m)
+step_at-same d appliances label (IgwOut v) m e = absurd (true≢false e)
+step_at-same d appliances label Internet m e = Flows-same m.header (step_internet d m).next (step_internet-flow d m)
+step_at-same d appliances label (IgwIn v) m e = absurd (true≢false e)
+step_at-same d appliances label (NatOut n) m e = absurd (true≢false e)
+step_at-same d appliances label (NatIn n) m e = absurd (true≢false e)
+step_at-same d appliances label (Peer x v) m e = let row = peering_at d x in Flows-same m.header (by_pair d x v m.header row.pair) (by_pair-flow d x v m.header row.pair)
+step_at-same d appliances label (Tgw a s) m e = Flows-same m.header (by_tgw_table d a s m.header (table_of_attachment d a)) (by_tgw_table-flow d a s m.header (table_of_attachment d a))
+step_at-same d appliances label (TgwLeave a s) m e = Flows-same m.header (leave_by a m.header (leave_subnet d a s)) (leave_by-flow a m.header (leave_subnet d a s))
 
-pub header_stays : (d : Description) (label : Label) (m : Moment) → is_rewriting m.place ≡ false → SendsSame m.header (step_of d label m).next
-header_stays d label m e = step_at-same d label m.place m e
+pub header_stays : (d : Description) (appliances : Appliances) (label : Label) (m : Moment) → is_rewriting m.place ≡ false → SendsSame m.header (step_of d appliances label m).next
+header_stays d appliances label m e = step_at-same d appliances label m.place m e

@@ -2,6 +2,6 @@ pub mod Growth
 pub mod Flow
 pub mod Ports
 pub mod Books
-pub mod Walks
+pub mod Walking
 pub mod Replies
 pub mod Same

@@ -5,17 +5,18 @@ use Rattle.std.proofs.lemmas.Bool.{and_parts, and_from, eqb-true, eq-eqb, cases_
 use Rattle.std.proofs.lemmas.List.Elements.{Contains-append_cases, Contains-push_cases}
 use Rattle.std.proofs.lemmas.Map.Keys.{IsDistinct-head, IsDistinct-tail}
 use Rattle.vpc_base.specs.Header.{reply_of, echo_reply, exchanged}
-use Rattle.vpc_base.specs.declared.headers.Header.{Header}
 use Rattle.vpc_base.specs.declared.headers.Label.TheVariants.{Opening}
-use Rattle.vpc_model.specs.declared.numbers.NatNo.{NatNo}
 use Rattle.vpc_model.specs.declared.places.Place.TheVariants.{NatOut}
-use Rattle.vpc_model.specs.declared.rows.Description.{Description}
 use Rattle.vpc_model.specs.declared.stops.Stop.TheVariants.{NatFull}
+use Rattle.vpc_laws.specs.Types.{Description, Header, NatNo}
+use Rattle.vpc_laws.specs.Translations.{IsBook, collide}
+use Rattle.vpc_model.specs.Appliances.{Appliances}
 use Rattle.vpc_model.specs.Connections.{Connection, is_header, same_header}
 use Rattle.vpc_model.specs.Lookup.{nat_at}
 use Rattle.vpc_model.specs.Nat.{Translation, inward, is_translatable, new_translation, shares, translation_of}
-use Rattle.vpc_model.specs.Step.{from_nat, own_address, step_of, stop}
-use Rattle.vpc_laws.specs.Laws.{IsBook, collide}
+use Rattle.vpc_model.specs.Step.{step_of}
+use Rattle.vpc_model.specs.Step.Nat.{from_nat, own_address}
+use Rattle.vpc_model.specs.Step.Words.{stop}
 use Rattle.vpc_laws.proofs.Flow.{IsSame, same_header-fields}
 
 -- ---- replies
@@ -120,22 +121,22 @@ answer_finds_its_open ts t r book has e = ap (option_and_then (λ (u : Translati
 
 -- ---- opens
 
-pub known_open_is_reused : (d : Description) (n : NatNo) (h : Header) (conns : List Connection) (nats : List Translation) (t : Translation)
+pub known_open_is_reused : (d : Description) (appliances : Appliances) (n : NatNo) (h : Header) (conns : List Connection) (nats : List Translation) (t : Translation)
     → is_translatable h.proto ≡ true → translation_of nats n h ≡ Some t
-    → let s = step_of d Opening (record { place = NatOut n; header = h; conns = conns; nats = nats }) in (s.next ≡ from_nat d n t.after) × (s.nats ≡ nats)
-known_open_is_reused d n h conns nats t translatable known = (rw (translatable, known) refl, rw (translatable, known) refl)
+    → let s = step_of d appliances Opening (record { place = NatOut n; header = h; conns = conns; nats = nats }) in (s.next ≡ from_nat d n t.after) × (s.nats ≡ nats)
+known_open_is_reused d appliances n h conns nats t translatable known = (rw (translatable, known) refl, rw (translatable, known) refl)
 
-pub full_gateway_stops : (d : Description) (n : NatNo) (h : Header) (conns : List Connection) (nats : List Translation)
+pub full_gateway_stops : (d : Description) (appliances : Appliances) (n : NatNo) (h : Header) (conns : List Connection) (nats : List Translation)
     → is_translatable h.proto ≡ true → translation_of nats n h ≡ None → 55000 ≤ count_by (shares n h) nats
-    → let s = step_of d Opening (record { place = NatOut n; header = h; conns = conns; nats = nats }) in s.next ≡ stop (NatFull n)
-full_gateway_stops d n h conns nats translatable new full = rw (translatable, new, le-leb 55000 (count_by (shares n h) nats) full) refl
+    → let s = step_of d appliances Opening (record { place = NatOut n; header = h; conns = conns; nats = nats }) in s.next ≡ stop (NatFull n)
+full_gateway_stops d appliances n h conns nats translatable new full = rw (translatable, new, le-leb 55000 (count_by (shares n h) nats) full) refl
 
-pub roomy_gateway_translates : (d : Description) (n : NatNo) (h : Header) (conns : List Connection) (nats : List Translation)
+pub roomy_gateway_translates : (d : Description) (appliances : Appliances) (n : NatNo) (h : Header) (conns : List Connection) (nats : List Translation)
     → is_translatable h.proto ≡ true → translation_of nats n h ≡ None → count_by (shares n h) nats < 55000
-    → let s = step_of d Opening (record { place = NatOut n; header = h; conns = conns; nats = nats }) in
+    → let s = step_of d appliances Opening (record { place = NatOut n; header = h; conns = conns; nats = nats }) in
     let row = nat_at d n in
     let t = new_translation nats n (own_address row.life) h in
     (s.next ≡ from_nat d n t.after) × (s.nats ≡ nats ++ t ∷ [])
-roomy_gateway_translates d n h conns nats translatable new room =
+roomy_gateway_translates d appliances n h conns nats translatable new room =
     let few = lt-leb 55000 (count_by (shares n h) nats) room in
     (rw (translatable, new, few) refl, rw (translatable, new, few) refl)

@@ -3,23 +3,12 @@ use Rattle.std.proofs.Common.{◌≡◌, ℕ, ◌==◌, ◌&&◌, Bool, true, re
 use Rattle.std.specs.Bool.{Decides}
 use Rattle.std.proofs.lemmas.Bool.{and_parts, and_from, eqb-true, eq-eqb, false≢true}
 use Rattle.vpc_base.specs.Dir.{same_dir}
-use Rattle.vpc_base.specs.declared.headers.Header.{Header}
-use Rattle.vpc_base.specs.declared.headers.Dir.{Dir}
 use Rattle.vpc_base.specs.declared.headers.Dir.TheVariants.{Inward, Outward}
-use Rattle.vpc_model.specs.declared.numbers.VpcNo.{VpcNo}
-use Rattle.vpc_model.specs.declared.numbers.SubnetNo.{SubnetNo}
-use Rattle.vpc_model.specs.declared.numbers.EniNo.{EniNo}
-use Rattle.vpc_model.specs.declared.numbers.NatNo.{NatNo}
-use Rattle.vpc_model.specs.declared.numbers.PeerNo.{PeerNo}
-use Rattle.vpc_model.specs.declared.numbers.AttNo.{AttNo}
-use Rattle.vpc_model.specs.declared.places.Came.{Came}
 use Rattle.vpc_model.specs.declared.places.Came.TheVariants.{Host, Nat, Transit}
-use Rattle.vpc_model.specs.declared.places.End.{End}
 use Rattle.vpc_model.specs.declared.places.End.TheVariants.{Interface, Internet as AtInternet}
-use Rattle.vpc_model.specs.declared.places.EnterBy.{EnterBy}
 use Rattle.vpc_model.specs.declared.places.EnterBy.TheVariants.{Gateway, Peering}
-use Rattle.vpc_model.specs.declared.places.Place.{Place}
 use Rattle.vpc_model.specs.declared.places.Place.TheVariants.{OutOf, Router, Enter, Into, IgwOut, Internet, IgwIn, NatOut, NatIn, Peer, Tgw, TgwLeave}
+use Rattle.vpc_laws.specs.Types.{AttNo, Came, Dir, End, EniNo, EnterBy, Header, NatNo, PeerNo, Place, SubnetNo, VpcNo}
 use Rattle.vpc_model.specs.Connections.{Connection, same_connection, same_header}
 use Rattle.vpc_model.specs.Verdict.{same_end}
 use Rattle.vpc_model.specs.Walk.{same_came, same_enter, same_place}

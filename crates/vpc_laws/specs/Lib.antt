@@ -1,1 +1,5 @@
-pub mod Laws
+pub mod Types
+pub mod Translations
+pub mod Step
+pub mod Walk
+pub mod Equality

@@ -1,5 +1,5 @@
 // Laws of NAT gateways.
-ghost use Rattle.vpc_laws.specs.Laws.{AnswerFindsItsOpen, FreePortIsFree, FullGatewayStops, KnownOpenIsReused, NothingIsInOrder, RoomyGatewayTranslates, StepKeepsBook};
+ghost use Rattle.vpc_laws.specs.Translations.{AnswerFindsItsOpen, FreePortIsFree, FullGatewayStops, KnownOpenIsReused, NothingIsInOrder, RoomyGatewayTranslates, StepKeepsBook};
 
 /// A gateway finds a port while its translations towards a destination are fewer than the ports.
 pub fn finds_a_free_port()

@@ -1,5 +1,5 @@
 // Laws of one step.
-ghost use Rattle.vpc_laws.specs.Laws.{HeaderStays, OpenKeepsFlow, StepAddsOwn, ConnectionsChangeAtInterfaces, StepAddsTranslation, StepKeeps, AnswerAddsNothing};
+ghost use Rattle.vpc_laws.specs.Step.{HeaderStays, OpenKeepsFlow, StepAddsOwn, ConnectionsChangeAtInterfaces, StepAddsTranslation, StepKeeps, AnswerAddsNothing};
 
 /// A step adds at most one connection: that of an open at the interface where it is. It is kept also
 /// where the packet is then stopped.

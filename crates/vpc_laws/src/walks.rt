@@ -1,5 +1,5 @@
 // Laws of whole walks.
-ghost use Rattle.vpc_laws.specs.Laws.{PlacesAreToldApart, HeadersAreToldApart, ConnectionsAreToldApart, EndsAreToldApart, WalkIsShort, NoPlaceTwice, WalkKeeps, AnswerLeavesAll, LeftConnectionsAreOwn, LeftTranslationsAreOwn, WalkKeepsBook};
+ghost use Rattle.vpc_laws.specs.Walk.{WalkIsShort, NoPlaceTwice, WalkKeeps, AnswerLeavesAll, LeftConnectionsAreOwn, LeftTranslationsAreOwn, WalkKeepsBook};
 
 /// A walk has 1 to 64 places.
 pub fn has_few_places()
@@ -36,24 +36,4 @@ pub fn remembers_own_translations()
 /// A walk keeps the translations in order.
 pub fn keeps_translations()
     ensures { WalkKeepsBook }
-{}
-
-/// Two places are one only where all of them is.
-pub fn tells_places_apart()
-    ensures { PlacesAreToldApart }
-{}
-
-/// Two headers are one only where all of them is.
-pub fn tells_headers_apart()
-    ensures { HeadersAreToldApart }
-{}
-
-/// Two ends are one only where all of them is.
-pub fn tells_ends_apart()
-    ensures { EndsAreToldApart }
-{}
-
-/// Two connections are one only where all of them is.
-pub fn tells_connections_apart()
-    ensures { ConnectionsAreToldApart }
 {}
