@@ -38,7 +38,7 @@ count_by-push p (y ∷ ys) x =
     let rest = count_by-push p ys x in
     omega arith
 
-find-none : {X : Type 0} (test : X → Bool) (xs : List X) → find test xs ≡ None → list_any test xs ≡ false
+pub find-none : {X : Type 0} (test : X → Bool) (xs : List X) → find test xs ≡ None → list_any test xs ≡ false
 find-none test [] e = refl
 find-none test (x ∷ xs) e =
     elim (cases_Bool (test x)) [

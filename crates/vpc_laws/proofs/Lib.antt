@@ -5,3 +5,6 @@ pub mod Books
 pub mod Walking
 pub mod Replies
 pub mod Same
+pub mod Choosing
+pub mod Rows
+pub mod Sorting

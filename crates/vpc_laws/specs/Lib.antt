@@ -3,3 +3,4 @@ pub mod Translations
 pub mod Step
 pub mod Walk
 pub mod Equality
+pub mod Choice
