@@ -69,20 +69,20 @@ step_into-adds d appliances label i m =
     (λ _. cond_both (e.checked && not (has_address e m.header.dst)) _ _ (λ (s : Step). AddsOwn label (Into i) m.header m.conns s.conns) (λ _. inl refl)
     (λ _. in_passing-adds d appliances label i (Into i) m passing.by passing.conns (passing_groups-adds d label i Inward (Into i) m.header m.conns e.groups refl)))
 
-step_internet-conns : (d : Description) (m : Moment) → (step_internet d m).conns ≡ m.conns
+pub step_internet-conns : (d : Description) (m : Moment) → (step_internet d m).conns ≡ m.conns
 step_internet-conns d m = cond_both (is_unroutable m.header.src || is_unroutable m.header.dst) _ _ (λ (s : Step). s.conns ≡ m.conns) (λ _. refl) (λ _. refl)
 
 translate-conns : (d : Description) (n : NatNo) (m : Moment) (t : Option Translation) → (translate d n m t).conns ≡ m.conns
 translate-conns d n m (Some t) = refl
 translate-conns d n m None = cond_both (is_full m.nats n m.header) _ _ (λ (s : Step). s.conns ≡ m.conns) (λ _. refl) (λ _. refl)
 
-step_nat_out-conns : (d : Description) (label : Label) (n : NatNo) (m : Moment) → (step_nat_out d label n m).conns ≡ m.conns
+pub step_nat_out-conns : (d : Description) (label : Label) (n : NatNo) (m : Moment) → (step_nat_out d label n m).conns ≡ m.conns
 step_nat_out-conns d Answer n m = refl
 step_nat_out-conns d Opening n m =
     cond_both (is_translatable m.header.proto) (translate d n m (translation_of m.nats n m.header)) _ (λ (s : Step). s.conns ≡ m.conns)
     (λ _. translate-conns d n m (translation_of m.nats n m.header)) (λ _. refl)
 
-step_nat_in-conns : (d : Description) (label : Label) (n : NatNo) (m : Moment) → (step_nat_in d label n m).conns ≡ m.conns
+pub step_nat_in-conns : (d : Description) (label : Label) (n : NatNo) (m : Moment) → (step_nat_in d label n m).conns ≡ m.conns
 step_nat_in-conns d Opening n m = refl
 step_nat_in-conns d Answer n m = refl
 

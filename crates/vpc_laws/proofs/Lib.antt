@@ -8,3 +8,6 @@ pub mod Same
 pub mod Choosing
 pub mod Rows
 pub mod Sorting
+pub mod Stepping
+pub mod Passing
+pub mod Adding

@@ -17,16 +17,16 @@ use Rattle.vpc_laws.proofs.Replies.{same_header-refl}
 
 -- ---- numbers
 
-VpcNo-same : (a b : VpcNo) → (a.0 == b.0) ≡ true → a ≡ b
+pub VpcNo-same : (a b : VpcNo) → (a.0 == b.0) ≡ true → a ≡ b
 VpcNo-same a b e = let make : ℕ → VpcNo = λ k. record { 0 = k } in ap make (eqb-true a.0 b.0 e)
 
-SubnetNo-same : (a b : SubnetNo) → (a.0 == b.0) ≡ true → a ≡ b
+pub SubnetNo-same : (a b : SubnetNo) → (a.0 == b.0) ≡ true → a ≡ b
 SubnetNo-same a b e = let make : ℕ → SubnetNo = λ k. record { 0 = k } in ap make (eqb-true a.0 b.0 e)
 
-EniNo-same : (a b : EniNo) → (a.0 == b.0) ≡ true → a ≡ b
+pub EniNo-same : (a b : EniNo) → (a.0 == b.0) ≡ true → a ≡ b
 EniNo-same a b e = let make : ℕ → EniNo = λ k. record { 0 = k } in ap make (eqb-true a.0 b.0 e)
 
-NatNo-same : (a b : NatNo) → (a.0 == b.0) ≡ true → a ≡ b
+pub NatNo-same : (a b : NatNo) → (a.0 == b.0) ≡ true → a ≡ b
 NatNo-same a b e = let make : ℕ → NatNo = λ k. record { 0 = k } in ap make (eqb-true a.0 b.0 e)
 
 PeerNo-same : (a b : PeerNo) → (a.0 == b.0) ≡ true → a ≡ b
@@ -35,7 +35,7 @@ PeerNo-same a b e = let make : ℕ → PeerNo = λ k. record { 0 = k } in ap mak
 AttNo-same : (a b : AttNo) → (a.0 == b.0) ≡ true → a ≡ b
 AttNo-same a b e = let make : ℕ → AttNo = λ k. record { 0 = k } in ap make (eqb-true a.0 b.0 e)
 
-itself : (n : ℕ) → (n == n) ≡ true
+pub itself : (n : ℕ) → (n == n) ≡ true
 itself n = eq-eqb n n refl
 
 both : (x y : Bool) → x ≡ true → y ≡ true → (x && y) ≡ true
@@ -119,13 +119,13 @@ ends_are_told_apart AtInternet AtInternet = (λ e. refl, λ e. refl)
 ends_are_told_apart (Interface i) AtInternet = (λ e. absurd (false≢true e), λ e. cc)
 ends_are_told_apart AtInternet (Interface j) = (λ e. absurd (false≢true e), λ e. cc)
 
-same_dir-true : (a b : Dir) → same_dir a b ≡ true → a ≡ b
+pub same_dir-true : (a b : Dir) → same_dir a b ≡ true → a ≡ b
 same_dir-true Inward Inward e = refl
 same_dir-true Outward Outward e = refl
 same_dir-true Inward Outward e = absurd (false≢true e)
 same_dir-true Outward Inward e = absurd (false≢true e)
 
-same_dir-refl : (a : Dir) → same_dir a a ≡ true
+pub same_dir-refl : (a : Dir) → same_dir a a ≡ true
 same_dir-refl Inward = refl
 same_dir-refl Outward = refl
 
