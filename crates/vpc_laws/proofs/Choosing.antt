@@ -49,28 +49,32 @@ best-more candidate beats order x y rows at_x rest =
           let found = rest y parts.0 in
           let b = found.0 in
           let is = found.1 in
-          let not_back : beats y b ≡ false = elim is.from [ inl same ↦ subst (λ z. beats y z ≡ false) (sym same) (beats-self beats order y) | inr over ↦ order.one_way b y over ] in
-          (b, record {
-            valid = is.valid;
-            from = inr (elim is.from [ inl same ↦ subst (λ z. beats z x ≡ true) (sym same) parts.1 | inr over ↦ chain-true beats order b y x over parts.1 ]);
-            there = λ test e. inr (elim (is.there test e) [ inl here ↦ or_left (test y) (list_any test rows) here | inr later ↦ or_right (test y) (list_any test rows) later ]);
-            unbeaten = or_from (candidate y && beats y b) (list_any (λ z. candidate z && beats z b) rows) (and_right (candidate y) (beats y b) not_back) is.unbeaten;
-          })
+          let not_back : beats y b ≡ false = elim is.from [ inl same ↦ subst (λ z. beats y z ≡ false) (sym same) (beats-self beats order y) | inr over ↦ order.one_way b y over ] in (
+            b,
+            record {
+              valid = is.valid;
+              from = inr (elim is.from [ inl same ↦ subst (λ z. beats z x ≡ true) (sym same) parts.1 | inr over ↦ chain-true beats order b y x over parts.1 ]);
+              there = λ test e. inr (elim (is.there test e) [ inl here ↦ or_left (test y) (list_any test rows) here | inr later ↦ or_right (test y) (list_any test rows) later ]);
+              unbeaten = or_from (candidate y && beats y b) (list_any (λ z. candidate z && beats z b) rows) (and_right (candidate y) (beats y b) not_back) is.unbeaten;
+            },
+          )
       | inr worse ↦
           let found = rest x at_x in
           let b = found.0 in
           let is = found.1 in
           let not_over : (candidate y && beats y b) ≡ false =
-              false_from_ne_true (candidate y && beats y b) (λ so.
-              let parts = and_parts (candidate y) (beats y b) so in
-              let over : beats y x ≡ true = elim is.from [ inl same ↦ subst (λ z. beats y z ≡ true) same parts.1 | inr above ↦ chain-true beats order y b x parts.1 above ] in
-              both_ways (candidate y && beats y x) worse (and_from (candidate y) (beats y x) parts.0 over)) in
-          (b, record {
-            valid = is.valid;
-            from = is.from;
-            there = λ test e. elim (is.there test e) [ inl here ↦ inl here | inr later ↦ inr (or_right (test y) (list_any test rows) later) ];
-            unbeaten = or_from (candidate y && beats y b) (list_any (λ z. candidate z && beats z b) rows) not_over is.unbeaten;
-          })
+          false_from_ne_true (candidate y && beats y b) (λ so.
+          let parts = and_parts (candidate y) (beats y b) so in
+          let over : beats y x ≡ true = elim is.from [ inl same ↦ subst (λ z. beats y z ≡ true) same parts.1 | inr above ↦ chain-true beats order y b x parts.1 above ] in
+          both_ways (candidate y && beats y x) worse (and_from (candidate y) (beats y x) parts.0 over)) in (
+            b,
+            record {
+              valid = is.valid;
+              from = is.from;
+              there = λ test e. elim (is.there test e) [ inl here ↦ inl here | inr later ↦ inr (or_right (test y) (list_any test rows) later) ];
+              unbeaten = or_from (candidate y && beats y b) (list_any (λ z. candidate z && beats z b) rows) not_over is.unbeaten;
+            },
+          )
     ]
 
 best-of : {X : Type 0} (candidate : X → Bool) (beats : X → X → Bool) → IsStrictWeakOrder beats → (rows : List X) (x : X) → candidate x ≡ true → (b : X) × IsBest candidate beats x rows b
@@ -129,34 +133,36 @@ chosen-some candidate beats rows order k x is at =
     let first = position-Some test rows k x is in
     let passes : test x ≡ true = subst (λ z. test z ≡ true) (get_or_from_slice_get rows k x x at) first.1 in
     let parts = and_parts (candidate x) (not (list_any (λ z. candidate z && beats z x) rows)) passes in
-    let unbeaten = not-true (list_any (λ z. candidate z && beats z x) rows) parts.1 in
-    (parts.0, λ j y at_j at_y.
-    let under : (candidate y && beats y x) ≡ false = list_any-get (λ z. candidate z && beats z x) rows j y unbeaten at_j in
-    let not_over : beats y x ≡ false = elim (and_cases (candidate y) (beats y x) under) [ inl not_so ↦ absurd (both_ways (candidate y) not_so at_y) | inr not_so ↦ not_so ] in
-    elim (cases_Bool (beats x y)) [
-      | inl over ↦ inr (inl over)
-      | inr tied ↦ elim (cases_Bool (ltb j k)) [
-        | inl before ↦
-            let fails : test y ≡ false = subst (λ z. test z ≡ false) (get_or_from_slice_get rows j y y at_j) ((position-Some test rows k y is).2 j (ltb-true j k before)) in
-            let beaten : list_any (λ z. candidate z && beats z y) rows ≡ true = elim (and_cases (candidate y) (not (list_any (λ z. candidate z && beats z y) rows)) fails) [
-              | inl not_so ↦ absurd (both_ways (candidate y) not_so at_y)
-              | inr not_so ↦ not-false (list_any (λ z. candidate z && beats z y) rows) not_so
-            ] in
-            let any = Any-from_list_any (λ z. candidate z && beats z y) rows beaten in
-            let z = any.1 in
-            let parts = and_parts (candidate z) (beats z y) any.4 in
-            let at_z : slice_get rows any.0 ≡ Some z = slice_get-get_or rows any.0 z any.2 ∙ ap Some any.3 in
-            let free = list_any-get (λ w. candidate w && beats w x) rows any.0 z unbeaten at_z in
-            let below : beats z x ≡ false = elim (and_cases (candidate z) (beats z x) free) [ inl not_so ↦ absurd (both_ways (candidate z) not_so parts.0) | inr not_so ↦ not_so ] in
-            inr (inl (beats-through beats order x y z parts.1 below))
-        | inr after ↦
-            let most = ltb-false j k after in
-            elim (cases_Bool (j == k)) [
-              | inl same ↦ inl (eqb-true j k same)
-              | inr other ↦ inr (inr (tied, not_over, grind (arith, nat_tests)))
+    let unbeaten = not-true (list_any (λ z. candidate z && beats z x) rows) parts.1 in (
+      parts.0,
+      λ j y at_j at_y.
+          let under : (candidate y && beats y x) ≡ false = list_any-get (λ z. candidate z && beats z x) rows j y unbeaten at_j in
+          let not_over : beats y x ≡ false = elim (and_cases (candidate y) (beats y x) under) [ inl not_so ↦ absurd (both_ways (candidate y) not_so at_y) | inr not_so ↦ not_so ] in
+          elim (cases_Bool (beats x y)) [
+            | inl over ↦ inr (inl over)
+            | inr tied ↦ elim (cases_Bool (ltb j k)) [
+              | inl before ↦
+                  let fails : test y ≡ false = subst (λ z. test z ≡ false) (get_or_from_slice_get rows j y y at_j) ((position-Some test rows k y is).2 j (ltb-true j k before)) in
+                  let beaten : list_any (λ z. candidate z && beats z y) rows ≡ true = elim (and_cases (candidate y) (not (list_any (λ z. candidate z && beats z y) rows)) fails) [
+                    | inl not_so ↦ absurd (both_ways (candidate y) not_so at_y)
+                    | inr not_so ↦ not-false (list_any (λ z. candidate z && beats z y) rows) not_so
+                  ] in
+                  let any = Any-from_list_any (λ z. candidate z && beats z y) rows beaten in
+                  let z = any.1 in
+                  let parts = and_parts (candidate z) (beats z y) any.4 in
+                  let at_z : slice_get rows any.0 ≡ Some z = slice_get-get_or rows any.0 z any.2 ∙ ap Some any.3 in
+                  let free = list_any-get (λ w. candidate w && beats w x) rows any.0 z unbeaten at_z in
+                  let below : beats z x ≡ false = elim (and_cases (candidate z) (beats z x) free) [ inl not_so ↦ absurd (both_ways (candidate z) not_so parts.0) | inr not_so ↦ not_so ] in
+                  inr (inl (beats-through beats order x y z parts.1 below))
+              | inr after ↦
+                  let most = ltb-false j k after in
+                  elim (cases_Bool (j == k)) [
+                    | inl same ↦ inl (eqb-true j k same)
+                    | inr other ↦ inr (inr (tied, not_over, grind (arith, nat_tests)))
+                  ]
             ]
-      ]
-    ])
+          ],
+    )
 
 chosen-in : {X : Type 0} (candidate : X → Bool) (beats : X → X → Bool) (rows : List X) (k : ℕ) → chosen_number candidate beats rows ≡ Some k → (x : X) × (slice_get rows k ≡ Some x)
 chosen-in candidate beats [] k is = absurd (none-some k is)

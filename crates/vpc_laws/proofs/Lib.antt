@@ -11,3 +11,5 @@ pub mod Sorting
 pub mod Stepping
 pub mod Passing
 pub mod Adding
+pub mod Members
+pub mod Gateways

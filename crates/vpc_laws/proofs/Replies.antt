@@ -1,8 +1,7 @@
 -- Answers at a NAT gateway.
-use Rattle.std.proofs.Common.{◌≡◌, ◌≤◌, ◌<◌, ◌==◌, ◌&&◌, Bool, true, false, List, [], ◌∷◌, ◌++◌, Option, Some, None, refl, ◌∙◌, sym, ap, arith, subst, inl, inr, ◌⊎◌, option_and_then}
-use Rattle.std.specs.List.{count_by, find, AllByRecursion, IsDistinct, Contains}
+use Rattle.std.proofs.Common.{◌≡◌, ◌≤◌, ◌<◌, ◌==◌, ◌&&◌, Bool, true, false, List, [], ◌∷◌, ◌++◌, Option, Some, None, refl, ◌∙◌, sym, ap, arith, inl, inr, option_and_then}
+use Rattle.std.specs.List.{count_by, find, IsDistinct, Contains}
 use Rattle.std.proofs.lemmas.Bool.{and_parts, and_from, eqb-true, eq-eqb, cases_Bool, both_ways, le-leb, lt-leb, true≢false}
-use Rattle.std.proofs.lemmas.List.Elements.{Contains-append_cases, Contains-push_cases}
 use Rattle.std.proofs.lemmas.Map.Keys.{IsDistinct-head, IsDistinct-tail}
 use Rattle.vpc_base.specs.Header.{reply_of, echo_reply, exchanged}
 use Rattle.vpc_base.specs.declared.headers.Label.TheVariants.{Opening}
@@ -17,6 +16,7 @@ use Rattle.vpc_model.specs.Nat.{Translation, inward, is_translatable, new_transl
 use Rattle.vpc_model.specs.Step.{step_of}
 use Rattle.vpc_model.specs.Step.Nat.{from_nat, own_address}
 use Rattle.vpc_model.specs.Step.Words.{stop}
+use Rattle.vpc_laws.proofs.Members.{AllByRecursion-at, Contains-cases}
 use Rattle.vpc_laws.proofs.Flow.{IsSame, same_header-fields}
 
 -- ---- replies
@@ -26,7 +26,7 @@ data IsReply (a r : Header) : Type 0 where
   echo : a.proto ≡ 1 → a.q ≡ 2048 → r.proto ≡ a.proto → r.src ≡ a.dst → r.p ≡ a.p → IsReply a r
   other : a.proto == 1 ≡ false → r.proto ≡ a.proto → r.src ≡ a.dst → r.p ≡ a.q → r.q ≡ a.p → IsReply a r
 
-Some-same : {X : Type 0} (x y : X) → Some x ≡ Some y → x ≡ y
+pub Some-same : {X : Type 0} (x y : X) → Some x ≡ Some y → x ≡ y
 Some-same x y e = cc
 
 reply_of-tells : (a r : Header) → reply_of a ≡ Some r → IsReply a r
@@ -67,20 +67,6 @@ same_header-refl h =
     (and_from (h.dst == h.dst) ((h.p == h.p) && (h.q == h.q)) (eq-eqb h.dst h.dst refl)
     (and_from (h.p == h.p) (h.q == h.q) (eq-eqb h.p h.p refl) (eq-eqb h.q h.q refl))))
 
--- ---- a list's items
-
-Contains-cases : {X : Type 0} (x y : X) (xs : List X) → Contains (x ∷ xs) y → (x ≡ y) ⊎ Contains xs y
-Contains-cases x y xs has =
-    elim (Contains-append_cases (x ∷ []) xs y has) [
-      | inl one ↦ elim (Contains-push_cases [] x y one) [ inl (k, below, at) ↦ absurd (omega arith) | inr same ↦ inl same ]
-      | inr later ↦ inr later
-    ]
-
-AllByRecursion-at : {X : Type 0} (P : X → Type 0) (xs : List X) (y : X) → AllByRecursion P xs → Contains xs y → P y
-AllByRecursion-at P [] y all (k, below, at) = absurd (omega arith)
-AllByRecursion-at P (x ∷ xs) y all has =
-    elim (Contains-cases x y xs has) [ inl same ↦ subst P same all.0 | inr later ↦ AllByRecursion-at P xs y all.1 later ]
-
 -- ---- answers
 
 abbrev is_answered : NatNo → Header → Translation → Bool
@@ -89,7 +75,7 @@ is_answered n h t = (t.nat.0 == n.0) && is_header h (reply_of t.after)
 answers-own : (t : Translation) (r : Header) → reply_of t.after ≡ Some r → is_answered t.nat r t ≡ true
 answers-own t r e = and_from (t.nat.0 == t.nat.0) (is_header r (reply_of t.after)) (eq-eqb t.nat.0 t.nat.0 refl) (rw e (same_header-refl r))
 
-is_header-some : (h : Header) (o : Option Header) → is_header h o ≡ true → (k : Header) × ((o ≡ Some k) × (same_header k h ≡ true))
+pub is_header-some : (h : Header) (o : Option Header) → is_header h o ≡ true → (k : Header) × ((o ≡ Some k) × (same_header k h ≡ true))
 is_header-some h None e = absurd (true≢false (sym e))
 is_header-some h (Some k) e = (k, (refl, e))
 

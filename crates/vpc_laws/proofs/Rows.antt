@@ -138,7 +138,7 @@ pub acl_rows_are_chosen : (rows : List AclRow) (dir : Dir) (h : Header)
     × (acl_verdict rows dir h ≡ verdict_of_row (option_and_then (slice_get rows) (chosen_acl_row rows dir h)))
 acl_rows_are_chosen rows dir h = (
   Chooses-as (acl_matches dir h) (YieldsTo is_before_acl) AclRowYields rows acl_row-yields (chosen_acl_row rows dir h)
-  (chooses-best (acl_matches dir h) is_before_acl rows is_before_acl-order (chosen_acl_row rows dir h) refl),
+      (chooses-best (acl_matches dir h) is_before_acl rows is_before_acl-order (chosen_acl_row rows dir h) refl),
   ap verdict_of_row (find-at_position (acl_matches dir h) is_before_acl rows),
 )
 
@@ -156,17 +156,19 @@ Contains-get xs k x e = (k, slice_get_within xs k x e, get_or_from_slice_get xs 
 longest-is : (a : ℕ) (entries : List Block) (k : Option ℕ) → Chooses (holds a) (YieldsTo is_longer) entries k → IsLongest a entries (option_map (λ (b : Block). b.length) (option_and_then (slice_get entries) k))
 longest-is a entries None none = λ b has. none has.0 b (slice_get-get_or entries has.0 b has.1 ∙ ap Some has.2)
 longest-is a entries (Some k) (x, at, holds_it, others) =
-    subst (IsLongest a entries) (sym (ap (option_map (λ (b : Block). b.length)) at))
-    ((x, Contains-get entries k x at, holds_it, refl), λ b has held.
-    let at_b : slice_get entries has.0 ≡ Some b = slice_get-get_or entries has.0 b has.1 ∙ ap Some has.2 in
-    elim (others has.0 b at_b held) [
-      | inl same ↦
-          let one : Some b ≡ Some x = sym at_b ∙ ap (slice_get entries) same ∙ at in
-          let equal : b ≡ x = cc in
-          rw equal (omega arith)
-      | inr (inl over) ↦ let less = ltb-true b.length x.length over in omega arith
-      | inr (inr (e, f, behind)) ↦ ltb-false x.length b.length f
-    ])
+    subst (IsLongest a entries) (sym (ap (option_map (λ (b : Block). b.length)) at)) (
+      (x, Contains-get entries k x at, holds_it, refl),
+      λ b has held.
+          let at_b : slice_get entries has.0 ≡ Some b = slice_get-get_or entries has.0 b has.1 ∙ ap Some has.2 in
+          elim (others has.0 b at_b held) [
+            | inl same ↦
+                let one : Some b ≡ Some x = sym at_b ∙ ap (slice_get entries) same ∙ at in
+                let equal : b ≡ x = cc in
+                rw equal (omega arith)
+            | inr (inl over) ↦ let less = ltb-true b.length x.length over in omega arith
+            | inr (inr (e, f, behind)) ↦ ltb-false x.length b.length f
+          ],
+    )
 
 pub lists_match_by_longest : (d : Description) (a : ℕ) (id : List ℕ) → IsLongest a (entries_of d id) (match_length d a (reaches.List id))
 lists_match_by_longest d a id =

@@ -129,7 +129,7 @@ pub same_dir-refl : (a : Dir) → same_dir a a ≡ true
 same_dir-refl Inward = refl
 same_dir-refl Outward = refl
 
-three : {A B C D : Type 0} (make : A → B → C → D) (a d : A) (b e : B) (c f : C) → a ≡ d → b ≡ e → c ≡ f → make a b c ≡ make d e f
+pub three : {A B C D : Type 0} (make : A → B → C → D) (a d : A) (b e : B) (c f : C) → a ≡ d → b ≡ e → c ≡ f → make a b c ≡ make d e f
 three make a d b e c f p q r = cc
 
 same_connection-true : (a b : Connection) → same_connection a b ≡ true → a ≡ b

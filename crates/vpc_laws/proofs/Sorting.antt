@@ -126,14 +126,14 @@ unbeaten-ties candidate lt order xs m at_m there least x under =
                 rw (so, beaten, over) refl
             | inr tied ↦
                 let unbeaten : list_any (λ y. candidate y && lt y x) xs ≡ false =
-                    false_from_ne_true (list_any (λ y. candidate y && lt y x) xs) (λ some.
-                    let any = Any-from_list_any (λ y. candidate y && lt y x) xs some in
-                    let z = any.1 in
-                    let parts = and_parts (candidate z) (lt z x) any.4 in
-                    let at_z : slice_get xs any.0 ≡ Some z = slice_get-get_or xs any.0 z any.2 ∙ ap Some any.3 in
-                    let free = list_any-get (λ w. candidate w && lt w m) xs any.0 z least at_z in
-                    let below : lt z m ≡ false = elim (and_cases (candidate z) (lt z m) free) [ inl never ↦ absurd (both_ways (candidate z) never parts.0) | inr never ↦ never ] in
-                    both_ways (lt m x) tied (beats-through lt order m x z parts.1 below)) in
+                false_from_ne_true (list_any (λ y. candidate y && lt y x) xs) (λ some.
+                let any = Any-from_list_any (λ y. candidate y && lt y x) xs some in
+                let z = any.1 in
+                let parts = and_parts (candidate z) (lt z x) any.4 in
+                let at_z : slice_get xs any.0 ≡ Some z = slice_get-get_or xs any.0 z any.2 ∙ ap Some any.3 in
+                let free = list_any-get (λ w. candidate w && lt w m) xs any.0 z least at_z in
+                let below : lt z m ≡ false = elim (and_cases (candidate z) (lt z m) free) [ inl never ↦ absurd (both_ways (candidate z) never parts.0) | inr never ↦ never ] in
+                both_ways (lt m x) tied (beats-through lt order m x z parts.1 below)) in
                 rw (so, unbeaten, tied, not_over) refl
           ]
     ]
@@ -148,7 +148,7 @@ find-sorted {X = X} candidate lt order xs ys same sorted stable (Some m) first =
     let passes = find-passes candidate ys m first in
     let least : list_any (λ y. candidate y && lt y m) xs ≡ false = list_any-IsPermutation (λ y. candidate y && lt y m) xs ys same ∙ first-is_least candidate lt order ys sorted m first in
     let alike = all-turned (λ x. (candidate x && lt x m) ≡ false) (λ x. is_unbeaten candidate lt xs x ≡ (ties lt m x && candidate x)) (unbeaten-ties candidate lt order xs m passes.0 there least) xs
-        (all-from_none (λ x. candidate x && lt x m) xs least) in
+    (all-from_none (λ x. candidate x && lt x m) xs least) in
     let self = beats-self lt order m in
     let tied : ties lt m m ≡ true = rw self refl in
     find-same (is_unbeaten candidate lt xs) (λ x. ties lt m x && candidate x) xs alike

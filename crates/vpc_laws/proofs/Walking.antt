@@ -210,7 +210,7 @@ left_translations_are_own d appliances label m t =
 -- ---- the translations stay in order
 
 -- the p of what comes next fits its field
-abbrev NextFits : Next → Type 0
+abbrev pub NextFits : Next → Type 0
 NextFits (go p k) = k.p < 2 ^ 16
 NextFits (arrive end) = Unit {0}
 NextFits (stop s) = Unit {0}
@@ -223,7 +223,7 @@ Flows-NextFits rewritten h (stop s) flow fits = tt
 abbrev InOrder : Next → List Hop → List Connection → List Translation → Type 0
 InOrder x hops conns nats = NextFits x × IsBook nats
 
-open-in_order : (d : Description) (appliances : Appliances) (m : Moment) → m.header.p < 2 ^ 16 → IsBook m.nats → let s = step_of d appliances Opening m in NextFits s.next × IsBook s.nats
+pub open-in_order : (d : Description) (appliances : Appliances) (m : Moment) → m.header.p < 2 ^ 16 → IsBook m.nats → let s = step_of d appliances Opening m in NextFits s.next × IsBook s.nats
 open-in_order d appliances m fits book =
     (Flows-NextFits (is_rewriting m.place) m.header (step_of d appliances Opening m).next (step_at-flow d appliances m.place m book.translations) fits, step_keeps_book d appliances Opening m fits book)
 

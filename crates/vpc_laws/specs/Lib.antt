@@ -4,3 +4,4 @@ pub mod Step
 pub mod Walk
 pub mod Equality
 pub mod Choice
+pub mod Rewriting

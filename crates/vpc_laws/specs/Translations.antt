@@ -83,3 +83,9 @@ RoomyGatewayTranslates =
     let row = nat_at d n in
     let t = new_translation nats n (own_address row.life) h in
     (s.next ≡ from_nat d n t.after) × (s.nats ≡ nats ++ t ∷ [])
+
+-- what a gateway gives back is an answer to an open that it sent out
+abbrev pub InwardAnswersOpens : Type 0
+InwardAnswersOpens =
+    (ts : List Translation) (n : NatNo) (r k : Header) → inward ts n r ≡ Some k
+    → (t : Translation) × Contains ts t × (t.nat ≡ n) × (reply_of t.after ≡ Some r) × (reply_of t.before ≡ Some k)

@@ -5,5 +5,6 @@
 pub mod choice;
 pub mod equality;
 pub mod nats;
+pub mod rewriting;
 pub mod steps;
 pub mod walks;
