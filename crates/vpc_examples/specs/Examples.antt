@@ -1,22 +1,23 @@
 -- What packets do in small networks.
-use Rattle.std.specs.Prelude.{ℕ, ◌≡◌, true, false, List, [], ◌∷◌, Some, None, codes, map}
-use Rattle.vpc_model.specs.Types.{AttNo, By, Description, Dir, EniNo, Header, Hop, Label, NatNo, Outcome, Place, SubnetNo, VpcNo}
-use Rattle.vpc_base.specs.declared.headers.Dir.TheVariants as dirs
-use Rattle.vpc_base.specs.declared.headers.Label.TheVariants as labels
-use Rattle.vpc_model.specs.declared.rows.Target.TheVariants as targets
-use Rattle.vpc_model.specs.declared.places.Came.TheVariants as from
-use Rattle.vpc_model.specs.declared.places.End.TheVariants as ends
-use Rattle.vpc_model.specs.declared.places.EnterBy.TheVariants as through
-use Rattle.vpc_model.specs.declared.places.Place.TheVariants as places
+use Rattle.std.specs.Prelude.{◌∷◌, ◌≡◌, [], List, None, Some, codes, false, map, true, ℕ}
+use Rattle.vpc_examples.specs.Types.{AttNo, By, Description, Dir, End, EniNo, Header, Hop, Label, NatNo, Outcome, Place, SubnetNo, Verdict, VpcNo}
 use Rattle.vpc_model.specs.declared.outcomes.By.TheVariants as bys
+use Rattle.vpc_base.specs.declared.headers.Dir.TheVariants as dirs
+use Rattle.vpc_model.specs.declared.places.End.TheVariants as ends
+use Rattle.vpc_model.specs.declared.places.Came.TheVariants as from
+use Rattle.vpc_base.specs.declared.headers.Label.TheVariants as labels
 use Rattle.vpc_model.specs.declared.outcomes.Outcome.TheVariants as outcomes
 use Rattle.vpc_model.specs.declared.outcomes.Phase.TheVariants as phases
-use Rattle.vpc_model.specs.declared.outcomes.Verdict.TheVariants as verdicts
+use Rattle.vpc_model.specs.declared.places.Place.TheVariants as places
 use Rattle.vpc_model.specs.declared.stops.Stop.TheVariants as stops
+use Rattle.vpc_model.specs.declared.rows.Target.TheVariants as targets
+use Rattle.vpc_model.specs.declared.places.EnterBy.TheVariants as through
+use Rattle.vpc_model.specs.declared.outcomes.Verdict.TheVariants as verdicts
+use Rattle.vpc_examples.specs.Networks.{acl_1, anywhere, behind_nat, block, equal_routes, group, high_ports_only, host_at_attachment, https_from, https_from_group, learnt_route, learnt_routes, low_ports_in, one_list, one_subnet, open_rows, peered, public_hosts, route, rows_out_of_order, shut_attachment, tcp_row, three_routes, transit, transit_loop, two_subnets, v4}
 use Rattle.vpc_model.specs.Acls.{acl_verdict}
+use Rattle.vpc_model.specs.Appliances.{appliances_of}
 use Rattle.vpc_model.specs.Connections.{Connection, is_tracked}
 use Rattle.vpc_model.specs.Nat.{Translation, new_translation}
-use Rattle.vpc_examples.specs.Networks.{v4, anywhere, block, learnt_route, route, tcp_row, https_from, https_from_group, three_routes, equal_routes, learnt_routes, one_list, rows_out_of_order, one_subnet, two_subnets, acl_1, high_ports_only, public_hosts, behind_nat, open_rows, low_ports_in, peered, transit, transit_loop, host_at_attachment, shut_attachment}
 use Rattle.vpc_model.specs.Routes.{chosen_route}
 use Rattle.vpc_model.specs.Verdict.{verdict_of}
 use Rattle.vpc_model.specs.Walk.{Walk, walk_of}
@@ -56,6 +57,10 @@ connection k dir h = record { eni = eni k; dir = dir; header = h }
 -- the walk of a packet that starts at a place, with nothing remembered
 abbrev pub first_walk : Description → Label → Place → Header → Walk
 first_walk d label p h = walk_of d (appliances_of d) label (record { place = p; header = h; conns = []; nats = [] })
+
+-- the verdict of a request, with the description's own appliances
+abbrev pub verdict_in : Description → End → End → Header → Verdict
+verdict_in d start goal h = verdict_of d (appliances_of d) start goal h
 
 -- the walk of a packet after another's
 abbrev pub walk_after : Description → Label → Walk → Place → Header → Walk
@@ -169,14 +174,14 @@ a_to_c p = tcp (v4 10 0 1 10) (v4 10 0 2 20) p 443
 
 -- a request from a member of the group that the other host's rule names gets through
 abbrev pub GetsThrough : Type 0
-GetsThrough = verdict_of (two_subnets (acl_1 ∷ [])) (ends.Interface (eni 0)) (ends.Interface (eni 1)) (a_to_c 0) ≡ verdicts.Through
+GetsThrough = verdict_in (two_subnets (acl_1 ∷ [])) (ends.Interface (eni 0)) (ends.Interface (eni 1)) (a_to_c 0) ≡ verdicts.Through
 
 -- an ACL stops the reply to a low port by its last rule, and lets that to a high port through
 abbrev pub ReplyIsStopped : Type 0
-ReplyIsStopped = verdict_of high_ports_only (ends.Interface (eni 0)) (ends.Interface (eni 1)) (a_to_c 1024) ≡ verdicts.Stopped phases.Reply (stops.AclOut (record { 0 = 1 }) 32767)
+ReplyIsStopped = verdict_in high_ports_only (ends.Interface (eni 0)) (ends.Interface (eni 1)) (a_to_c 1024) ≡ verdicts.Stopped phases.Reply (stops.AclOut (record { 0 = 1 }) 32767)
 
 abbrev pub ReplyIsAllowed : Type 0
-ReplyIsAllowed = verdict_of high_ports_only (ends.Interface (eni 0)) (ends.Interface (eni 1)) (a_to_c 32768) ≡ verdicts.Through
+ReplyIsAllowed = verdict_in high_ports_only (ends.Interface (eni 0)) (ends.Interface (eni 1)) (a_to_c 32768) ≡ verdicts.Through
 
 -- a rule that names a group counts its members' private addresses alone: a request that comes by way of the internet
 -- has a public source, and needs a rule that names it
@@ -185,8 +190,8 @@ a_to_public = tcp (v4 10 0 1 10) (v4 203 0 113 20) 0 443
 
 abbrev pub MembersArePrivate : Type 0
 MembersArePrivate =
-    (verdict_of (public_hosts (https_from_group (codes "sg-a"))) (ends.Interface (eni 0)) (ends.Interface (eni 1)) a_to_public ≡ verdicts.Stopped phases.Request (stops.GroupsIn (eni 1)))
-    × (verdict_of (public_hosts (https_from (block (v4 203 0 113 10) 32))) (ends.Interface (eni 0)) (ends.Interface (eni 1)) a_to_public ≡ verdicts.Through)
+    (verdict_in (public_hosts (https_from_group (codes "sg-a"))) (ends.Interface (eni 0)) (ends.Interface (eni 1)) a_to_public ≡ verdicts.Stopped phases.Request (stops.GroupsIn (eni 1)))
+    × (verdict_in (public_hosts (https_from (block (v4 203 0 113 10) 32))) (ends.Interface (eni 0)) (ends.Interface (eni 1)) a_to_public ≡ verdicts.Through)
 
 -- an answer to nothing is stopped by the groups
 abbrev pub StrayIsStopped : Type 0
@@ -224,7 +229,7 @@ published p = tcp (v4 203 0 113 5) (v4 198 51 100 7) p 443
 
 -- a request from port 0 leaves from port 1024, and its reply returns to port 0
 abbrev pub ReturnsThroughNat : Type 0
-ReturnsThroughNat = verdict_of (behind_nat low_ports_in) (ends.Interface (eni 0)) ends.Internet (a_to_server 0) ≡ verdicts.Through
+ReturnsThroughNat = verdict_in (behind_nat low_ports_in) (ends.Interface (eni 0)) ends.Internet (a_to_server 0) ≡ verdicts.Through
 
 abbrev pub LeavesThroughNat : Type 0
 LeavesThroughNat =
@@ -280,8 +285,8 @@ PortsAreGivenInOrder =
 -- the ACL of the gateway's subnet lets in answers to ports up to 2047
 abbrev pub AnswersMeetTheAcl : Type 0
 AnswersMeetTheAcl =
-    (verdict_of (behind_nat low_ports_in) (ends.Interface (eni 0)) ends.Internet (a_to_server 2047) ≡ verdicts.Through)
-    × (verdict_of (behind_nat low_ports_in) (ends.Interface (eni 0)) ends.Internet (a_to_server 2048) ≡ verdicts.Stopped phases.Reply (stops.AclIn (record { 0 = 1 }) 32767))
+    (verdict_in (behind_nat low_ports_in) (ends.Interface (eni 0)) ends.Internet (a_to_server 2047) ≡ verdicts.Through)
+    × (verdict_in (behind_nat low_ports_in) (ends.Interface (eni 0)) ends.Internet (a_to_server 2048) ≡ verdicts.Stopped phases.Reply (stops.AclIn (record { 0 = 1 }) 32767))
 
 -- each answer reaches the host whose port it names, and one to another port is stopped
 abbrev pub AnswersFindTheirHosts : Type 0
@@ -294,14 +299,14 @@ AnswersFindTheirHosts =
 
 -- a peering carries nothing for a third VPC
 abbrev pub PeeringIsNotTransitive : Type 0
-PeeringIsNotTransitive = verdict_of peered (ends.Interface (eni 0)) (ends.Interface (eni 2)) (tcp (v4 10 1 1 10) (v4 10 3 1 10) 5000 443) ≡ verdicts.Stopped phases.Request (stops.PeerDestination (record { 0 = 0 }))
+PeeringIsNotTransitive = verdict_in peered (ends.Interface (eni 0)) (ends.Interface (eni 2)) (tcp (v4 10 1 1 10) (v4 10 3 1 10) 5000 443) ≡ verdicts.Stopped phases.Request (stops.PeerDestination (record { 0 = 0 }))
 
 -- a transit gateway forwards between VPCs, but for what a longer route drops
 abbrev pub TransitForwards : Type 0
-TransitForwards = verdict_of transit (ends.Interface (eni 0)) (ends.Interface (eni 1)) (tcp (v4 10 1 1 10) (v4 10 2 1 10) 0 443) ≡ verdicts.Through
+TransitForwards = verdict_in transit (ends.Interface (eni 0)) (ends.Interface (eni 1)) (tcp (v4 10 1 1 10) (v4 10 2 1 10) 0 443) ≡ verdicts.Through
 
 abbrev pub TransitDrops : Type 0
-TransitDrops = verdict_of transit (ends.Interface (eni 0)) (ends.Interface (eni 2)) (tcp (v4 10 1 1 10) (v4 10 2 9 10) 0 443) ≡ verdicts.Stopped phases.Request (stops.TgwBlackhole (record { 0 = 0 }) 1)
+TransitDrops = verdict_in transit (ends.Interface (eni 0)) (ends.Interface (eni 2)) (tcp (v4 10 1 1 10) (v4 10 2 9 10) 0 443) ≡ verdicts.Stopped phases.Request (stops.TgwBlackhole (record { 0 = 0 }) 1)
 
 -- two transit tables that send everything to each other make a loop, seen at its ninth place
 abbrev pub TransitLoops : Type 0
@@ -336,4 +341,4 @@ LoopsByPlace =
 
 -- the ACL of the attachment's subnet judges what enters the gateway there, also where it comes from that very subnet
 abbrev pub AttachmentIsJudged : Type 0
-AttachmentIsJudged = verdict_of (shut_attachment (host_at_attachment transit)) (ends.Interface (eni 3)) (ends.Interface (eni 1)) (tcp (v4 10 1 3 10) (v4 10 2 1 10) 0 443) ≡ verdicts.Stopped phases.Request (stops.AclIn (record { 0 = 2 }) 32767)
+AttachmentIsJudged = verdict_in (shut_attachment (host_at_attachment transit)) (ends.Interface (eni 3)) (ends.Interface (eni 1)) (tcp (v4 10 1 3 10) (v4 10 2 1 10) 0 443) ≡ verdicts.Stopped phases.Request (stops.AclIn (record { 0 = 2 }) 32767)

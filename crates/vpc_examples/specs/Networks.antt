@@ -1,10 +1,11 @@
 -- Small networks, in which worked walks are told.
-use Rattle.std.specs.Prelude.{ℕ, ◌+◌, ◌*◌, Bool, true, false, List, [], ◌∷◌, ◌++◌, Option, Some, None, codes}
-use Rattle.vpc_model.specs.Types.{Acl, AclRow, Attachment, Block, Description, Group, Interface, Permission, Route, RouteTable, Subnet, Target, TgwRoute, Vpc}
+use Rattle.std.specs.Prelude.{◌++◌, ◌∷◌, ◌+◌, ◌*◌, [], Bool, List, None, Option, Some, codes, false, length, true, ℕ}
+use Rattle.vpc_examples.specs.Types.{Acl, AclRow, Attachment, Block, Description, Group, Interface, Permission, Route, RouteTable, Subnet, Target, TgwRoute, Vpc}
 use Rattle.vpc_model.specs.declared.rows.InterfaceKind.TheVariants as kinds
 use Rattle.vpc_model.specs.declared.rows.NatLife.TheVariants as lives
 use Rattle.vpc_model.specs.declared.rows.Reach.TheVariants as reaches
 use Rattle.vpc_model.specs.declared.rows.Target.TheVariants as targets
+use Rattle.vpc_model.specs.Nat.{inward}
 
 -- ---- addresses, rules and routes
 
@@ -69,8 +70,8 @@ main_table id vpc routes = record { id = id; vpc = vpc; main = true; subnets = [
 abbrev pub subnet_table : List ℕ → List ℕ → List ℕ → List Route → RouteTable
 subnet_table id vpc subnet routes = record { id = id; vpc = vpc; main = false; subnets = subnet ∷ []; routes = routes }
 
-abbrev pub subnet : List ℕ → List ℕ → List ℕ → Subnet
-subnet id vpc zone = record { id = id; vpc = vpc; zone = zone }
+abbrev pub subnet_row : List ℕ → List ℕ → List ℕ → Subnet
+subnet_row id vpc zone = record { id = id; vpc = vpc; zone = zone }
 
 -- an interface with one address, maybe a public one, and one group
 abbrev pub host_with : List ℕ → List ℕ → ℕ → Option ℕ → List ℕ → Interface
@@ -130,7 +131,7 @@ local_1 = route (block (v4 10 0 0 0) 16) targets.Local
 
 -- one subnet with two hosts, 10.0.1.10 and 10.0.1.20
 abbrev pub one_subnet : Description
-one_subnet = record (bare (vpc_1 ∷ []) (subnet (codes "subnet-a") (codes "vpc-1") (codes "z") ∷ [])) {
+one_subnet = record (bare (vpc_1 ∷ []) (subnet_row (codes "subnet-a") (codes "vpc-1") (codes "z") ∷ [])) {
   interfaces = host (codes "eni-a") (codes "subnet-a") (v4 10 0 1 10) (codes "sg-a") ∷ host (codes "eni-b") (codes "subnet-a") (v4 10 0 1 20) (codes "sg-b") ∷ [];
   tables = main_table (codes "rtb-1") (codes "vpc-1") (local_1 ∷ []) ∷ [];
   groups = group (codes "sg-a") (codes "vpc-1") [] (allow_all ∷ []) ∷ group (codes "sg-b") (codes "vpc-1") (https_from (block (v4 10 0 1 0) 24) ∷ []) [] ∷ [];
@@ -142,7 +143,7 @@ acl_1 = acl (codes "acl-1") (codes "subnet-a" ∷ codes "subnet-b" ∷ []) open_
 
 -- two subnets with a host each, 10.0.1.10 and 10.0.2.20; the second's group lets in HTTPS from the members of the first's
 abbrev pub two_subnets : List Acl → Description
-two_subnets acls = record (bare (vpc_1 ∷ []) (subnet (codes "subnet-a") (codes "vpc-1") (codes "us-east-1a") ∷ subnet (codes "subnet-b") (codes "vpc-1") (codes "us-east-1a") ∷ [])) {
+two_subnets acls = record (bare (vpc_1 ∷ []) (subnet_row (codes "subnet-a") (codes "vpc-1") (codes "us-east-1a") ∷ subnet_row (codes "subnet-b") (codes "vpc-1") (codes "us-east-1a") ∷ [])) {
   interfaces = host (codes "eni-a") (codes "subnet-a") (v4 10 0 1 10) (codes "sg-a") ∷ host (codes "eni-b") (codes "subnet-b") (v4 10 0 2 20) (codes "sg-b") ∷ [];
   tables = main_table (codes "rtb-1") (codes "vpc-1") (local_1 ∷ []) ∷ [];
   acls = acls;
@@ -169,7 +170,7 @@ eni_n = record { id = codes "eni-n"; subnet = codes "subnet-n"; primary = Some (
 
 -- two hosts in subnets of their own behind a NAT gateway in a third subnet; acl-n, with these rows, is that one's
 abbrev pub behind_nat : List AclRow → Description
-behind_nat rows = record (bare (vpc_1 ∷ []) (subnet (codes "subnet-a") (codes "vpc-1") (codes "us-east-1a") ∷ subnet (codes "subnet-b") (codes "vpc-1") (codes "us-east-1a") ∷ subnet (codes "subnet-n") (codes "vpc-1") (codes "us-east-1a") ∷ [])) {
+behind_nat rows = record (bare (vpc_1 ∷ []) (subnet_row (codes "subnet-a") (codes "vpc-1") (codes "us-east-1a") ∷ subnet_row (codes "subnet-b") (codes "vpc-1") (codes "us-east-1a") ∷ subnet_row (codes "subnet-n") (codes "vpc-1") (codes "us-east-1a") ∷ [])) {
   interfaces = host (codes "eni-a") (codes "subnet-a") (v4 10 0 1 10) (codes "sg-a") ∷ host (codes "eni-b") (codes "subnet-b") (v4 10 0 2 20) (codes "sg-b") ∷ eni_n ∷ [];
   tables = main_table (codes "rtb-1") (codes "vpc-1") (local_1 ∷ route anywhere (targets.Nat (codes "nat-1")) ∷ [])
       ∷ subnet_table (codes "rtb-n") (codes "vpc-1") (codes "subnet-n") (local_1 ∷ route anywhere (targets.Internet (codes "igw-1")) ∷ []) ∷ [];
@@ -189,7 +190,7 @@ abbrev pub site_vpc : List ℕ → ℕ → Vpc
 site_vpc c n = record { id = codes "vpc-" ++ c; blocks = block (v4 10 n 0 0) 16 ∷ [] }
 
 abbrev pub site_subnet : List ℕ → Subnet
-site_subnet c = subnet (codes "subnet-" ++ c) (codes "vpc-" ++ c) (codes "z")
+site_subnet c = subnet_row (codes "subnet-" ++ c) (codes "vpc-" ++ c) (codes "z")
 
 abbrev pub site_host : List ℕ → ℕ → Interface
 site_host c n = host (codes "eni-" ++ c) (codes "subnet-" ++ c) (v4 10 n 1 10) (codes "sg-" ++ c)
@@ -219,7 +220,7 @@ abbrev pub site_attachment : List ℕ → Attachment
 site_attachment c = record { id = codes "att-" ++ c; gateway = codes "tgw-1"; vpc = codes "vpc-" ++ c; subnets = (codes "subnet-t" ++ c) ∷ [] }
 
 abbrev pub transit_subnet : List ℕ → Subnet
-transit_subnet c = subnet (codes "subnet-t" ++ c) (codes "vpc-" ++ c) (codes "z")
+transit_subnet c = subnet_row (codes "subnet-t" ++ c) (codes "vpc-" ++ c) (codes "z")
 
 -- two VPCs at a transit gateway, which routes what comes from each by a table of its own; a second host of the second is 10.2.9.10
 abbrev pub attached : List TgwRoute → List TgwRoute → Description

@@ -1,12 +1,12 @@
 -- What is printed of packets in small networks.
-use Rattle.std.specs.Prelude.{ℕ, ◌≡◌, ◌++◌, List, [], ◌∷◌, codes}
-use Rattle.vpc_model.specs.Types.{Description}
+use Rattle.std.specs.Prelude.{◌++◌, ◌∷◌, ◌≡◌, [], List, codes, ℕ}
+use Rattle.vpc_examples.specs.Types.{Description}
+use Rattle.vpc_model.specs.declared.stops.Foreign.TheVariants as foreign
 use Rattle.vpc_base.specs.declared.headers.Label.TheVariants as labels
 use Rattle.vpc_model.specs.declared.places.Place.TheVariants as places
-use Rattle.vpc_model.specs.declared.stops.Foreign.TheVariants as foreign
 use Rattle.vpc_model.specs.declared.stops.Stop.TheVariants as stops
 use Rattle.vpc_examples.specs.Examples.{a_to_c, a_to_server, att, eni, first_walk, from_server, subnet, tcp, walk_after}
-use Rattle.vpc_examples.specs.Networks.{v4, acl_1, behind_nat, high_ports_only, low_ports_in, peered, transit, transit_loop, two_subnets}
+use Rattle.vpc_examples.specs.Networks.{acl_1, behind_nat, high_ports_only, low_ports_in, peered, transit, transit_loop, two_subnets, v4}
 use Rattle.vpc_model.specs.Text.{stop_text, walk_text}
 use Rattle.vpc_model.specs.Walk.{Walk}
 

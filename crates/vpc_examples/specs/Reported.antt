@@ -1,13 +1,15 @@
 -- What is printed of queries in small networks.
-use Rattle.std.specs.Prelude.{ℕ, ◌≡◌, [], ◌∷◌, Some, None, codes}
-use Rattle.vpc_model.specs.Types.{Box5, End}
+use Rattle.std.specs.Prelude.{◌∷◌, ◌≡◌, [], List, None, Option, Some, codes, option_map, ℕ}
+use Rattle.vpc_examples.specs.Types.{Box5, Description, End, Verdict}
 use Rattle.vpc_model.specs.declared.places.End.TheVariants as ends
-use Rattle.vpc_examples.specs.Examples.{a_to_c, eni, tcp}
-use Rattle.vpc_examples.specs.Networks.{v4, acl_1, high_ports_only, two_subnets}
+use Rattle.vpc_model.specs.declared.stops.StopName.TheVariants as names
+use Rattle.vpc_model.specs.declared.outcomes.Phase.TheVariants as phases
+use Rattle.vpc_examples.specs.Examples.{a_to_c, eni, tcp, verdict_in}
+use Rattle.vpc_examples.specs.Networks.{acl_1, high_ports_only, two_subnets, v4}
 use Rattle.vpc_examples.specs.Printed.{lines}
-use Rattle.vpc_model.specs.Report.{ending_text}
+use Rattle.vpc_model.specs.Report.{ending_of}
 use Rattle.vpc_model.specs.ReportText.{more_text, reachable_text, report_text}
-use Rattle.vpc_model.specs.Verdict.{verdict_of}
+use Rattle.vpc_model.specs.Text.{told_text}
 
 -- TCP from eni-a to eni-b, from these source ports to these ports
 abbrev pub a_to_b : ℕ × ℕ → ℕ × ℕ → Box5
@@ -22,7 +24,7 @@ to_b = ends.Interface (eni 1)
 -- a request that arrives and whose reply returns
 abbrev pub PrintsReachable : Type 0
 PrintsReachable =
-    reachable_text (two_subnets (acl_1 ∷ [])) from_a to_b (a_to_c 0)
+    reachable_text (two_subnets (acl_1 ∷ [])) [] from_a to_b (a_to_c 0)
     ≡ lines (codes "reachable"
     ∷ codes "packet tcp 10.0.1.10 10.0.2.20 0 443"
     ∷ codes "request"
@@ -37,19 +39,23 @@ PrintsReachable =
     ∷ codes "arrived eni-a"
     ∷ [])
 
+-- what is printed of a verdict
+abbrev pub ending_told : Description → Verdict → Option (List ℕ)
+ending_told d v = option_map told_text (ending_of d v)
+
 -- a request to a port that no rule opens, and a reply to a port that the ACL closes
 abbrev pub StopsAreTold : Type 0
 StopsAreTold =
-    (ending_text (two_subnets (acl_1 ∷ [])) (verdict_of (two_subnets (acl_1 ∷ [])) from_a to_b (tcp (v4 10 0 1 10) (v4 10 0 2 20) 0 80))
+    (ending_told (two_subnets (acl_1 ∷ [])) (verdict_in (two_subnets (acl_1 ∷ [])) from_a to_b (tcp (v4 10 0 1 10) (v4 10 0 2 20) 0 80))
     ≡ Some (codes "request GroupsIn eni-b -"))
-    × (ending_text high_ports_only (verdict_of high_ports_only from_a to_b (a_to_c 1023))
+    × (ending_told high_ports_only (verdict_in high_ports_only from_a to_b (a_to_c 1023))
     ≡ Some (codes "reply AclOut acl-b 32767"))
-    × (ending_text (two_subnets (acl_1 ∷ [])) (verdict_of (two_subnets (acl_1 ∷ [])) from_a to_b (a_to_c 0)) ≡ None)
+    × (ending_told (two_subnets (acl_1 ∷ [])) (verdict_in (two_subnets (acl_1 ∷ [])) from_a to_b (a_to_c 0)) ≡ None)
 
 -- a report of one row
 abbrev pub PrintsReport : Type 0
 PrintsReport =
-    report_text (two_subnets (acl_1 ∷ [])) from_a to_b (a_to_b (0, 65535) (80, 80)) (record { text = codes "request GroupsIn eni-b -"; part = a_to_b (0, 65535) (80, 80) } ∷ [])
+    report_text (two_subnets (acl_1 ∷ [])) from_a to_b (a_to_b (0, 65535) (80, 80)) (record { word = record { phase = phases.Request; name = names.GroupsIn; id = codes "eni-b"; rule = codes "-" }; part = a_to_b (0, 65535) (80, 80) } ∷ [])
     ≡ lines (codes "vpc-report 1"
     ∷ codes "query from eni-a to eni-b"
     ∷ codes "box 6-6 10.0.1.10-10.0.1.10 10.0.2.20-10.0.2.20 0-65535 80-80"
@@ -61,8 +67,8 @@ PrintsReport =
 abbrev pub PrintsMore : Type 0
 PrintsMore =
     more_text (two_subnets (acl_1 ∷ [])) from_a to_b (a_to_b (5000, 5000) (0, 65535))
-    (record { text = codes "request GroupsIn eni-b -"; part = a_to_b (5000, 5000) (0, 21) }
-    ∷ record { text = codes "request AclIn acl-1 80"; part = a_to_b (5000, 5000) (22, 22) }
+    (record { word = record { phase = phases.Request; name = names.GroupsIn; id = codes "eni-b"; rule = codes "-" }; part = a_to_b (5000, 5000) (0, 21) }
+    ∷ record { word = record { phase = phases.Request; name = names.AclIn; id = codes "acl-1"; rule = codes "80" }; part = a_to_b (5000, 5000) (22, 22) }
     ∷ []) (tcp (v4 10 0 1 10) (v4 10 0 2 20) 5000 23) 7
     ≡ lines (codes "more boxes"
     ∷ codes "query from eni-a to eni-b"

@@ -1,26 +1,25 @@
 -- Where packets are stopped in small networks: each stop at least once.
-use Rattle.std.specs.Prelude.{ℕ, ◌≡◌, ◌+◌, true, false, List, [], ◌∷◌, Option, Some, None, codes, map, length}
-use Rattle.vpc_model.specs.Types.{Description, Header, Interface, NatLife, Outcome, Peering, Route, RuleRef, SubnetNo}
-use Rattle.vpc_base.specs.declared.headers.Dir.TheVariants as dirs
-use Rattle.vpc_base.specs.declared.headers.Label.TheVariants as labels
-use Rattle.vpc_model.specs.declared.places.End.TheVariants as ends
-use Rattle.vpc_model.specs.declared.places.Came.TheVariants as from
-use Rattle.vpc_model.specs.declared.places.Place.TheVariants as places
+use Rattle.std.specs.Prelude.{◌∷◌, ◌≡◌, ◌+◌, [], List, None, Option, Some, codes, false, length, map, true, ℕ}
+use Rattle.vpc_examples.specs.Types.{Description, Header, Interface, NatLife, Outcome, Peering, Route, RuleRef, SubnetNo}
 use Rattle.vpc_model.specs.declared.outcomes.By.TheVariants as bys
+use Rattle.vpc_base.specs.declared.headers.Dir.TheVariants as dirs
+use Rattle.vpc_model.specs.declared.places.End.TheVariants as ends
+use Rattle.vpc_model.specs.declared.stops.Foreign.TheVariants as foreign
+use Rattle.vpc_model.specs.declared.places.Came.TheVariants as from
+use Rattle.vpc_base.specs.declared.headers.Label.TheVariants as labels
+use Rattle.vpc_model.specs.declared.rows.NatLife.TheVariants as lives
 use Rattle.vpc_model.specs.declared.outcomes.Outcome.TheVariants as outcomes
 use Rattle.vpc_model.specs.declared.outcomes.Phase.TheVariants as phases
-use Rattle.vpc_model.specs.declared.outcomes.Verdict.TheVariants as verdicts
-use Rattle.vpc_model.specs.declared.rows.NatLife.TheVariants as lives
-use Rattle.vpc_model.specs.declared.rows.Target.TheVariants as targets
-use Rattle.vpc_model.specs.declared.stops.Foreign.TheVariants as foreign
+use Rattle.vpc_model.specs.declared.places.Place.TheVariants as places
 use Rattle.vpc_model.specs.declared.stops.Stop.TheVariants as stops
-use Rattle.vpc_examples.specs.Examples.{hop, hop_by, a_to_c, a_to_server, att, eni, first_walk, from_server, nat, outcome_of, subnet, tcp, vpc}
-use Rattle.vpc_examples.specs.Networks.{v4, allow_row, host_with, block, acl, acl_1, allow_all, anywhere, attached, bare, behind_nat, eni_n, gone_route, group, host, https_from, https_from_group, local_1, main_table, open_rows, peered, public_hosts, route, site_group, site_host, site_subnet, tcp_row, tgw_route, transit, transit_subnet, two_subnets}
+use Rattle.vpc_model.specs.declared.rows.Target.TheVariants as targets
+use Rattle.vpc_model.specs.declared.outcomes.Verdict.TheVariants as verdicts
+use Rattle.vpc_examples.specs.Examples.{a_to_c, a_to_server, att, eni, first_walk, from_server, hop, hop_by, nat, outcome_of, subnet, tcp, verdict_in, vpc}
+use Rattle.vpc_examples.specs.Networks.{acl, acl_1, allow_all, allow_row, anywhere, attached, bare, behind_nat, block, eni_n, gone_route, group, host, host_with, https_from, https_from_group, local_1, main_table, open_rows, peered, public_hosts, route, site_group, site_host, site_subnet, tcp_row, tgw_route, transit, transit_subnet, two_subnets, v4}
 use Rattle.vpc_model.specs.Groups.{first_rule}
 use Rattle.vpc_model.specs.Internet.{is_unroutable}
 use Rattle.vpc_model.specs.Lookup.{interface_at}
 use Rattle.vpc_model.specs.Transit.{attachment_for, chosen_tgw_route, leave_subnet}
-use Rattle.vpc_model.specs.Verdict.{verdict_of}
 
 -- where a first packet from the first host, or from the internet, ends
 abbrev pub open_from_a : Description → Header → Outcome
@@ -280,10 +279,10 @@ StaticRouteIsChosen =
 -- a request that arrives elsewhere, a reply that arrives elsewhere, and a request that has no reply
 abbrev pub ChecksReturns : Type 0
 ChecksReturns =
-    (verdict_of published ends.Internet (ends.Interface (eni 0)) (tcp (v4 198 51 100 7) (v4 203 0 113 11) 0 22) ≡ verdicts.Stopped phases.Request (stops.WrongPlace ends.Internet))
-    × ((verdict_of (record published { groups = group (codes "sg-a") (codes "vpc-1") (allow_all ∷ []) [] ∷ group (codes "sg-b") (codes "vpc-1") (https_from anywhere ∷ []) [] ∷ [] }) ends.Internet (ends.Interface (eni 0)) (tcp (v4 203 0 113 20) (v4 203 0 113 10) 443 22) ≡ verdicts.Stopped phases.Reply (stops.WrongReturn (ends.Interface (eni 1))))
-    × ((verdict_of (record plain_vpc { groups = group (codes "sg-a") (codes "vpc-1") [] (allow_all ∷ []) ∷ group (codes "sg-b") (codes "vpc-1") (allow_all ∷ []) [] ∷ [] }) (ends.Interface (eni 0)) (ends.Interface (eni 1)) (record { proto = 1; src = v4 10 0 1 10; dst = v4 10 0 2 20; p = 0; q = 0 }) ≡ verdicts.Stopped phases.Reply (stops.NoReply (ends.Interface (eni 1))))
-    × (verdict_of (record plain_vpc { groups = group (codes "sg-a") (codes "vpc-1") [] (allow_all ∷ []) ∷ group (codes "sg-b") (codes "vpc-1") (allow_all ∷ []) [] ∷ [] }) (ends.Interface (eni 0)) (ends.Interface (eni 1)) (record { proto = 1; src = v4 10 0 1 10; dst = v4 10 0 2 20; p = 0; q = 2048 }) ≡ verdicts.Through)))
+    (verdict_in published ends.Internet (ends.Interface (eni 0)) (tcp (v4 198 51 100 7) (v4 203 0 113 11) 0 22) ≡ verdicts.Stopped phases.Request (stops.WrongPlace ends.Internet))
+    × ((verdict_in (record published { groups = group (codes "sg-a") (codes "vpc-1") (allow_all ∷ []) [] ∷ group (codes "sg-b") (codes "vpc-1") (https_from anywhere ∷ []) [] ∷ [] }) ends.Internet (ends.Interface (eni 0)) (tcp (v4 203 0 113 20) (v4 203 0 113 10) 443 22) ≡ verdicts.Stopped phases.Reply (stops.WrongReturn (ends.Interface (eni 1))))
+    × ((verdict_in (record plain_vpc { groups = group (codes "sg-a") (codes "vpc-1") [] (allow_all ∷ []) ∷ group (codes "sg-b") (codes "vpc-1") (allow_all ∷ []) [] ∷ [] }) (ends.Interface (eni 0)) (ends.Interface (eni 1)) (record { proto = 1; src = v4 10 0 1 10; dst = v4 10 0 2 20; p = 0; q = 0 }) ≡ verdicts.Stopped phases.Reply (stops.NoReply (ends.Interface (eni 1))))
+    × (verdict_in (record plain_vpc { groups = group (codes "sg-a") (codes "vpc-1") [] (allow_all ∷ []) ∷ group (codes "sg-b") (codes "vpc-1") (allow_all ∷ []) [] ∷ [] }) (ends.Interface (eni 0)) (ends.Interface (eni 1)) (record { proto = 1; src = v4 10 0 1 10; dst = v4 10 0 2 20; p = 0; q = 2048 }) ≡ verdicts.Through)))
 
 -- a host whose check is off sends from its own public address inside the VPC; the reply comes back to it by way of the internet,
 -- and so from another address to another
@@ -294,7 +293,7 @@ ChecksReturnedHeader =
           ∷ host_with (codes "eni-b") (codes "subnet-b") (v4 10 0 2 20) (Some (v4 203 0 113 20)) (codes "sg-b") ∷ [];
       groups = group (codes "sg-a") (codes "vpc-1") (allow_all ∷ []) (allow_all ∷ []) ∷ group (codes "sg-b") (codes "vpc-1") (https_from anywhere ∷ []) [] ∷ [];
     } in
-    verdict_of d (ends.Interface (eni 0)) (ends.Interface (eni 1)) (tcp (v4 203 0 113 10) (v4 10 0 2 20) 5000 443) ≡ verdicts.Stopped phases.Reply (stops.WrongReturn (ends.Interface (eni 0)))
+    verdict_in d (ends.Interface (eni 0)) (ends.Interface (eni 1)) (tcp (v4 203 0 113 10) (v4 10 0 2 20) 5000 443) ≡ verdicts.Stopped phases.Reply (stops.WrongReturn (ends.Interface (eni 0)))
 
 -- ---- long walks
 

@@ -23,3 +23,4 @@ pub mod Sound
 pub mod Text
 pub mod Report
 pub mod ReportText
+pub mod Same

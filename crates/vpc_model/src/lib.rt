@@ -9,6 +9,7 @@ mod outcomes;
 mod places;
 mod refusals;
 mod rows;
+mod same;
 mod stop_texts;
 mod stops;
 #[cfg(test)]
@@ -26,5 +27,6 @@ pub use rows::{
     InterfaceKind, InternetGateway, NatGateway, NatLife, Peering, Permission, PrefixList, Reach,
     Route, RouteTable, Subnet, Target, TgwRoute, TgwTable, Vpc,
 };
+pub use same::{same_stop, same_verdict};
 pub use stop_texts::StopText;
 pub use stops::{Foreign, Stop, StopName};
