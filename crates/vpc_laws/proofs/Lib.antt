@@ -13,3 +13,4 @@ pub mod Passing
 pub mod Adding
 pub mod Members
 pub mod Gateways
+pub mod Accepting

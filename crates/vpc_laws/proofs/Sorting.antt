@@ -66,7 +66,7 @@ all-from_none : {X : Type 0} (p : X → Bool) (xs : List X) → list_any p xs �
 all-from_none p [] none = tt
 all-from_none p (x ∷ xs) none = let parts = or_parts (p x) (list_any p xs) none in (parts.0, all-from_none p xs parts.1)
 
-all-turned : {X : Type 0} (P Q : X → Type 0) → ((x : X) → P x → Q x) → (xs : List X) → AllByRecursion P xs → AllByRecursion Q xs
+pub all-turned : {X : Type 0} (P Q : X → Type 0) → ((x : X) → P x → Q x) → (xs : List X) → AllByRecursion P xs → AllByRecursion Q xs
 all-turned P Q turn [] all = tt
 all-turned P Q turn (x ∷ xs) all = (turn x all.0, all-turned P Q turn xs all.1)
 

@@ -5,3 +5,4 @@ pub mod Walk
 pub mod Equality
 pub mod Choice
 pub mod Rewriting
+pub mod Accepted
