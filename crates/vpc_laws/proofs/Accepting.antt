@@ -1,13 +1,12 @@
 -- An accepted description has no fault: nothing that its rows name is missing, and nothing stands twice.
-use Rattle.std.proofs.Common.{◌≡◌, ℕ, ◌+◌, ◌<◌, ◌≤◌, ◌==◌, ◌&&◌, ◌||◌, Bool, List, [], ◌∷◌, ◌++◌, ap, arith, cond, false, inl, inr, length, map, refl, subst, sym, true, ◌∙◌}
+use Rattle.std.proofs.Common.{◌≡◌, ℕ, ◌<◌, ◌==◌, ◌&&◌, ◌||◌, Bool, List, [], ◌∷◌, ◌++◌, cond, false, inl, inr, map, refl, subst, sym, true, ◌∙◌}
 use Rattle.std.specs.List.{AllByRecursion, Contains, IsDistinct, count_by, filter, flat_map, list_any}
 use Rattle.std.specs.Str.{bytes_eq}
-use Rattle.std.proofs.lemmas.Bool.{and_parts, both_ways, cases_Bool, eq-eqb, eqb-true, leb-false, false≢true, or_from, or_parts}
+use Rattle.std.proofs.lemmas.Bool.{and_parts, cases_Bool, eq-eqb, eqb-true, leb-false, false≢true, or_parts}
 use Rattle.std.proofs.lemmas.List.Folds.{list_any-append}
 use Rattle.std.proofs.lemmas.Slice.Eq.{bytes_eq-Decides}
-use Rattle.vpc_laws.specs.Types.{Acl, Appliance, Attachment, Description, Group, Interface, InternetGateway, NatGateway, NatLife, Permission, Reach, Refusal, Route, RouteTable, Subnet, Target, Vpc}
+use Rattle.vpc_laws.specs.Types.{Acl, Appliance, Attachment, Description, Group, Interface, InternetGateway, NatGateway, NatLife, Permission, Route, RouteTable, Subnet, Target, Vpc}
 use Rattle.vpc_model.specs.declared.rows.NatLife.TheVariants as lives
-use Rattle.vpc_model.specs.declared.rows.Reach.TheVariants as reaches
 use Rattle.vpc_model.specs.declared.rows.Target.TheVariants as targets
 use Rattle.vpc_model.specs.declared.refusals.Refusal.TheVariants as refusals
 use Rattle.vpc_model.specs.Accepted.{IsAccepted, duplicate_addresses, duplicate_ids, duplicate_publics, holds_twice, ids_by_list, is_interface_in, is_main_of, is_side, is_subnet_of, is_table_of, missing_of_acl, missing_of_appliance, missing_of_attachment, missing_of_group, missing_of_igw, missing_of_interface, missing_of_life, missing_of_reach, missing_of_route, missing_of_subnet, missing_of_table, missing_of_target, missing_references, private_addresses, public_addresses, repeats, repeats_after, same_address, serves_vpc, too_many_rows, two_acls, two_gateways, two_tables, wanted, without_acl, without_table}
@@ -180,9 +179,10 @@ unfolding IsDistinct
 repeats_after-none same flips earlier [] e = (tt, tt)
 repeats_after-none same flips earlier (x ∷ xs) e =
     let here = none-earlier same earlier x (repeats_after same (earlier ++ x ∷ []) xs) e in
-    let rest = repeats_after-none same flips (earlier ++ x ∷ []) xs here.1 in
-    ((here.0, all-turned (λ y. list_any (same y) (earlier ++ x ∷ []) ≡ false) (λ y. list_any (same y) earlier ≡ false) (λ y new. (list_any-push (same y) earlier x new).0) xs rest.0),
-    (all-turned (λ y. list_any (same y) (earlier ++ x ∷ []) ≡ false) (λ y. same x y ≡ false) (λ y new. flips x y ∙ (list_any-push (same y) earlier x new).1) xs rest.0, rest.1))
+    let rest = repeats_after-none same flips (earlier ++ x ∷ []) xs here.1 in (
+      (here.0, all-turned (λ y. list_any (same y) (earlier ++ x ∷ []) ≡ false) (λ y. list_any (same y) earlier ≡ false) (λ y new. (list_any-push (same y) earlier x new).0) xs rest.0),
+      (all-turned (λ y. list_any (same y) (earlier ++ x ∷ []) ≡ false) (λ y. same x y ≡ false) (λ y new. flips x y ∙ (list_any-push (same y) earlier x new).1) xs rest.0, rest.1),
+    )
 
 repeats-none : {X : Type 0} (same : X → X → Bool) → ((x y : X) → same x y ≡ same y x) → (xs : List X) → repeats same xs ≡ [] → IsDistinct same xs
 repeats-none same flips xs e = (repeats_after-none same flips [] xs e).1

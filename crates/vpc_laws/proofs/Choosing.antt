@@ -100,7 +100,7 @@ unbeaten-exists candidate beats order rows j y at_j at_y =
 abbrev pub YieldsTo : {X : Type 0} → (X → X → Bool) → ℕ → X → ℕ → X → Type 0
 YieldsTo beats j y k x = (beats x y ≡ true) ⊎ ((beats x y ≡ false) × (beats y x ≡ false) × (k < j))
 
-position-None : {X : Type 0} (test : X → Bool) (xs : List X) (j : ℕ) (y : X) → position test xs ≡ None → slice_get xs j ≡ Some y → test y ≡ false
+pub position-None : {X : Type 0} (test : X → Bool) (xs : List X) (j : ℕ) (y : X) → position test xs ≡ None → slice_get xs j ≡ Some y → test y ≡ false
 position-None test xs j y e at =
     let inside = slice_get_within xs j y at in
     elim (cases_Bool (ltb (position_or_len test xs) (length xs))) [

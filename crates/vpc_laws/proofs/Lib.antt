@@ -14,3 +14,6 @@ pub mod Adding
 pub mod Members
 pub mod Gateways
 pub mod Accepting
+pub mod Numbering
+pub mod Sounding
+pub mod Telling

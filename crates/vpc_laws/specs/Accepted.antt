@@ -1,13 +1,13 @@
 -- What holds of accepted descriptions.
-use Rattle.std.specs.Prelude.{◌≡◌, ◌<◌, ◌==◌, ◌++◌, [], Contains, List, Option, Some, bytes_eq, count_by, false, true, ℕ}
+use Rattle.std.specs.Prelude.{◌≡◌, ◌<◌, ◌==◌, ◌++◌, [], Contains, List, bytes_eq, count_by, false, true, ℕ}
 use Rattle.std.specs.List.{AllByRecursion, IsDistinct}
-use Rattle.vpc_laws.specs.Types.{Acl, Appliance, AttNo, Attachment, Description, EniNo, Group, GroupNo, IgwNo, Interface, InternetGateway, NatGateway, NatNo, PeerNo, Permission, Route, RouteTable, Subnet, SubnetNo, Target, TgwTableNo, Vpc, VpcNo}
+use Rattle.vpc_laws.specs.Types.{Acl, Appliance, Attachment, Description, EniNo, Group, IgwNo, Interface, InternetGateway, NatGateway, NatNo, PeerNo, Permission, Route, RouteTable, Subnet, SubnetNo, Target, Vpc, VpcNo}
 use Rattle.vpc_model.specs.declared.rows.NatLife.TheVariants as lives
 use Rattle.vpc_model.specs.declared.rows.Reach.TheVariants as reaches
 use Rattle.vpc_model.specs.declared.rows.Target.TheVariants as targets
 use Rattle.vpc_model.specs.Accepted.{IsAccepted, duplicate_addresses, duplicate_ids, duplicate_publics, ids_by_list, is_interface_in, is_main_of, is_side, is_subnet_of, is_table_of, missing_references, private_addresses, public_addresses, same_address, serves_vpc, too_many_rows, two_acls, two_gateways, two_tables, without_acl, without_table}
-use Rattle.vpc_model.specs.Lookup.{acl_of, attachment_at, attachment_of_id, eni_no, group_at, group_of_id, has_address, has_group, has_igw, has_interface, has_list, has_nat, has_peering, has_subnet, has_vpc, igw_at, igw_no, interface_at, is_listed, nat_at, nat_no, peer_no, peering_at, subnet_at, subnet_no, subnet_of, table_at, table_of, tgw_table_at, tgw_table_of_id, vpc_at, vpc_no, vpc_of_subnet}
-use Rattle.vpc_model.specs.Sound.{is_acl, is_attachment, is_eni, is_group, is_igw, is_nat, is_peering, is_subnet, is_table, is_tgw_table, is_vpc}
+use Rattle.vpc_model.specs.Lookup.{acl_of, eni_no, has_address, has_group, has_igw, has_interface, has_list, has_nat, has_peering, has_subnet, has_vpc, igw_at, igw_no, interface_at, is_listed, nat_at, nat_no, peer_no, peering_at, subnet_at, subnet_no, subnet_of, table_at, table_of, vpc_at, vpc_no, vpc_of_subnet}
+use Rattle.vpc_model.specs.Sound.{is_acl, is_eni, is_igw, is_nat, is_peering, is_subnet, is_table, is_vpc}
 
 -- ---- no refusals
 

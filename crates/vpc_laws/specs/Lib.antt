@@ -6,3 +6,4 @@ pub mod Equality
 pub mod Choice
 pub mod Rewriting
 pub mod Accepted
+pub mod Sound

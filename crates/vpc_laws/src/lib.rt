@@ -7,5 +7,6 @@ pub mod choice;
 pub mod equality;
 pub mod nats;
 pub mod rewriting;
+pub mod sound;
 pub mod steps;
 pub mod walks;
