@@ -42,9 +42,13 @@ ids_by_list d =
     ∷ map (λ a. a.id) d.appliances
     ∷ []
 
+-- an id stands twice in a list of ids
+abbrev pub duplicates_in : List (List ℕ) → List Refusal
+duplicates_in ids = map refusals.DuplicateId (repeats bytes_eq ids)
+
 -- two rows of one list have one id
 abbrev pub duplicate_ids : Description → List Refusal
-duplicate_ids d = map refusals.DuplicateId (flat_map (repeats bytes_eq) (ids_by_list d))
+duplicate_ids d = flat_map duplicates_in (ids_by_list d)
 
 -- ---- references
 

@@ -1,5 +1,10 @@
 // Why a description is refused.
+ghost use Rattle.std.specs.Prelude.{◌≡◌};
+ghost use Rattle.vpc_model.specs.declared.refusals.Refusal.TheVariants.{Memory};
+
 use crate::Id;
+use std::alloc::{AllocError, AllocFailed};
+use vpc_base::NoMemory;
 
 /// The lists of a bundle from which rows are kept, in the order in which they are read.
 /// `PrefixLists` stands for `PrefixListEntries` too.
@@ -46,4 +51,28 @@ pub enum Refusal {
     TooManyRows(ListName),
     /// Memory was refused.
     Memory,
+}
+
+impl From<NoMemory> for Refusal {
+    ghost from_gives = { λ _ r. r ≡ Memory };
+
+    fn from(_error: NoMemory) -> Refusal {
+        Refusal::Memory
+    }
+}
+
+impl From<AllocError> for Refusal {
+    ghost from_gives = { λ _ r. r ≡ Memory };
+
+    fn from(_error: AllocError) -> Refusal {
+        Refusal::Memory
+    }
+}
+
+impl<T: Drop> From<AllocFailed<T>> for Refusal {
+    ghost from_gives = { λ _ r. r ≡ Memory };
+
+    fn from(_error: AllocFailed<T>) -> Refusal {
+        Refusal::Memory
+    }
 }
