@@ -9,7 +9,7 @@ use Rattle.vpc_laws.specs.Types.{Acl, Appliance, Attachment, Description, Group,
 use Rattle.vpc_model.specs.declared.rows.NatLife.TheVariants as lives
 use Rattle.vpc_model.specs.declared.rows.Target.TheVariants as targets
 use Rattle.vpc_model.specs.declared.refusals.Refusal.TheVariants as refusals
-use Rattle.vpc_model.specs.Accepted.{IsAccepted, duplicate_addresses, duplicate_ids, duplicate_publics, holds_twice, ids_by_list, is_interface_in, is_main_of, is_side, is_subnet_of, is_table_of, missing_of_acl, missing_of_appliance, missing_of_attachment, missing_of_group, missing_of_igw, missing_of_interface, missing_of_life, missing_of_reach, missing_of_route, missing_of_subnet, missing_of_table, missing_of_target, missing_references, private_addresses, public_addresses, repeats, repeats_after, same_address, serves_vpc, too_many_rows, two_acls, two_gateways, two_tables, wanted, without_acl, without_table}
+use Rattle.vpc_model.specs.Accepted.{IsAccepted, duplicate_addresses, duplicate_ids, duplicate_publics, duplicates_in, holds_twice, ids_by_list, is_interface_in, is_main_of, is_side, is_subnet_of, is_table_of, missing_of_acl, missing_of_appliance, missing_of_attachment, missing_of_group, missing_of_igw, missing_of_interface, missing_of_life, missing_of_reach, missing_of_route, missing_of_subnet, missing_of_table, missing_of_target, missing_references, private_addresses, public_addresses, repeats, repeats_after, same_address, serves_vpc, too_many_rows, two_acls, two_gateways, two_tables, wanted, without_acl, without_table}
 use Rattle.vpc_model.specs.Lookup.{eni_no, has_group, has_igw, has_interface, has_list, has_nat, has_peering, has_subnet, has_vpc, interface_at, is_listed, nat_at, nat_no, peer_no, peering_at}
 use Rattle.vpc_laws.specs.Accepted.{HasAllNamed, HasNothingTwice, HasTarget, IsFaultless}
 use Rattle.vpc_laws.proofs.Sorting.{all-turned}
@@ -208,11 +208,11 @@ two-flips a b c d e f = cc
 same_address-flips : (a b : List ℕ × ℕ) → same_address a b ≡ same_address b a
 same_address-flips a b = two-flips (bytes_eq a.0 b.0) (a.1 == b.1) (bytes_eq b.0 a.0) (b.1 == a.1) (bytes_eq-flips a.0 b.0) (eqb-flips a.1 b.1)
 
-distinct-lists : (lists : List (List (List ℕ))) → flat_map (repeats bytes_eq) lists ≡ [] → AllByRecursion (IsDistinct bytes_eq) lists
+distinct-lists : (lists : List (List (List ℕ))) → flat_map duplicates_in lists ≡ [] → AllByRecursion (IsDistinct bytes_eq) lists
 distinct-lists [] e = tt
 distinct-lists (ids ∷ lists) e =
-    let parts = append-nothing (repeats bytes_eq ids) (flat_map (repeats bytes_eq) lists) e in
-    (repeats-none bytes_eq bytes_eq-flips ids parts.0, distinct-lists lists parts.1)
+    let parts = append-nothing (duplicates_in ids) (flat_map duplicates_in lists) e in
+    (repeats-none bytes_eq bytes_eq-flips ids (map-nothing refusals.DuplicateId (repeats bytes_eq ids) parts.0), distinct-lists lists parts.1)
 
 once : {X : Type 0} (test : X → Bool) (rows : List X) → holds_twice test rows ≡ false → count_by test rows < 2
 once test rows e = leb-false 2 (count_by test rows) e
@@ -224,7 +224,7 @@ accepted_has_nothing_twice d accepted =
     let subnets = filter (λ (s : Subnet). holds_twice (is_table_of s.id) d.tables) d.subnets in
     let tables = append-nothing (map (λ (v : Vpc). refusals.TwoTables v.id) vpcs) (map (λ (s : Subnet). refusals.TwoTables s.id) subnets) faultless.one_table in
     record {
-      ids = distinct-lists (ids_by_list d) (map-nothing refusals.DuplicateId (flat_map (repeats bytes_eq) (ids_by_list d)) faultless.ids);
+      ids = distinct-lists (ids_by_list d) faultless.ids;
       addresses = repeats-none same_address same_address-flips (private_addresses d)
           (map-nothing (λ (a : List ℕ × ℕ). refusals.DuplicateAddress a.0 a.1) (repeats same_address (private_addresses d)) faultless.addresses);
       publics = repeats-none (λ a b. a == b) eqb-flips (public_addresses d) (map-nothing refusals.DuplicatePublic (repeats (λ a b. a == b) (public_addresses d)) faultless.publics);

@@ -1,7 +1,7 @@
 -- What holds of accepted descriptions.
-use Rattle.std.specs.Prelude.{◌≡◌, ◌<◌, ◌==◌, ◌++◌, [], Contains, List, bytes_eq, count_by, false, true, ℕ}
+use Rattle.std.specs.Prelude.{◌≡◌, ◌<◌, ◌≤◌, ◌==◌, ◌++◌, [], Contains, List, bytes_eq, count_by, false, length, true, ℕ}
 use Rattle.std.specs.List.{AllByRecursion, IsDistinct}
-use Rattle.vpc_laws.specs.Types.{Acl, Appliance, Attachment, Description, EniNo, Group, IgwNo, Interface, InternetGateway, NatGateway, NatNo, PeerNo, Permission, Route, RouteTable, Subnet, SubnetNo, Target, Vpc, VpcNo}
+use Rattle.vpc_laws.specs.Types.{Acl, Appliance, Attachment, Description, EniNo, Group, IgwNo, Interface, InternetGateway, NatGateway, NatNo, PeerNo, Permission, PrefixList, Route, RouteTable, Subnet, SubnetNo, Target, TgwTable, Vpc, VpcNo}
 use Rattle.vpc_model.specs.declared.rows.NatLife.TheVariants as lives
 use Rattle.vpc_model.specs.declared.rows.Reach.TheVariants as reaches
 use Rattle.vpc_model.specs.declared.rows.Target.TheVariants as targets
@@ -120,3 +120,44 @@ NatAddressesAreInterfaces =
     → let row = nat_at d n in row.life ≡ lives.Live subnet eni address
     → let i = eni_no d eni in let e = interface_at d i in
     (is_eni d i ≡ true) × (e.id ≡ eni) × (e.subnet ≡ subnet) × (has_address e address ≡ true) × (is_subnet d (subnet_no d subnet) ≡ true)
+
+-- ---- the length of lists
+
+-- a list that numbers of 32 bits can count
+abbrev pub IsShort : {X : Type 0} → List X → Type 0
+IsShort rows = length rows ≤ 100000
+
+-- the lists of a description are short, and so are those inside their rows
+pub record HasShortLists (d : Description) : Type 0 where
+  pub vpcs : IsShort d.vpcs
+  pub blocks_of_vpc : (v : Vpc) → Contains d.vpcs v → IsShort v.blocks
+  pub subnets : IsShort d.subnets
+  pub interfaces : IsShort d.interfaces
+  pub addresses_of_interface : (e : Interface) → Contains d.interfaces e → IsShort e.addresses
+  pub groups_of_interface : (e : Interface) → Contains d.interfaces e → IsShort e.groups
+  pub tables : IsShort d.tables
+  pub subnets_of_table : (t : RouteTable) → Contains d.tables t → IsShort t.subnets
+  pub routes_of_table : (t : RouteTable) → Contains d.tables t → IsShort t.routes
+  pub lists : IsShort d.lists
+  pub entries_of_list : (l : PrefixList) → Contains d.lists l → IsShort l.entries
+  pub acls : IsShort d.acls
+  pub subnets_of_acl : (a : Acl) → Contains d.acls a → IsShort a.subnets
+  pub rows_of_acl : (a : Acl) → Contains d.acls a → IsShort a.rows
+  pub groups : IsShort d.groups
+  pub inward_of_group : (g : Group) → Contains d.groups g → IsShort g.inward
+  pub outward_of_group : (g : Group) → Contains d.groups g → IsShort g.outward
+  pub named_by_rule : (g : Group) (p : Permission) → Contains d.groups g → Contains (g.inward ++ g.outward) p
+      → IsShort p.blocks × IsShort p.lists × IsShort p.groups
+  pub igws : IsShort d.igws
+  pub vpcs_of_gateway : (g : InternetGateway) → Contains d.igws g → IsShort g.vpcs
+  pub nats : IsShort d.nats
+  pub peerings : IsShort d.peerings
+  pub attachments : IsShort d.attachments
+  pub subnets_of_attachment : (a : Attachment) → Contains d.attachments a → IsShort a.subnets
+  pub associations : IsShort d.associations
+  pub tgw_tables : IsShort d.tgw_tables
+  pub routes_of_tgw_table : (t : TgwTable) → Contains d.tgw_tables t → IsShort t.routes
+  pub appliances : IsShort d.appliances
+
+abbrev pub AcceptedHasShortLists : Type 0
+AcceptedHasShortLists = (d : Description) → IsAccepted d → HasShortLists d

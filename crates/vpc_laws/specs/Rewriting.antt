@@ -5,10 +5,12 @@ use Rattle.vpc_laws.specs.Types.{Description, Header, Interface, Label, NatNo, V
 use Rattle.vpc_base.specs.declared.headers.Label.TheVariants as labels
 use Rattle.vpc_model.specs.declared.places.Place.TheVariants as places
 use Rattle.vpc_base.specs.Header.{reply_of}
+use Rattle.vpc_model.specs.Accepted.{IsAccepted}
 use Rattle.vpc_model.specs.Appliances.{Appliances}
 use Rattle.vpc_model.specs.Internet.{private_of}
-use Rattle.vpc_model.specs.Lookup.{is_in_vpc, nat_at}
+use Rattle.vpc_model.specs.Lookup.{has_address, is_in_vpc, nat_at}
 use Rattle.vpc_model.specs.Nat.{Translation}
+use Rattle.vpc_model.specs.Sound.{is_sound}
 use Rattle.vpc_model.specs.Step.{step_of}
 use Rattle.vpc_model.specs.Step.Nat.{own_address}
 use Rattle.vpc_model.specs.Step.Words.{Moment, Next, arrive, go, stop}
@@ -84,6 +86,14 @@ abbrev pub WalkGivesOwnAddresses : Type 0
 WalkGivesOwnAddresses =
     (d : Description) (appliances : Appliances) (label : Label) (m : Moment) → AllByRecursion (IsToOwn d) m.nats
     → let w = walk_of d appliances label m in AllByRecursion (IsToOwn d) w.nats
+
+-- in an accepted description that is an address of an interface
+abbrev pub NatSourcesAreInterfaces : Type 0
+NatSourcesAreInterfaces =
+    (d : Description) (appliances : Appliances) (label : Label) (m : Moment) (n : NatNo) → IsAccepted d → is_sound d (places.NatOut n) ≡ true
+    → m.place ≡ places.NatOut n → AllByRecursion (IsToOwn d) m.nats
+    → let s = step_of d appliances label m in
+    IfGoes s.next (λ k. (e : Interface) × Contains d.interfaces e × (has_address e k.src ≡ true))
 
 -- an answer to what a translation sent out becomes one to the open before it: its destination and q, of ICMP its p, are the source
 -- and p of that open, and nothing else changes
