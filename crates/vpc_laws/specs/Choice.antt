@@ -8,7 +8,7 @@ use Rattle.vpc_model.specs.declared.rows.Reach.TheVariants as reaches
 use Rattle.vpc_model.specs.Acls.{acl_matches, acl_verdict, verdict_of_row}
 use Rattle.vpc_model.specs.Choice.{chosen_number}
 use Rattle.vpc_model.specs.Lookup.{entries_of}
-use Rattle.vpc_model.specs.Routes.{chosen_route, is_candidate, kind_of, match_length}
+use Rattle.vpc_model.specs.Routes.{chosen_route, is_candidate, kind_of, match_length, matches}
 use Rattle.vpc_model.specs.Transit.{chosen_tgw_route}
 
 -- ---- choices among any rows
@@ -41,6 +41,12 @@ abbrev pub RoutesAreChosen : Type 0
 RoutesAreChosen =
     (d : Description) (routes : List Route) (a : ℕ)
     → Chooses (is_candidate d routes a) (RouteYields d a) routes (chosen_route d routes a)
+
+-- so none is chosen only where none matches: a local route that keeps propagated ones back is a candidate itself
+abbrev pub UnroutedMatchNothing : Type 0
+UnroutedMatchNothing =
+    (d : Description) (routes : List Route) (a : ℕ) → chosen_route d routes a ≡ None
+    → (j : ℕ) (r : Route) → slice_get routes j ≡ Some r → matches d a r ≡ false
 
 -- the length of an entry that holds the address, where every other one that does is as long or shorter;
 -- none where no entry does
