@@ -9,7 +9,7 @@ use Rattle.vpc_laws.specs.Types.{Acl, Appliance, Attachment, Description, Group,
 use Rattle.vpc_model.specs.declared.rows.NatLife.TheVariants as lives
 use Rattle.vpc_model.specs.declared.rows.Target.TheVariants as targets
 use Rattle.vpc_model.specs.declared.refusals.Refusal.TheVariants as refusals
-use Rattle.vpc_model.specs.Accepted.{IsAccepted, duplicate_addresses, duplicate_ids, duplicate_publics, holds_twice, ids_by_list, is_interface_in, is_main_of, is_side, is_subnet_of, is_table_of, missing_of_acl, missing_of_appliance, missing_of_attachment, missing_of_group, missing_of_igw, missing_of_interface, missing_of_life, missing_of_reach, missing_of_route, missing_of_subnet, missing_of_table, missing_of_target, missing_references, private_addresses, public_addresses, repeats, repeats_after, same_address, serves_vpc, too_many_rows, two_acls, two_gateways, two_tables, wanted, without_acl, without_table, duplicates_in}
+use Rattle.vpc_model.specs.Accepted.{IsAccepted, duplicate_addresses, duplicate_ids, duplicate_publics, duplicates_in, holds_twice, ids_by_list, is_interface_in, is_main_of, is_side, is_subnet_of, is_table_of, missing_of_acl, missing_of_appliance, missing_of_attachment, missing_of_group, missing_of_igw, missing_of_interface, missing_of_life, missing_of_reach, missing_of_route, missing_of_subnet, missing_of_table, missing_of_target, missing_references, private_addresses, public_addresses, repeats, repeats_after, same_address, serves_vpc, too_many_rows, two_acls, two_gateways, two_tables, wanted, without_acl, without_table}
 use Rattle.vpc_model.specs.Lookup.{eni_no, has_group, has_igw, has_interface, has_list, has_nat, has_peering, has_subnet, has_vpc, interface_at, is_listed, nat_at, nat_no, peer_no, peering_at}
 use Rattle.vpc_laws.specs.Accepted.{HasAllNamed, HasNothingTwice, HasTarget, IsFaultless}
 use Rattle.vpc_laws.proofs.Sorting.{all-turned}

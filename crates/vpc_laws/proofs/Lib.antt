@@ -17,3 +17,5 @@ pub mod Accepting
 pub mod Numbering
 pub mod Sounding
 pub mod Telling
+pub mod Lengths
+pub mod Sources

@@ -1,19 +1,19 @@
 -- What route tables, transit gateway tables, prefix lists and ACLs choose.
 use Rattle.std.proofs.Common.{◌≡◌, ℕ, ◌<◌, ◌≤◌, ◌==◌, ◌&&◌, ◌||◌, ◌⊎◌, Bool, List, None, Option, Some, ap, arith, false, inl, inr, length, ltb, not, refl, subst, sym, true, ◌∙◌, option_and_then, option_map}
-use Rattle.std.specs.List.{Contains, position_or_len, slice_get}
+use Rattle.std.specs.List.{Contains, list_any, position_or_len, slice_get}
 use Rattle.std.specs.Cmp.{IsStrictWeakOrder}
-use Rattle.std.proofs.lemmas.Bool.{cases_Bool, ltb-false, ltb-true}
+use Rattle.std.proofs.lemmas.Bool.{and_cases, and_from, and_left, and_parts, and_right, both_ways, cases_Bool, ltb-false, ltb-true, not-false, not_from_false, not_from_true}
 use Rattle.std.proofs.lemmas.Bool.Decides.{nat_tests}
-use Rattle.std.proofs.lemmas.List.Folds.{find_at}
+use Rattle.std.proofs.lemmas.List.Folds.{Any-from_list_any, find_at}
 use Rattle.std.proofs.lemmas.List.MinMax.{IsStrictWeakOrder-by_number, IsStrictWeakOrder-flip}
-use Rattle.std.proofs.lemmas.Option.{get_or_from_slice_get, slice_get-get_or, slice_get_past, slice_get_within}
+use Rattle.std.proofs.lemmas.Option.{get_or_from_slice_get, none-some, slice_get-get_or, slice_get_past, slice_get_within}
 use Rattle.prefix_text.specs.Block.{holds}
 use Rattle.vpc_laws.specs.Types.{AclRow, Block, Description, Dir, Header, Route, TgwRoute}
 use Rattle.vpc_model.specs.declared.rows.Reach.TheVariants as reaches
 use Rattle.vpc_model.specs.Acls.{acl_matches, acl_verdict, verdict_of_row}
 use Rattle.vpc_model.specs.Choice.{chosen, chosen_number, is_unbeaten}
 use Rattle.vpc_model.specs.Lookup.{entries_of}
-use Rattle.vpc_model.specs.Routes.{beats, chosen_route, is_candidate, kind_of, match_length}
+use Rattle.vpc_model.specs.Routes.{beats, chosen_route, is_candidate, is_local, kind_of, match_length, matches}
 use Rattle.vpc_model.specs.Transit.{beats_tgw, chosen_tgw_route}
 use Rattle.vpc_laws.specs.Choice.{AclRowYields, Chooses, IsLongest, RouteYields, TgwRouteYields, chosen_acl_row, length_of}
 use Rattle.vpc_laws.proofs.Choosing.{Chooses-as, YieldsTo, chooses-best}
@@ -53,6 +53,34 @@ pub routes_are_chosen : (d : Description) (routes : List Route) (a : ℕ) → Ch
 routes_are_chosen d routes a =
     Chooses-as (is_candidate d routes a) (YieldsTo (beats d a)) (RouteYields d a) routes (route-yields d a) (chosen_route d routes a)
     (chooses-best (is_candidate d routes a) (beats d a) routes (beats-order d a) (chosen_route d routes a) refl)
+
+-- a local route that matches is a candidate
+local-candidate : (d : Description) (routes : List Route) (a : ℕ) (l : Route) → (is_local l.target && matches d a l) ≡ true → is_candidate d routes a l ≡ true
+local-candidate d routes a l e =
+    let parts = and_parts (is_local l.target) (matches d a l) e in
+    let others = list_any (λ (k : Route). is_local k.target && matches d a k) routes in
+    let kept : ((l.propagated && not (is_local l.target)) && others) ≡ false =
+    and_left (l.propagated && not (is_local l.target)) others (and_right l.propagated (not (is_local l.target)) (not_from_true (is_local l.target) parts.0)) in
+    and_from (matches d a l) (not ((l.propagated && not (is_local l.target)) && others)) parts.1 (not_from_false ((l.propagated && not (is_local l.target)) && others) kept)
+
+unchosen : (d : Description) (routes : List Route) (a : ℕ) (o : Option ℕ) → Chooses (is_candidate d routes a) (RouteYields d a) routes o → o ≡ None → (j : ℕ) (r : Route) → slice_get routes j ≡ Some r → is_candidate d routes a r ≡ false
+unchosen d routes a None none e = none
+unchosen d routes a (Some k) is e = absurd (none-some k (sym e))
+
+pub unrouted_match_nothing : (d : Description) (routes : List Route) (a : ℕ) → chosen_route d routes a ≡ None → (j : ℕ) (r : Route) → slice_get routes j ≡ Some r → matches d a r ≡ false
+unrouted_match_nothing d routes a e j r at =
+    let none = unchosen d routes a (chosen_route d routes a) (routes_are_chosen d routes a) e in
+    let local : Route → Bool = λ (k : Route). is_local k.target && matches d a k in
+    let held = (r.propagated && not (is_local r.target)) && list_any local routes in
+    elim (and_cases (matches d a r) (not held) (none j r at)) [
+      | inl fails ↦ fails
+      | inr back ↦
+          let some = and_parts (r.propagated && not (is_local r.target)) (list_any local routes) (not-false held back) in
+          let any = Any-from_list_any local routes some.1 in
+          let l = any.1 in
+          let at_l : slice_get routes any.0 ≡ Some l = slice_get-get_or routes any.0 l any.2 ∙ ap Some any.3 in
+          absurd (both_ways (is_candidate d routes a l) (none any.0 l at_l) (local-candidate d routes a l any.4))
+    ]
 
 -- ---- transit routes
 

@@ -8,7 +8,7 @@ use Rattle.vpc_model.specs.declared.rows.Reach.TheVariants as reaches
 use Rattle.vpc_model.specs.Acls.{acl_matches, acl_verdict, verdict_of_row}
 use Rattle.vpc_model.specs.Choice.{chosen_number}
 use Rattle.vpc_model.specs.Lookup.{entries_of}
-use Rattle.vpc_model.specs.Routes.{chosen_route, is_candidate, kind_of, match_length}
+use Rattle.vpc_model.specs.Routes.{chosen_route, is_candidate, kind_of, match_length, matches}
 use Rattle.vpc_model.specs.Transit.{chosen_tgw_route}
 
 -- ---- choices among any rows
@@ -42,7 +42,14 @@ RoutesAreChosen =
     (d : Description) (routes : List Route) (a : ℕ)
     → Chooses (is_candidate d routes a) (RouteYields d a) routes (chosen_route d routes a)
 
--- the length of an entry that holds the address, where every other one that does is as long or shorter; none where no entry does
+-- so none is chosen only where none matches: a local route that keeps propagated ones back is a candidate itself
+abbrev pub UnroutedMatchNothing : Type 0
+UnroutedMatchNothing =
+    (d : Description) (routes : List Route) (a : ℕ) → chosen_route d routes a ≡ None
+    → (j : ℕ) (r : Route) → slice_get routes j ≡ Some r → matches d a r ≡ false
+
+-- the length of an entry that holds the address, where every other one that does is as long or shorter;
+-- none where no entry does
 abbrev pub IsLongest : ℕ → List Block → Option ℕ → Type 0
 IsLongest a entries None = (b : Block) → Contains entries b → holds a b ≡ false
 IsLongest a entries (Some n) =
@@ -52,7 +59,8 @@ IsLongest a entries (Some n) =
 -- a prefix list matches by the longest of its entries
 abbrev pub ListsMatchByLongest : Type 0
 ListsMatchByLongest =
-    (d : Description) (a : ℕ) (id : List ℕ) → IsLongest a (entries_of d id) (match_length d a (reaches.List id))
+    (d : Description) (a : ℕ) (id : List ℕ)
+    → IsLongest a (entries_of d id) (match_length d a (reaches.List id))
 
 -- ---- transit routes
 
@@ -63,10 +71,12 @@ TgwRouteYields j s k r =
     ⊎ ((s.block.length ≡ r.block.length)
     × (((r.propagated ≡ false) × (s.propagated ≡ true)) ⊎ ((s.propagated ≡ r.propagated) × (k < j))))
 
--- a transit gateway table chooses, of the routes whose block holds the address, the one to which every other yields
+-- a transit gateway table chooses, of the routes whose block holds the address, the one to which every
+-- other yields
 abbrev pub TgwRoutesAreChosen : Type 0
 TgwRoutesAreChosen =
-    (routes : List TgwRoute) (a : ℕ) → Chooses (λ r. holds a r.block) TgwRouteYields routes (chosen_tgw_route routes a)
+    (routes : List TgwRoute) (a : ℕ)
+    → Chooses (λ r. holds a r.block) TgwRouteYields routes (chosen_tgw_route routes a)
 
 -- ---- ACL rows
 
@@ -85,9 +95,11 @@ AclRowsAreChosen =
     → Chooses (acl_matches dir h) AclRowYields rows (chosen_acl_row rows dir h)
     × (acl_verdict rows dir h ≡ verdict_of_row (option_and_then (slice_get rows) (chosen_acl_row rows dir h)))
 
--- and that of the first row that matches, once the rows are sorted by number, rows of one number in the order in which they stood
+-- and that of the first row that matches, once the rows are sorted by number, rows of one number in the
+-- order in which they stood
 abbrev pub AclRowsMayBeSorted : Type 0
 AclRowsMayBeSorted =
     (rows sorted : List AclRow) (dir : Dir) (h : Header)
-    → IsPermutation rows sorted → IsSortedByKey (λ r. r.number) nat_cmp sorted → IsStableByKey (λ r. r.number) nat_cmp rows sorted
+    → IsPermutation rows sorted → IsSortedByKey (λ r. r.number) nat_cmp sorted
+    → IsStableByKey (λ r. r.number) nat_cmp rows sorted
     → acl_verdict rows dir h ≡ verdict_of_row (find (acl_matches dir h) sorted)

@@ -21,7 +21,8 @@ LeadsWell d (stop s) = has_text d s ≡ true
 -- from a sound place a step leads well, by a rule that is there if by one
 abbrev pub StepsAreSound : Type 0
 StepsAreSound =
-    (d : Description) (appliances : Appliances) (label : Label) (m : Moment) → IsAccepted d → is_sound d m.place ≡ true
+    (d : Description) (appliances : Appliances) (label : Label) (m : Moment) → IsAccepted d
+    → is_sound d m.place ≡ true
     → let s = step_of d appliances label m in LeadsWell d s.next × (has_rule d s.by ≡ true)
 
 -- a described end, or a stop that has a text
@@ -36,7 +37,8 @@ IsSoundHop d h = (is_sound d h.place ≡ true) × (has_rule d h.by ≡ true)
 -- from a sound place a walk goes by sound places and rules that are there, and ends well
 abbrev pub WalksAreSound : Type 0
 WalksAreSound =
-    (d : Description) (appliances : Appliances) (label : Label) (m : Moment) → IsAccepted d → is_sound d m.place ≡ true
+    (d : Description) (appliances : Appliances) (label : Label) (m : Moment) → IsAccepted d
+    → is_sound d m.place ≡ true
     → let w = walk_of d appliances label m in AllByRecursion (IsSoundHop d) w.hops × EndsWell d w.outcome
 
 -- a request gets through, or its stop has a text
@@ -47,5 +49,6 @@ IsTold d (verdicts.Stopped phase s) = has_text d s ≡ true
 -- between described ends
 abbrev pub VerdictsAreTold : Type 0
 VerdictsAreTold =
-    (d : Description) (appliances : Appliances) (start goal : End) (h : Header) → IsAccepted d → is_end d start ≡ true → is_end d goal ≡ true
+    (d : Description) (appliances : Appliances) (start goal : End) (h : Header) → IsAccepted d
+    → is_end d start ≡ true → is_end d goal ≡ true
     → IsTold d (verdict_of d appliances start goal h)

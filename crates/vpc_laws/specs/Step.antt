@@ -32,12 +32,14 @@ own_connection _ h = None
 -- the connections after a packet's step: those before it, or one more, that of an open at its place
 abbrev pub AddsOwn : Label → Place → Header → List Connection → List Connection → Type 0
 AddsOwn label p h before after =
-    (after ≡ before) ⊎ ((c : Connection) × ((label ≡ labels.Opening) × ((own_connection p h ≡ Some c) × (after ≡ before ++ c ∷ []))))
+    (after ≡ before)
+    ⊎ ((c : Connection) × ((label ≡ labels.Opening) × ((own_connection p h ≡ Some c) × (after ≡ before ++ c ∷ []))))
 
 -- the translations after a packet's step: those before it, or one more, of an open at that NAT gateway
 abbrev pub AddsTranslation : Label → Place → Header → List Translation → List Translation → Type 0
 AddsTranslation label p h before after =
-    (after ≡ before) ⊎ ((t : Translation) × ((label ≡ labels.Opening) × ((p ≡ places.NatOut t.nat) × ((t.before ≡ h) × (after ≡ before ++ t ∷ [])))))
+    (after ≡ before)
+    ⊎ ((t : Translation) × ((label ≡ labels.Opening) × ((p ≡ places.NatOut t.nat) × ((t.before ≡ h) × (after ≡ before ++ t ∷ [])))))
 
 -- a header of the same protocol and q comes next, if one does
 abbrev pub KeepsFlow : Header → Next → Type 0
@@ -78,39 +80,56 @@ is_rewriting _ = false
 
 -- an open keeps its protocol and q
 abbrev pub OpenKeepsFlow : Type 0
-OpenKeepsFlow = (d : Description) (appliances : Appliances) (m : Moment) → AllByRecursion IsTranslation m.nats → let s = step_of d appliances labels.Opening m in KeepsFlow m.header s.next
+OpenKeepsFlow =
+    (d : Description) (appliances : Appliances) (m : Moment) → AllByRecursion IsTranslation m.nats
+    → let s = step_of d appliances labels.Opening m in KeepsFlow m.header s.next
 
 -- headers are rewritten at internet gateways and NAT gateways alone
 abbrev pub HeaderStays : Type 0
-HeaderStays = (d : Description) (appliances : Appliances) (label : Label) (m : Moment) → is_rewriting m.place ≡ false → let s = step_of d appliances label m in SendsSame m.header s.next
+HeaderStays =
+    (d : Description) (appliances : Appliances) (label : Label) (m : Moment)
+    → is_rewriting m.place ≡ false → let s = step_of d appliances label m in SendsSame m.header s.next
 
 -- a step adds at most the connection of an open at its place, also where it then stops or arrives
 abbrev pub StepAddsOwn : Type 0
-StepAddsOwn = (d : Description) (appliances : Appliances) (label : Label) (m : Moment) → let s = step_of d appliances label m in AddsOwn label m.place m.header m.conns s.conns
+StepAddsOwn =
+    (d : Description) (appliances : Appliances) (label : Label) (m : Moment)
+    → let s = step_of d appliances label m in AddsOwn label m.place m.header m.conns s.conns
 
 -- so connections change at OutOf and Into alone
 abbrev pub ConnectionsChangeAtInterfaces : Type 0
-ConnectionsChangeAtInterfaces = (d : Description) (appliances : Appliances) (label : Label) (m : Moment) → own_connection m.place m.header ≡ None → let s = step_of d appliances label m in s.conns ≡ m.conns
+ConnectionsChangeAtInterfaces =
+    (d : Description) (appliances : Appliances) (label : Label) (m : Moment)
+    → own_connection m.place m.header ≡ None → let s = step_of d appliances label m in s.conns ≡ m.conns
 
 -- a step adds at most a translation of an open at a NAT gateway
 abbrev pub StepAddsTranslation : Type 0
-StepAddsTranslation = (d : Description) (appliances : Appliances) (label : Label) (m : Moment) → let s = step_of d appliances label m in AddsTranslation label m.place m.header m.nats s.nats
+StepAddsTranslation =
+    (d : Description) (appliances : Appliances) (label : Label) (m : Moment)
+    → let s = step_of d appliances label m in AddsTranslation label m.place m.header m.nats s.nats
 
 -- so connections and translations only grow
 abbrev pub StepKeeps : Type 0
-StepKeeps = (d : Description) (appliances : Appliances) (label : Label) (m : Moment) → let s = step_of d appliances label m in Begins m.conns s.conns × Begins m.nats s.nats
+StepKeeps =
+    (d : Description) (appliances : Appliances) (label : Label) (m : Moment)
+    → let s = step_of d appliances label m in Begins m.conns s.conns × Begins m.nats s.nats
 
 -- and an answer adds none
 abbrev pub AnswerAddsNothing : Type 0
-AnswerAddsNothing = (d : Description) (appliances : Appliances) (m : Moment) → let s = step_of d appliances labels.Answer m in (s.conns ≡ m.conns) × (s.nats ≡ m.nats)
+AnswerAddsNothing =
+    (d : Description) (appliances : Appliances) (m : Moment)
+    → let s = step_of d appliances labels.Answer m in (s.conns ≡ m.conns) × (s.nats ≡ m.nats)
 
 -- no step stops a packet by a loop, by length, at a wrong end or without a reply
 abbrev pub StepsStopThemselves : Type 0
-StepsStopThemselves = (d : Description) (appliances : Appliances) (label : Label) (m : Moment) → let s = step_of d appliances label m in StopsItself s.next
+StepsStopThemselves =
+    (d : Description) (appliances : Appliances) (label : Label) (m : Moment)
+    → let s = step_of d appliances label m in StopsItself s.next
 
 -- ---- laws of security groups
 
--- what is remembered after an interface, by what the packet passed its groups: where an open passed by a rule, its connection too
+-- what is remembered after an interface, by what the packet passed its groups: where an open passed by
+-- a rule, its connection too
 abbrev pub remembered : Label → By → Option Connection → List Connection → List Connection
 remembered labels.Answer by own conns = conns
 remembered labels.Opening bys.Nothing own conns = conns
@@ -123,15 +142,19 @@ remembered labels.Opening (bys.Rule r) (Some c) conns = added conns c
 abbrev pub RulesAreRemembered : Type 0
 RulesAreRemembered =
     (d : Description) (appliances : Appliances) (label : Label) (m : Moment)
-    → let s = step_of d appliances label m in s.conns ≡ remembered label s.by (own_connection m.place m.header) m.conns
+    → let s = step_of d appliances label m in
+    s.conns ≡ remembered label s.by (own_connection m.place m.header) m.conns
 
--- what lets a packet pass the groups of an interface: that it has none, that an answer is tracked, or else the first rule
+-- what lets a packet pass the groups of an interface: that it has none, that an answer is tracked, or
+-- else the first rule
 abbrev pub LetsPass : Description → Label → List Connection → Connection → By → Type 0
 LetsPass d label conns c bys.Nothing = Unit {0}
 LetsPass d label conns c bys.NoGroups = let e = interface_at d c.eni in e.groups ≡ []
-LetsPass d label conns c bys.Tracked = (label ≡ labels.Answer) × (is_tracked conns c.eni c.dir c.header ≡ true)
+LetsPass d label conns c bys.Tracked =
+    (label ≡ labels.Answer) × (is_tracked conns c.eni c.dir c.header ≡ true)
 LetsPass d label conns c (bys.Rule r) =
-    (first_rule d (interface_at d c.eni) c.dir c.header ≡ Some r) × (label ≡ labels.Answer → is_tracked conns c.eni c.dir c.header ≡ false)
+    (first_rule d (interface_at d c.eni) c.dir c.header ≡ Some r)
+    × (label ≡ labels.Answer → is_tracked conns c.eni c.dir c.header ≡ false)
 
 -- no groups are asked but those of the interface that a packet leaves or reaches
 abbrev pub AsksGroups : Description → Label → List Connection → Option Connection → By → Type 0
@@ -142,9 +165,11 @@ AsksGroups d label conns (Some c) by = LetsPass d label conns c by
 abbrev pub PacketsPassByGroups : Type 0
 PacketsPassByGroups =
     (d : Description) (appliances : Appliances) (label : Label) (m : Moment)
-    → let s = step_of d appliances label m in AsksGroups d label m.conns (own_connection m.place m.header) s.by
+    → let s = step_of d appliances label m in
+    AsksGroups d label m.conns (own_connection m.place m.header) s.by
 
--- an open that a rule allows passes by the first one, where the interface is attached and the addresses are checked
+-- an open that a rule allows passes by the first one, where the interface is attached and the addresses
+-- are checked
 abbrev pub OpensPassByRules : Type 0
 OpensPassByRules =
     (d : Description) (appliances : Appliances) (i : EniNo) (h : Header) (conns : List Connection) (nats : List Translation) (r : RuleRef)
@@ -179,10 +204,14 @@ pub record IsNewOpen (label : Label) (m : Moment) (n : NatNo) : Type 0 where
   pub unknown : translation_of m.nats n m.header ≡ None
   pub room : is_full m.nats n m.header ≡ false
 
+-- the translation that its gateway then makes
+abbrev pub translation_by : Description → Moment → NatNo → Translation
+translation_by d m n = let row = nat_at d n in new_translation m.nats n (own_address row.life) m.header
+
 -- a translation is added exactly for such an open
 abbrev pub NewOpensAreTranslated : Type 0
 NewOpensAreTranslated =
     (d : Description) (appliances : Appliances) (label : Label) (m : Moment)
     → let s = step_of d appliances label m in
     ((s.nats ≡ m.nats) × ((n : NatNo) → IsNewOpen label m n → ⊥))
-    ⊎ ((n : NatNo) × (let row = nat_at d n in IsNewOpen label m n × (s.nats ≡ m.nats ++ new_translation m.nats n (own_address row.life) m.header ∷ [])))
+    ⊎ ((n : NatNo) × (IsNewOpen label m n × (s.nats ≡ m.nats ++ translation_by d m n ∷ [])))

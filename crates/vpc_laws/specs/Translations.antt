@@ -16,7 +16,8 @@ use Rattle.vpc_model.specs.Step.Words.{Moment, stop}
 
 -- ---- words
 
--- a translation changes the source and p alone, of TCP, UDP or ICMP, to a p that isn't a well-known port and fits its field
+-- a translation changes the source and p alone, of TCP, UDP or ICMP, to a p that isn't a well-known
+-- port and fits its field
 pub record IsTranslation (t : Translation) : Type 0 where
   pub proto : t.after.proto ≡ t.before.proto
   pub dst : t.after.dst ≡ t.before.dst
@@ -33,7 +34,8 @@ collide s t = shares t.nat t.after s && (s.after.p == t.after.p)
 abbrev pub same_before : Translation → Translation → Bool
 same_before s t = (s.nat.0 == t.nat.0) && same_header s.before t.before
 
--- what NAT gateways keep in order: each is a translation, of a header that no other translates, to a port that no other has
+-- what NAT gateways keep in order: each is a translation, of a header that no other translates, to a
+-- port that no other has
 -- there; and at most 55,000 share a gateway, protocol, destination and q
 pub record IsBook (ts : List Translation) : Type 0 where
   pub translations : AllByRecursion IsTranslation ts
@@ -45,7 +47,9 @@ pub record IsBook (ts : List Translation) : Type 0 where
 
 -- while not all 64,512 ports from 1,024 on are taken, the port that is given isn't
 abbrev pub FreePortIsFree : Type 0
-FreePortIsFree = (ts : List Translation) (n : NatNo) (h : Header) → h.p < 2 ^ 16 → count_by (shares n h) ts < 64512 → is_taken ts n h (free_port (is_taken ts n h) (first_port h.p)) ≡ false
+FreePortIsFree =
+    (ts : List Translation) (n : NatNo) (h : Header) → h.p < 2 ^ 16 → count_by (shares n h) ts < 64512
+    → is_taken ts n h (free_port (is_taken ts n h) (first_port h.p)) ≡ false
 
 -- nothing is in order
 abbrev pub NothingIsInOrder : Type 0
@@ -53,11 +57,15 @@ NothingIsInOrder = IsBook []
 
 -- a step keeps what the NAT gateways keep in order
 abbrev pub StepKeepsBook : Type 0
-StepKeepsBook = (d : Description) (appliances : Appliances) (label : Label) (m : Moment) → m.header.p < 2 ^ 16 → IsBook m.nats → let s = step_of d appliances label m in IsBook s.nats
+StepKeepsBook =
+    (d : Description) (appliances : Appliances) (label : Label) (m : Moment) → m.header.p < 2 ^ 16
+    → IsBook m.nats → let s = step_of d appliances label m in IsBook s.nats
 
 -- an answer to a translated open becomes the answer to that open as it was before
 abbrev pub AnswerFindsItsOpen : Type 0
-AnswerFindsItsOpen = (ts : List Translation) (t : Translation) (r : Header) → IsBook ts → Contains ts t → reply_of t.after ≡ Some r → inward ts t.nat r ≡ reply_of t.before
+AnswerFindsItsOpen =
+    (ts : List Translation) (t : Translation) (r : Header) → IsBook ts → Contains ts t
+    → reply_of t.after ≡ Some r → inward ts t.nat r ≡ reply_of t.before
 
 -- an open that a gateway has translated before gets the same translation, and nothing is added
 abbrev pub KnownOpenIsReused : Type 0
@@ -72,7 +80,8 @@ abbrev pub FullGatewayStops : Type 0
 FullGatewayStops =
     (d : Description) (appliances : Appliances) (n : NatNo) (h : Header) (conns : List Connection) (nats : List Translation)
     → is_translatable h.proto ≡ true → translation_of nats n h ≡ None → 55000 ≤ count_by (shares n h) nats
-    → let s = step_of d appliances labels.Opening (record { place = places.NatOut n; header = h; conns = conns; nats = nats }) in s.next ≡ stop (stops.NatFull n)
+    → let s = step_of d appliances labels.Opening (record { place = places.NatOut n; header = h; conns = conns; nats = nats }) in
+    s.next ≡ stop (stops.NatFull n)
 
 -- and is translated where fewer do
 abbrev pub RoomyGatewayTranslates : Type 0
@@ -88,4 +97,5 @@ RoomyGatewayTranslates =
 abbrev pub InwardAnswersOpens : Type 0
 InwardAnswersOpens =
     (ts : List Translation) (n : NatNo) (r k : Header) → inward ts n r ≡ Some k
-    → (t : Translation) × Contains ts t × (t.nat ≡ n) × (reply_of t.after ≡ Some r) × (reply_of t.before ≡ Some k)
+    → (t : Translation) × Contains ts t × (t.nat ≡ n) × (reply_of t.after ≡ Some r)
+    × (reply_of t.before ≡ Some k)

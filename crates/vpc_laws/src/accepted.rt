@@ -1,5 +1,5 @@
 // Laws of accepted descriptions.
-ghost use Rattle.vpc_laws.specs.Accepted.{AcceptedHasAllNamed, AcceptedHasNothingTwice, AcceptedIsFaultless, AcceptedNumbersAreInRange, AcceptedNumbersAreOwn, IdsAreFound, NatAddressesAreInterfaces};
+ghost use Rattle.vpc_laws.specs.Accepted.{AcceptedHasAllNamed, AcceptedHasNothingTwice, AcceptedHasShortLists, AcceptedIsFaultless, AcceptedNumbersAreInRange, AcceptedNumbersAreOwn, IdsAreFound, NatAddressesAreInterfaces};
 
 /// Where a description is accepted, nothing is wrong of any kind.
 pub fn has_no_fault()
@@ -34,4 +34,9 @@ pub fn places_subnets()
 /// A NAT gateway that translates has an interface with its address.
 pub fn places_nat_gateways()
     ensures { NatAddressesAreInterfaces }
+{}
+
+/// None of its lists has more than 100,000 rows.
+pub fn has_short_lists()
+    ensures { AcceptedHasShortLists }
 {}

@@ -1,10 +1,15 @@
 // Laws of choices among rows.
-ghost use Rattle.vpc_laws.specs.Choice.{AclRowsAreChosen, AclRowsMayBeSorted, ListsMatchByLongest, RoutesAreChosen, TgwRoutesAreChosen};
+ghost use Rattle.vpc_laws.specs.Choice.{AclRowsAreChosen, AclRowsMayBeSorted, ListsMatchByLongest, RoutesAreChosen, TgwRoutesAreChosen, UnroutedMatchNothing};
 
 /// A route table chooses none only where no route is a candidate, and else the candidate that beats
 /// every other.
 pub fn chooses_routes()
     ensures { RoutesAreChosen }
+{}
+
+/// Where it chooses none, no route matches.
+pub fn routes_what_matches()
+    ensures { UnroutedMatchNothing }
 {}
 
 /// A route to a prefix list matches with the length of its longest entry that holds the address.

@@ -1,5 +1,5 @@
 // Laws of what gateways rewrite.
-ghost use Rattle.vpc_laws.specs.Rewriting.{InwardChangesDestination, NatChangesSourceAndPort, NatGivesBack, NatGivesOwnAddress, OutwardChangesSource, WalkGivesOwnAddresses, WalkKeepsFlow};
+ghost use Rattle.vpc_laws.specs.Rewriting.{InwardChangesDestination, NatChangesSourceAndPort, NatGivesBack, NatGivesOwnAddress, NatSourcesAreInterfaces, OutwardChangesSource, WalkGivesOwnAddresses, WalkKeepsFlow};
 
 /// An internet gateway gives a packet on its way out the public address of its source.
 pub fn changes_source_outward()
@@ -21,7 +21,12 @@ pub fn translates_to_own_address()
     ensures { NatGivesOwnAddress }
 {}
 
-/// So it is through a whole walk.
+/// That is an address of an interface.
+pub fn translates_to_an_interface()
+    ensures { NatSourcesAreInterfaces }
+{}
+
+/// A whole walk keeps translations to own addresses.
 pub fn keeps_own_addresses()
     ensures { WalkGivesOwnAddresses }
 {}
