@@ -1,0 +1,15 @@
+//! Readers of what filters packets in a bundle: network ACLs and security groups.
+//!
+//! Each row's meaning depends on that row and its path alone. The first fault in reading order is the
+//! answer: lists, rows and fields in the order in which they are read.
+#![tactic(auto)]
+
+mod acls;
+mod fields;
+mod groups;
+mod permissions;
+mod protocols;
+mod ranges;
+mod reader;
+
+pub use reader::{FilterRows, read_filters};
