@@ -9,15 +9,19 @@
 mod bundle;
 mod fault;
 mod fields;
+mod kept;
 mod members;
 mod path;
+mod rows;
 mod texts;
 
 pub use bundle::rows_of;
 pub use fault::FieldFault;
 pub use fields::{addr_if, flag_if, id_at, id_if, number_if, prefix_if, text_if};
+pub use kept::{HasId, SeenIds, first_of_each, those_there};
 pub use members::{list_if, member};
 pub use path::Path;
+pub use rows::{ReadRow, items_if, read_each, read_items, read_kept_items, read_kept_list, read_list};
 pub use texts::OwnText;
 
 #[cfg(test)]

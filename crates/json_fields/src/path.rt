@@ -40,6 +40,16 @@ impl Path {
         })
     }
 
+    /// The row of this number, as `PATH[ROW]`.
+    pub fn row_in(&self, alloc: Global, row: u64) -> Result<Path, NoMemory>
+        ensures { IfOk result (λ p. p ≡ at_row self.now row) }
+    {
+        let path = self.text.as_str();
+        Ok(Path {
+            text: format!(in alloc; "{path}[{row}]")?,
+        })
+    }
+
     /// The member of this name, as `PATH.FIELD`.
     pub fn member(&self, field: &str) -> Result<Path, NoMemory>
         ensures { IfOk result (λ p. p ≡ at_member self.now field.now) }
