@@ -10,7 +10,7 @@ ghost use Rattle.read_filters.specs.Rows.{needed};
 use crate::fields::{flag_at, prefix_at, text_at};
 use crate::protocols::numbered_protocol;
 use crate::ranges::{EVERY_Q, QKind, QRange, kind_of, range_within};
-use json_fields::{FieldFault, Path, ReadRow, id_at, member, number_if, read_items, those_there};
+use json_fields::{FieldFault, Path, ReadRow, id_at, member, number_if, read_items, read_kept_items};
 use serde_json::Value;
 use std::alloc::Global;
 use vpc_base::OwnList;
@@ -157,8 +157,7 @@ fn acl_of(alloc: Global, row: &Value, path: &Path) -> Result<Acl, FieldFault>
 {
     let id = id_at(alloc, row, path, "NetworkAclId")?;
     let subnets = read_items::<AssociatedSubnets>(alloc, row, path, "Associations")?;
-    let entries = read_items::<Entries>(alloc, row, path, "Entries")?;
-    let rows = those_there(alloc, entries)?;
+    let rows = read_kept_items::<AclRow, Entries>(alloc, row, path, "Entries")?;
     Ok(Acl {
         id,
         subnets: OwnList::of(subnets),

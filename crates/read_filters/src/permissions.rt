@@ -3,7 +3,6 @@ ghost use Rattle.std.specs.Prelude.{◌≡◌, codes};
 ghost use Rattle.serde_json.specs.View.{view};
 ghost use Rattle.json_fields.specs.FieldFault.{Reads};
 ghost use Rattle.json_fields.specs.Fields.{text_in};
-ghost use Rattle.json_fields.specs.Kept.{each_kept_item};
 ghost use Rattle.read_filters.specs.Permissions.{named_list, paired_group, permission_of, range_block, targets_of, traffic_of};
 ghost use Rattle.read_filters.specs.Protocols.{named_protocol};
 ghost use Rattle.read_filters.specs.Rows.{needed};
@@ -11,7 +10,7 @@ ghost use Rattle.read_filters.specs.Rows.{needed};
 use crate::fields::{prefix_at, text_at};
 use crate::protocols::named_protocol;
 use crate::ranges::{QRange, kind_of, range_of};
-use json_fields::{FieldFault, Path, ReadRow, id_at, id_if, read_items, those_there};
+use json_fields::{FieldFault, Path, ReadRow, id_at, id_if, read_items, read_kept_items};
 use prefix_text::Prefix;
 use serde_json::Value;
 use std::alloc::Global;
@@ -94,19 +93,12 @@ struct Targets {
     groups: OwnList<Id>,
 }
 
-fn paired_groups(alloc: Global, row: &Value, path: &Path) -> Result<Vec<Id>, FieldFault>
-    ensures { Reads (λ v. v.items) (each_kept_item paired_group (view row.now) path.now (codes "UserIdGroupPairs")) result }
-{
-    let pairs = read_items::<PairedGroups>(alloc, row, path, "UserIdGroupPairs")?;
-    Ok(those_there(alloc, pairs)?)
-}
-
 fn targets_of(alloc: Global, row: &Value, path: &Path) -> Result<Targets, FieldFault>
     ensures { Reads (λ x. x) (targets_of (view row.now) path.now) result }
 {
     let blocks = read_items::<RangeBlocks>(alloc, row, path, "IpRanges")?;
     let lists = read_items::<NamedLists>(alloc, row, path, "PrefixListIds")?;
-    let groups = paired_groups(alloc, row, path)?;
+    let groups = read_kept_items::<Id, PairedGroups>(alloc, row, path, "UserIdGroupPairs")?;
     Ok(Targets {
         blocks: OwnList::of(blocks),
         lists: OwnList::of(lists),

@@ -5,7 +5,7 @@ ghost use Rattle.json_fields.specs.FieldFault.{Reads};
 ghost use Rattle.read_gateways.specs.Internet.{attached_vpc, internet_gateway_of, is_attached};
 
 use crate::fields::text_at;
-use json_fields::{FieldFault, Path, ReadRow, id_at, read_items, those_there};
+use json_fields::{FieldFault, Path, ReadRow, id_at, read_kept_items};
 use serde_json::Value;
 use std::alloc::Global;
 use vpc_base::OwnList;
@@ -53,8 +53,7 @@ fn internet_gateway_of(
     ensures { Reads (λ x. x) (internet_gateway_of (view row.now) path.now) result }
 {
     let id = id_at(alloc, row, path, "InternetGatewayId")?;
-    let attachments = read_items::<AttachedVpcs>(alloc, row, path, "Attachments")?;
-    let vpcs = those_there(alloc, attachments)?;
+    let vpcs = read_kept_items::<Id, AttachedVpcs>(alloc, row, path, "Attachments")?;
     Ok(InternetGateway {
         id,
         vpcs: OwnList::of(vpcs),

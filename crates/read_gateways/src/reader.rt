@@ -8,7 +8,7 @@ use crate::internet::InternetGateways;
 use crate::nat::NatGateways;
 use crate::peerings::Peerings;
 use crate::transit::{Associations, Attachments, TgwTables};
-use json_fields::{FieldFault, first_of_each, read_list, those_there};
+use json_fields::{FieldFault, first_of_each, read_kept_list, read_list};
 use serde_json::Value;
 use std::alloc::Global;
 use vpc_base::OwnList;
@@ -43,15 +43,17 @@ fn peerings_of(alloc: Global, bundle: &Value) -> Result<Vec<Peering>, FieldFault
 fn attachments_of(alloc: Global, bundle: &Value) -> Result<Vec<Attachment>, FieldFault>
     ensures { Reads (λ v. v.items) (attachments_of (view bundle.now)) result }
 {
-    let all = read_list::<Attachments>(alloc, bundle, "TransitGatewayVpcAttachments")?;
-    Ok(first_of_each(alloc, those_there(alloc, all)?)?)
+    let all =
+        read_kept_list::<Attachment, Attachments>(alloc, bundle, "TransitGatewayVpcAttachments")?;
+    Ok(first_of_each(alloc, all)?)
 }
 
 fn associations_of(alloc: Global, bundle: &Value) -> Result<Vec<Association>, FieldFault>
     ensures { Reads (λ v. v.items) (associations_of (view bundle.now)) result }
 {
-    let all = read_list::<Associations>(alloc, bundle, "TransitGatewayAttachments")?;
-    Ok(first_of_each(alloc, those_there(alloc, all)?)?)
+    let all =
+        read_kept_list::<Association, Associations>(alloc, bundle, "TransitGatewayAttachments")?;
+    Ok(first_of_each(alloc, all)?)
 }
 
 fn transit_of(alloc: Global, bundle: &Value) -> Result<TransitRows, FieldFault>

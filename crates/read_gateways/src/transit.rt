@@ -6,7 +6,7 @@ ghost use Rattle.json_fields.specs.Kept.{each_item};
 ghost use Rattle.read_gateways.specs.Transit.{association_of, attachment_of, destination_of, first_attachment, head_of, id_item, ipv4_route_of, is_ipv6, is_usable, is_usable_of, named_attachment, tgw_route_of, tgw_table_of};
 
 use crate::fields::{id_if_within, text_at, text_is};
-use json_fields::{FieldFault, Path, ReadRow, id_at, list_if, read_items, those_there};
+use json_fields::{FieldFault, Path, ReadRow, id_at, list_if, read_items, read_kept_items};
 use prefix_text::{Prefix, read_prefix};
 use serde_json::Value;
 use std::alloc::Global;
@@ -224,11 +224,10 @@ fn tgw_table_of(alloc: Global, row: &Value, path: &Path) -> Result<TgwTable, Fie
     ensures { Reads (λ x. x) (tgw_table_of (view row.now) path.now) result }
 {
     let id = id_at(alloc, row, path, "TransitGatewayRouteTableId")?;
-    let routes = read_items::<TgwRoutes>(alloc, row, path, "Routes")?;
-    let kept = those_there(alloc, routes)?;
+    let routes = read_kept_items::<TgwRoute, TgwRoutes>(alloc, row, path, "Routes")?;
     Ok(TgwTable {
         id,
-        routes: OwnList::of(kept),
+        routes: OwnList::of(routes),
     })
 }
 
