@@ -1,5 +1,5 @@
 -- What the members of a row mean.
-use Rattle.std.specs.Prelude.{ℕ, ◌∷◌, ◌&&◌, ℤ, List, [], Option, Some, None, Result, Ok, option_and_then, option_map, if◌then◌else◌, Bool, int_le}
+use Rattle.std.specs.Prelude.{ℕ, ◌∷◌, ◌&&◌, ℤ, List, [], Option, Some, None, Result, Ok, option_and_then, option_map, if◌then◌else◌, Bool, false, bytes_eq, int_le, unwrap_or}
 use Rattle.serde_json.specs.Data.{Data, null, Items, no_items, item}
 use Rattle.serde_json.specs.Find.{get, as_array, as_str, as_number, as_integer, as_bool}
 use Rattle.prefix_text.specs.Addr.{addr_of}
@@ -23,6 +23,18 @@ member_of row field = unless_null (get field row)
 abbrev pub field_of : {A : Type 0} → (Data → Option A) → Data → List ℕ → List ℕ → Result (Option A) FieldFault
 field_of kind row path field = if_there (λ value. in_shape (at_member path field) (kind value)) (member_of row field)
 
+-- what the member of this name gives, which must be there
+abbrev pub needed : {A : Type 0} → (Data → List ℕ → List ℕ → Result (Option A) FieldFault) → Data → List ℕ → List ℕ → Result A FieldFault
+needed read row path field = and_then (read row path field) (in_shape (at_member path field))
+
+-- the object that is the member of this name; where it isn't there, one without members stands for it
+abbrev pub part_of : Data → List ℕ → Data
+part_of row field = unwrap_or (get field row) null
+
+-- what a member of the member of this name gives, if it is there
+abbrev pub within_part : {A : Type 0} → (Data → List ℕ → List ℕ → Result A FieldFault) → Data → List ℕ → List ℕ → List ℕ → Result A FieldFault
+within_part read row path part field = read (part_of row part) (at_member path part) field
+
 -- a flag, if it is there
 abbrev pub flag_of : Data → List ℕ → List ℕ → Result (Option Bool) FieldFault
 flag_of = field_of as_bool
@@ -30,6 +42,15 @@ flag_of = field_of as_bool
 -- a text, if it is there
 abbrev pub text_of : Data → List ℕ → List ℕ → Result (Option (List ℕ)) FieldFault
 text_of = field_of as_str
+
+-- the text is there, and is this one
+abbrev pub is_text : List ℕ → Option (List ℕ) → Bool
+is_text text None = false
+is_text text (Some told) = bytes_eq told text
+
+-- whether the member is this text, if it is there
+abbrev pub has_text : List ℕ → Data → List ℕ → List ℕ → Result Bool FieldFault
+has_text text row path field = and_then (text_of row path field) (λ told. Ok (is_text text told))
 
 -- the whole number that a value is, where it fits 64 bits with or without a sign
 abbrev pub whole_number_of : Data → Option ℤ

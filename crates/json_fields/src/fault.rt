@@ -56,6 +56,26 @@ impl FieldFault {
         }
     }
 
+    /// `WrongShape` at the row itself.
+    pub fn wrong_shape_of(alloc: Global, path: &Path) -> FieldFault
+        ensures { Tells (FieldFault.WrongShape path.now) result }
+    {
+        match path.copied(alloc) {
+            Ok(path) => FieldFault::WrongShape(path),
+            Err(_) => FieldFault::Memory,
+        }
+    }
+
+    /// `BadText` at the value itself.
+    pub fn bad_text_of(alloc: Global, path: &Path) -> FieldFault
+        ensures { Tells (FieldFault.BadText path.now) result }
+    {
+        match path.copied(alloc) {
+            Ok(path) => FieldFault::BadText(path),
+            Err(_) => FieldFault::Memory,
+        }
+    }
+
     /// `WrongShape` at the member of this name.
     pub fn wrong_shape(alloc: Global, path: &Path, field: &str) -> FieldFault
         ensures { Tells (FieldFault.WrongShape (at_member path.now field.now)) result }

@@ -54,7 +54,8 @@ pub fn number_if(
     }
 }
 
-fn str_if<'a>(
+/// Any text, as it stands in the row. No grammar is asked of it.
+pub fn str_if<'a>(
     alloc: Global,
     row: &'a Value,
     path: &Path,

@@ -77,6 +77,15 @@ impl Path {
         })
     }
 
+    /// The same place once more.
+    pub(crate) fn copied(&self, alloc: Global) -> Result<Path, NoMemory>
+        ensures { IfOk result (λ p. p ≡ self.now) }
+    {
+        Ok(Path {
+            text: String::from_str(alloc, self.text.as_str())?,
+        })
+    }
+
     /// The text, as it is printed.
     pub fn bytes(&self) -> &[u8]
         ensures { result.now ≡ self.now }
