@@ -2,7 +2,7 @@
 use Rattle.std.specs.Prelude.{ℕ, Bool, true, false, pos, List, Option, Some, None, bytes_eq, codes, Result, Ok, if◌then◌else◌}
 use Rattle.serde_json.specs.Data.{Data}
 use Rattle.json_fields.specs.FieldFault.{and_then, if_there}
-use Rattle.json_fields.specs.Fields.{id_of, member_of, number_of, flag_of, text_in, prefix_of_field}
+use Rattle.json_fields.specs.Fields.{flag_of, id_of, member_of, needed, number_of, part_of, prefix_of_field, text_in}
 use Rattle.json_fields.specs.Kept.{each_item, each_kept_item}
 use Rattle.json_fields.specs.Paths.{at_member}
 use Rattle.json_fields.specs.declared.fault.FieldFault.{FieldFault}
@@ -10,7 +10,6 @@ use Rattle.vpc_model.specs.declared.rows.Acl.{Acl}
 use Rattle.vpc_model.specs.declared.rows.AclRow.{AclRow}
 use Rattle.read_filters.specs.Protocols.{numbered_protocol}
 use Rattle.read_filters.specs.Ranges.{kind_of, every_q, range_of, told}
-use Rattle.read_filters.specs.Rows.{needed, part_of}
 use Rattle.read_filters.specs.declared.acls.AclHead.{AclHead}
 use Rattle.read_filters.specs.declared.ranges.QRange.{QRange}
 use Rattle.read_filters.specs.declared.ranges.QKind.{QKind}

@@ -1,7 +1,7 @@
 pub mod Ranges
 pub mod Protocols
-pub mod Rows
 pub mod Acls
 pub mod Permissions
 pub mod Groups
 pub mod Filters
+pub mod GroupRules

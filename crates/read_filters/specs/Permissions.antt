@@ -3,13 +3,12 @@ use Rattle.std.specs.Prelude.{ℕ, List, [], Option, None, codes, Result, Ok}
 use Rattle.serde_json.specs.Data.{Data}
 use Rattle.prefix_text.specs.Block.{Block}
 use Rattle.json_fields.specs.FieldFault.{and_then}
-use Rattle.json_fields.specs.Fields.{id_if_of, id_of, prefix_of_field, text_in}
+use Rattle.json_fields.specs.Fields.{id_if_of, id_of, needed, prefix_of_field, text_in}
 use Rattle.json_fields.specs.Kept.{each_item, each_kept_item}
 use Rattle.json_fields.specs.declared.fault.FieldFault.{FieldFault}
 use Rattle.vpc_model.specs.declared.rows.Permission.{Permission}
 use Rattle.read_filters.specs.Protocols.{named_protocol}
 use Rattle.read_filters.specs.Ranges.{kind_of, range_of}
-use Rattle.read_filters.specs.Rows.{needed}
 use Rattle.read_filters.specs.declared.permissions.Traffic.{Traffic}
 use Rattle.read_filters.specs.declared.permissions.Targets.{Targets}
 

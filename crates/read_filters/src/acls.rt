@@ -2,15 +2,16 @@
 ghost use Rattle.std.specs.Prelude.{◌≡◌, codes};
 ghost use Rattle.serde_json.specs.View.{view};
 ghost use Rattle.json_fields.specs.FieldFault.{Reads};
-ghost use Rattle.json_fields.specs.Fields.{text_in};
+ghost use Rattle.json_fields.specs.Fields.{needed, text_in};
 ghost use Rattle.read_filters.specs.Acls.{acl_of, action_of, associated_subnet, entry_of, entry_range, head_of, ipv4_entry_of, rule_number_of};
 ghost use Rattle.read_filters.specs.Protocols.{numbered_protocol};
-ghost use Rattle.read_filters.specs.Rows.{needed};
 
-use crate::fields::{flag_at, prefix_at, text_at};
 use crate::protocols::numbered_protocol;
 use crate::ranges::{EVERY_Q, QKind, QRange, kind_of, range_within};
-use json_fields::{FieldFault, Path, ReadRow, id_at, member, number_if, read_items, read_kept_items};
+use json_fields::{
+    FieldFault, Path, ReadRow, flag_at, id_at, member, number_if, prefix_at, read_items,
+    read_kept_items, str_at,
+};
 use serde_json::Value;
 use std::alloc::Global;
 use vpc_base::OwnList;
@@ -37,7 +38,7 @@ fn rule_number_at(alloc: Global, row: &Value, path: &Path) -> Result<u16, FieldF
 fn protocol_at(alloc: Global, row: &Value, path: &Path) -> Result<Option<u8>, FieldFault>
     ensures { Reads (λ x. x) (needed (text_in numbered_protocol) (view row.now) path.now (codes "Protocol")) result }
 {
-    match text_at(alloc, row, path, "Protocol") {
+    match str_at(alloc, row, path, "Protocol") {
         Ok(text) => match numbered_protocol(text) {
             Some(proto) => Ok(proto),
             None => Err(FieldFault::bad_text(alloc, path, "Protocol")),
@@ -61,7 +62,7 @@ fn action_of(text: &str) -> Option<bool>
 fn action_at(alloc: Global, row: &Value, path: &Path) -> Result<bool, FieldFault>
     ensures { Reads (λ x. x) (needed (text_in action_of) (view row.now) path.now (codes "RuleAction")) result }
 {
-    match text_at(alloc, row, path, "RuleAction") {
+    match str_at(alloc, row, path, "RuleAction") {
         Ok(text) => match action_of(text) {
             Some(allow) => Ok(allow),
             None => Err(FieldFault::bad_text(alloc, path, "RuleAction")),

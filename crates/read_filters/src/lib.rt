@@ -5,7 +5,6 @@
 #![tactic(auto)]
 
 mod acls;
-mod fields;
 mod groups;
 mod permissions;
 mod protocols;

@@ -2,15 +2,15 @@
 ghost use Rattle.std.specs.Prelude.{◌≡◌, codes};
 ghost use Rattle.serde_json.specs.View.{view};
 ghost use Rattle.json_fields.specs.FieldFault.{Reads};
-ghost use Rattle.json_fields.specs.Fields.{text_in};
+ghost use Rattle.json_fields.specs.Fields.{needed, text_in};
 ghost use Rattle.read_filters.specs.Permissions.{named_list, paired_group, permission_of, range_block, targets_of, traffic_of};
 ghost use Rattle.read_filters.specs.Protocols.{named_protocol};
-ghost use Rattle.read_filters.specs.Rows.{needed};
 
-use crate::fields::{prefix_at, text_at};
 use crate::protocols::named_protocol;
 use crate::ranges::{QRange, kind_of, range_of};
-use json_fields::{FieldFault, Path, ReadRow, id_at, id_if, read_items, read_kept_items};
+use json_fields::{
+    FieldFault, Path, ReadRow, id_at, id_if, prefix_at, read_items, read_kept_items, str_at,
+};
 use prefix_text::Prefix;
 use serde_json::Value;
 use std::alloc::Global;
@@ -27,7 +27,7 @@ pub struct Traffic {
 fn protocol_at(alloc: Global, row: &Value, path: &Path) -> Result<Option<u8>, FieldFault>
     ensures { Reads (λ x. x) (needed (text_in named_protocol) (view row.now) path.now (codes "IpProtocol")) result }
 {
-    match text_at(alloc, row, path, "IpProtocol") {
+    match str_at(alloc, row, path, "IpProtocol") {
         Ok(text) => match named_protocol(text) {
             Some(proto) => Ok(proto),
             None => Err(FieldFault::bad_text(alloc, path, "IpProtocol")),

@@ -2,7 +2,7 @@
 ghost use Rattle.std.specs.Prelude.{◌≡◌, ◌≤◌, pos, negsuc, IfSome};
 ghost use Rattle.serde_json.specs.View.{view};
 ghost use Rattle.json_fields.specs.FieldFault.{Reads};
-ghost use Rattle.read_filters.specs.Rows.{part_of};
+ghost use Rattle.json_fields.specs.Fields.{part_of};
 ghost use Rattle.json_fields.specs.Paths.{at_member};
 ghost use Rattle.read_filters.specs.Ranges.{kind_of, every_q, port_range, message_range, number_up_to, range_of};
 

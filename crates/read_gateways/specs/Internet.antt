@@ -2,11 +2,10 @@
 use Rattle.std.specs.Prelude.{ℕ, Bool, ◌||◌, List, Option, Some, None, bytes_eq, codes, Result, Ok, if◌then◌else◌}
 use Rattle.serde_json.specs.Data.{Data}
 use Rattle.json_fields.specs.FieldFault.{and_then}
-use Rattle.json_fields.specs.Fields.{id_of, text_of}
+use Rattle.json_fields.specs.Fields.{id_of, needed, text_of}
 use Rattle.json_fields.specs.declared.fault.FieldFault.{FieldFault}
 use Rattle.json_fields.specs.Kept.{each_kept_item}
 use Rattle.vpc_model.specs.declared.rows.InternetGateway.{InternetGateway}
-use Rattle.read_gateways.specs.Rows.{needed}
 
 -- whether a gateway in this state serves the VPC
 abbrev pub is_attached : List ℕ → Bool

@@ -1,4 +1,4 @@
-pub mod Rows
+pub mod Texts
 pub mod Internet
 pub mod Nat
 pub mod Peerings

@@ -2,11 +2,11 @@
 use Rattle.std.specs.Prelude.{ℕ, Bool, true, false, List, Option, Some, None, bytes_eq, codes, position, slice_get, unwrap_or, Result, Ok, if◌then◌else◌}
 use Rattle.serde_json.specs.Data.{Data}
 use Rattle.json_fields.specs.FieldFault.{and_then, in_shape}
-use Rattle.json_fields.specs.Fields.{id_if_of, id_of, flag_of, addr_of_field}
+use Rattle.json_fields.specs.Fields.{addr_of_field, flag_of, id_if_of, id_of, needed}
 use Rattle.json_fields.specs.Kept.{each_item}
 use Rattle.json_fields.specs.Paths.{at_member}
 use Rattle.json_fields.specs.declared.fault.FieldFault.{FieldFault}
-use Rattle.read_gateways.specs.Rows.{needed, text_is}
+use Rattle.read_gateways.specs.Texts.{text_is}
 use Rattle.vpc_model.specs.declared.rows.NatGateway.{NatGateway}
 use Rattle.vpc_model.specs.declared.rows.NatLife.{NatLife}
 use Rattle.vpc_model.specs.declared.rows.NatLife.TheVariants.{Gone, Unmodelled, Live}

@@ -2,20 +2,18 @@
 use Rattle.std.specs.Prelude.{ℕ, Bool, List, Option, Some, None, bytes_eq, codes, Result, Ok, if◌then◌else◌}
 use Rattle.serde_json.specs.Data.{Data}
 use Rattle.json_fields.specs.FieldFault.{and_then}
-use Rattle.json_fields.specs.Fields.{id_of, text_of}
-use Rattle.json_fields.specs.Paths.{at_member}
+use Rattle.json_fields.specs.Fields.{id_of, needed, text_of, within_part}
 use Rattle.json_fields.specs.declared.fault.FieldFault.{FieldFault}
-use Rattle.read_gateways.specs.Rows.{needed, part_of}
 use Rattle.vpc_model.specs.declared.rows.Peering.{Peering}
 
 -- the VPC on a side
 abbrev pub side_of : Data → List ℕ → List ℕ → Result (List ℕ) FieldFault
-side_of row path side = id_of (part_of row side) (at_member path side) (codes "VpcId")
+side_of row path side = within_part id_of row path side (codes "VpcId")
 
 -- whether the peering is active
 abbrev pub is_active_of : Data → List ℕ → Result Bool FieldFault
 is_active_of row path =
-    and_then (needed text_of (part_of row (codes "Status")) (at_member path (codes "Status")) (codes "Code")) (λ code.
+    and_then (within_part (needed text_of) row path (codes "Status") (codes "Code")) (λ code.
     Ok (bytes_eq code (codes "active")))
 
 -- the VPCs of an active peering: those of another aren't read

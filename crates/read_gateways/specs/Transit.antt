@@ -6,7 +6,7 @@ use Rattle.serde_json.specs.Data.{Data}
 use Rattle.serde_json.specs.Find.{as_str}
 use Rattle.prefix_text.specs.Block.{Block, prefix_of}
 use Rattle.json_fields.specs.FieldFault.{and_then, if_there, in_grammar, in_shape}
-use Rattle.json_fields.specs.Fields.{id_if_of, id_in, id_of, text_of}
+use Rattle.json_fields.specs.Fields.{id_if_of, id_in, id_of, needed, text_of, within_part}
 use Rattle.json_fields.specs.Kept.{each_item, each_kept_item}
 use Rattle.json_fields.specs.Paths.{at_member}
 use Rattle.json_fields.specs.declared.fault.FieldFault.{FieldFault}
@@ -14,7 +14,7 @@ use Rattle.vpc_model.specs.declared.rows.Association.{Association}
 use Rattle.vpc_model.specs.declared.rows.Attachment.{Attachment}
 use Rattle.vpc_model.specs.declared.rows.TgwRoute.{TgwRoute}
 use Rattle.vpc_model.specs.declared.rows.TgwTable.{TgwTable}
-use Rattle.read_gateways.specs.Rows.{needed, part_of, text_is}
+use Rattle.read_gateways.specs.Texts.{text_is}
 use Rattle.read_gateways.specs.declared.transit.AttachmentHead.{AttachmentHead}
 
 -- an id that is an item of a list itself
@@ -49,7 +49,7 @@ attachment_of row path =
 abbrev pub association_of : Data → List ℕ → Result (Option Association) FieldFault
 association_of row path =
     and_then (id_of row path (codes "TransitGatewayAttachmentId")) (λ attachment.
-    and_then (id_if_of (part_of row (codes "Association")) (at_member path (codes "Association")) (codes "TransitGatewayRouteTableId")) (λ table.
+    and_then (within_part id_if_of row path (codes "Association") (codes "TransitGatewayRouteTableId")) (λ table.
     Ok (option_map (λ t. record { attachment = attachment; table = t }) table)))
 
 -- whether a block's text is one of IPv6: it has a colon

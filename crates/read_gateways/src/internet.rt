@@ -4,8 +4,7 @@ ghost use Rattle.serde_json.specs.View.{view};
 ghost use Rattle.json_fields.specs.FieldFault.{Reads};
 ghost use Rattle.read_gateways.specs.Internet.{attached_vpc, internet_gateway_of, is_attached};
 
-use crate::fields::text_at;
-use json_fields::{FieldFault, Path, ReadRow, id_at, read_kept_items};
+use json_fields::{FieldFault, Path, ReadRow, id_at, read_kept_items, str_at};
 use serde_json::Value;
 use std::alloc::Global;
 use vpc_base::OwnList;
@@ -20,7 +19,7 @@ fn is_attached(state: &str) -> bool
 fn attached_vpc(alloc: Global, row: &Value, path: &Path) -> Result<Option<Id>, FieldFault>
     ensures { Reads (λ x. x) (attached_vpc (view row.now) path.now) result }
 {
-    let state = match text_at(alloc, row, path, "State") {
+    let state = match str_at(alloc, row, path, "State") {
         Ok(state) => state,
         Err(fault) => return Err(fault),
     };

@@ -5,11 +5,11 @@
 //! answer: lists, rows and fields in the order in which they are read.
 #![tactic(auto)]
 
-mod fields;
 mod internet;
 mod nat;
 mod peerings;
 mod reader;
+mod texts;
 mod transit;
 
 pub use reader::{GatewayRows, read_gateways};

@@ -2,11 +2,10 @@
 ghost use Rattle.std.specs.Prelude.{◌≡◌, codes, option_map};
 ghost use Rattle.serde_json.specs.View.{view};
 ghost use Rattle.json_fields.specs.FieldFault.{Reads};
-ghost use Rattle.json_fields.specs.Fields.{addr_of_field};
+ghost use Rattle.json_fields.specs.Fields.{addr_of_field, needed};
 ghost use Rattle.read_gateways.specs.Nat.{chosen_address, life_if, life_within, live_of, nat_address_of, nat_gateway_of, primary_number};
-ghost use Rattle.read_gateways.specs.Rows.{needed};
 
-use crate::fields::text_is;
+use crate::texts::text_is;
 use json_fields::{FieldFault, Path, ReadRow, addr_if, flag_if, id_at, id_if, read_items};
 use serde_json::Value;
 use std::alloc::Global;

@@ -4,8 +4,7 @@ ghost use Rattle.serde_json.specs.View.{view};
 ghost use Rattle.json_fields.specs.FieldFault.{Reads};
 ghost use Rattle.read_gateways.specs.Peerings.{is_active_of, pair_if, peering_of, side_of};
 
-use crate::fields::{id_within, text_within};
-use json_fields::{FieldFault, Path, ReadRow, id_at};
+use json_fields::{FieldFault, Path, ReadRow, id_at, id_within, str_within};
 use serde_json::Value;
 use std::alloc::Global;
 use vpc_model::{Id, Peering};
@@ -20,7 +19,7 @@ fn side_of(alloc: Global, row: &Value, path: &Path, side: &str) -> Result<Id, Fi
 fn is_active(alloc: Global, row: &Value, path: &Path) -> Result<bool, FieldFault>
     ensures { Reads (λ x. x) (is_active_of (view row.now) path.now) result }
 {
-    match text_within(alloc, row, path, "Status", "Code") {
+    match str_within(alloc, row, path, "Status", "Code") {
         Ok(code) => Ok(code == "active"),
         Err(fault) => Err(fault),
     }

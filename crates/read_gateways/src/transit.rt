@@ -1,12 +1,13 @@
 // Transit gateways.
-ghost use Rattle.std.specs.Prelude.{◌≡◌, codes, slice_get};
+ghost use Rattle.std.specs.Prelude.{◌≡◌};
 ghost use Rattle.serde_json.specs.View.{view};
 ghost use Rattle.json_fields.specs.FieldFault.{Reads};
-ghost use Rattle.json_fields.specs.Kept.{each_item};
 ghost use Rattle.read_gateways.specs.Transit.{association_of, attachment_of, destination_of, first_attachment, head_of, id_item, ipv4_route_of, is_ipv6, is_usable, is_usable_of, named_attachment, tgw_route_of, tgw_table_of};
 
-use crate::fields::{id_if_within, text_at, text_is};
-use json_fields::{FieldFault, Path, ReadRow, id_at, list_if, read_items, read_kept_items};
+use crate::texts::text_is;
+use json_fields::{
+    FieldFault, Path, ReadRow, id_at, id_if_within, read_items, read_kept_items, str_at,
+};
 use prefix_text::{Prefix, read_prefix};
 use serde_json::Value;
 use std::alloc::Global;
@@ -22,35 +23,29 @@ fn is_usable(state: &str) -> bool
 fn is_usable_at(alloc: Global, row: &Value, path: &Path) -> Result<bool, FieldFault>
     ensures { Reads (λ x. x) (is_usable_of (view row.now) path.now) result }
 {
-    match text_at(alloc, row, path, "State") {
+    match str_at(alloc, row, path, "State") {
         Ok(state) => Ok(is_usable(state)),
         Err(fault) => Err(fault),
     }
 }
 
-// An id that is an item of a list itself.
-fn id_item(alloc: Global, item: &Value, path: Path) -> Result<Id, FieldFault>
-    ensures { Reads (λ x. x) (id_item (view item.now) path) result }
-{
-    let Some(text) = item.as_str() else {
-        return Err(FieldFault::WrongShape(path));
-    };
-    match Id::of(alloc, text.as_bytes())? {
-        Some(id) => Ok(id),
-        None => Err(FieldFault::BadText(path)),
-    }
-}
+/// The items of an attachment's `SubnetIds`, which are ids themselves.
+struct SubnetIds;
 
-fn subnet_ids(alloc: Global, row: &Value, path: &Path) -> Result<Vec<Id>, FieldFault>
-    ensures { Reads (λ v. v.items) (each_item id_item (view row.now) path.now (codes "SubnetIds")) result }
-{
-    let items = list_if(alloc, row, path, "SubnetIds")?;
-    let mut ids = Vec::with_capacity(alloc, items.len())?;
-    for (number, item) in items.iter().enumerate() {
-        let place = path.item("SubnetIds", number as u64)?;
-        ids.push(id_item(alloc, item, place)?)?;
+impl ReadRow for SubnetIds {
+    type Row = Id;
+
+    ghost meaning = { id_item };
+
+    fn read(alloc: Global, row: &Value, path: &Path) -> Result<Id, FieldFault> {
+        let Some(text) = row.as_str() else {
+            return Err(FieldFault::wrong_shape_of(alloc, path));
+        };
+        match Id::of(alloc, text.as_bytes())? {
+            Some(id) => Ok(id),
+            None => Err(FieldFault::bad_text_of(alloc, path)),
+        }
     }
-    Ok(ids)
 }
 
 /// What is read of an attachment before its subnets.
@@ -74,7 +69,7 @@ fn attachment_of(alloc: Global, row: &Value, path: &Path) -> Result<Option<Attac
     ensures { Reads (λ x. x) (attachment_of (view row.now) path.now) result }
 {
     let head = head_of(alloc, row, path)?;
-    let subnets = subnet_ids(alloc, row, path)?;
+    let subnets = read_items::<SubnetIds>(alloc, row, path, "SubnetIds")?;
     if !is_usable_at(alloc, row, path)? {
         return Ok(None);
     }
@@ -142,7 +137,7 @@ fn is_ipv6(text: &str) -> bool
 fn destination_of(alloc: Global, row: &Value, path: &Path) -> Result<Option<Prefix>, FieldFault>
     ensures { Reads (λ x. x) (destination_of (view row.now) path.now) result }
 {
-    let text = match text_at(alloc, row, path, "DestinationCidrBlock") {
+    let text = match str_at(alloc, row, path, "DestinationCidrBlock") {
         Ok(text) => text,
         Err(fault) => return Err(fault),
     };
