@@ -37,11 +37,15 @@ each_of read bundle name = and_then (rows_of bundle name) (each_row read name)
 abbrev pub each_kept_of : {A : Type 0} → (Data → List ℕ → Result (Option A) FieldFault) → Data → List ℕ → Result (List A) FieldFault
 each_kept_of read bundle name = and_then (rows_of bundle name) (each_kept read name)
 
--- the rows with another id
-abbrev pub with_another_id : {A : Type 0} → (A → List ℕ) → List ℕ → List A → List A
-with_another_id id_of id rows = filter (λ row. not (bytes_eq (id_of row) id)) rows
+-- the rows with another key, by this test
+abbrev pub with_another : {A K : Type 0} → (K → K → Bool) → (A → K) → K → List A → List A
+with_another same key_of key rows = filter (λ row. not (same (key_of row) key)) rows
+
+-- of the rows with one key, the first
+abbrev pub firsts_by : {A K : Type 0} → (K → K → Bool) → (A → K) → List A → List A
+firsts_by same key_of [] = []
+firsts_by same key_of (row ∷ rows) = row ∷ with_another same key_of (key_of row) (firsts_by same key_of rows)
 
 -- of the rows with one id, the first
 abbrev pub first_of_each : {A : Type 0} → (A → List ℕ) → List A → List A
-first_of_each id_of [] = []
-first_of_each id_of (row ∷ rows) = row ∷ with_another_id id_of (id_of row) (first_of_each id_of rows)
+first_of_each = firsts_by bytes_eq

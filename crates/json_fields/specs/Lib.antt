@@ -1,4 +1,5 @@
 pub mod Paths
+pub mod PathParts
 pub mod FieldFault
 pub mod Fields
 pub mod Bundle

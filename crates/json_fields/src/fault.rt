@@ -3,7 +3,7 @@ ghost use Rattle.std.specs.Prelude.{◌≡◌};
 ghost use Rattle.json_fields.specs.declared.fault.FieldFault.TheVariants.{Memory};
 ghost use Rattle.json_fields.specs.Paths.{at_member};
 
-use crate::Path;
+use crate::{Path, PathText};
 use std::alloc::{AllocError, AllocFailed, Global};
 use vpc_base::NoMemory;
 
@@ -12,9 +12,9 @@ use vpc_base::NoMemory;
 pub enum FieldFault {
     /// The value at the path is of another JSON kind than the form has there, or it is absent and
     /// must be there.
-    WrongShape(Path),
+    WrongShape(PathText),
     /// The text at the path is outside its grammar, or the whole number there is out of range.
-    BadText(Path),
+    BadText(PathText),
     /// Memory was refused.
     Memory,
 }
@@ -50,7 +50,7 @@ impl FieldFault {
     pub fn wrong_shape_at(alloc: Global, name: &str) -> FieldFault
         ensures { Tells (FieldFault.WrongShape name.now) result }
     {
-        match Path::name(alloc, name) {
+        match Path::list(name).text(alloc) {
             Ok(path) => FieldFault::WrongShape(path),
             Err(_) => FieldFault::Memory,
         }
@@ -60,7 +60,7 @@ impl FieldFault {
     pub fn wrong_shape_of(alloc: Global, path: &Path) -> FieldFault
         ensures { Tells (FieldFault.WrongShape path.now) result }
     {
-        match path.copied(alloc) {
+        match path.text(alloc) {
             Ok(path) => FieldFault::WrongShape(path),
             Err(_) => FieldFault::Memory,
         }
@@ -70,7 +70,7 @@ impl FieldFault {
     pub fn bad_text_of(alloc: Global, path: &Path) -> FieldFault
         ensures { Tells (FieldFault.BadText path.now) result }
     {
-        match path.copied(alloc) {
+        match path.text(alloc) {
             Ok(path) => FieldFault::BadText(path),
             Err(_) => FieldFault::Memory,
         }
@@ -80,7 +80,7 @@ impl FieldFault {
     pub fn wrong_shape(alloc: Global, path: &Path, field: &str) -> FieldFault
         ensures { Tells (FieldFault.WrongShape (at_member path.now field.now)) result }
     {
-        match path.member_in(alloc, field) {
+        match path.member(field).text(alloc) {
             Ok(member) => FieldFault::WrongShape(member),
             Err(_) => FieldFault::Memory,
         }
@@ -90,7 +90,7 @@ impl FieldFault {
     pub fn bad_text(alloc: Global, path: &Path, field: &str) -> FieldFault
         ensures { Tells (FieldFault.BadText (at_member path.now field.now)) result }
     {
-        match path.member_in(alloc, field) {
+        match path.member(field).text(alloc) {
             Ok(member) => FieldFault::BadText(member),
             Err(_) => FieldFault::Memory,
         }

@@ -24,7 +24,7 @@ pub use kept::{HasId, SeenIds, first_of_each, those_there};
 pub use members::{list_if, member};
 pub use needed::{flag_at, prefix_at, str_at};
 pub use parts::{addr_if_within, has_text, id_if_within, id_within, str_if_within, str_within};
-pub use path::Path;
+pub use path::{Path, PathText};
 pub use rows::{ReadRow, items_if, read_each, read_items, read_kept_items, read_kept_list, read_list};
 pub use texts::OwnText;
 

@@ -21,7 +21,7 @@ pub fn id_within(
 ) -> Result<Id, FieldFault>
     ensures { Reads (λ x. x) (within_part id_of (view row.now) path.now part.now field.now) result }
 {
-    let path = path.member(part)?;
+    let path = path.member(part);
     match row.get(part) {
         Some(inner) => id_at(alloc, inner, &path, field),
         None => Err(FieldFault::wrong_shape(alloc, &path, field)),
@@ -39,7 +39,7 @@ pub fn id_if_within(
     ensures { Reads (λ x. x) (within_part id_if_of (view row.now) path.now part.now field.now) result }
 {
     match row.get(part) {
-        Some(inner) => id_if(alloc, inner, &path.member(part)?, field),
+        Some(inner) => id_if(alloc, inner, &path.member(part), field),
         None => Ok(None),
     }
 }
@@ -55,7 +55,7 @@ pub fn addr_if_within(
     ensures { Reads (λ x. x) (within_part addr_of_field (view row.now) path.now part.now field.now) result }
 {
     match row.get(part) {
-        Some(inner) => addr_if(alloc, inner, &path.member(part)?, field),
+        Some(inner) => addr_if(alloc, inner, &path.member(part), field),
         None => Ok(None),
     }
 }
@@ -70,7 +70,7 @@ pub fn str_within<'a>(
 ) -> Result<&'a str, FieldFault>
     ensures { Reads (λ s. s.now) (within_part (needed text_of) (view row.now) path.now part.now field.now) result }
 {
-    let path = path.member(part)?;
+    let path = path.member(part);
     match row.get(part) {
         Some(inner) => str_at(alloc, inner, &path, field),
         None => Err(FieldFault::wrong_shape(alloc, &path, field)),
@@ -88,7 +88,7 @@ pub fn str_if_within<'a>(
     ensures { Reads (option_map (λ s. s.now)) (within_part text_of (view row.now) path.now part.now field.now) result }
 {
     match row.get(part) {
-        Some(inner) => str_if(alloc, inner, &path.member(part)?, field),
+        Some(inner) => str_if(alloc, inner, &path.member(part), field),
         None => Ok(None),
     }
 }

@@ -37,8 +37,7 @@ fn read_row<R: ReadRow>(
 ) -> Result<R::Row, FieldFault>
     ensures { Reads (λ x. x) (R.meaning (view row.now) (at_row name.now number)) result }
 {
-    let path = name.row_in(alloc, number as u64)?;
-    R::read(alloc, row, &path)
+    R::read(alloc, row, &name.row(number as u64))
 }
 
 /// What each of the rows tells, in order. `name` is the path of their list.
@@ -110,8 +109,7 @@ pub fn read_items<R: ReadRow>(
     ensures { Reads (λ v. v.items) (each_item R.meaning (view row.now) path.now field.now) result }
 {
     let items = items_if(alloc, row, path, field)?;
-    let name = path.member_in(alloc, field)?;
-    read_values::<R>(alloc, items, &name)
+    read_values::<R>(alloc, items, &path.member(field))
 }
 
 /// What each row of the bundle's list of this name tells.
@@ -123,8 +121,7 @@ pub fn read_list<R: ReadRow>(
     ensures { Reads (λ v. v.items) (each_of R.meaning (view bundle.now) name.now) result }
 {
     let rows = rows_of(alloc, bundle, name)?;
-    let path = Path::name(alloc, name)?;
-    read_each::<R>(alloc, rows.as_slice(), &path)
+    read_each::<R>(alloc, rows.as_slice(), &Path::list(name))
 }
 
 /// What the items of the member of this name tell that are kept.

@@ -29,7 +29,8 @@ fn kind_told<T: Drop>(answer: Result<T, FieldFault>) -> Kind {
 }
 
 fn number_told(alloc: Global, text: &str) -> Result<(Kind, Option<i64>), Fail> {
-    let path = Path::row(alloc, "NetworkAcls", 12)?;
+    let list = Path::list("NetworkAcls");
+    let path = list.row(12);
     let row = Value::from_str(alloc, text)?;
     match number_if(alloc, &row, &path, "From", -1, 65535) {
         Ok(number) => Ok((Kind::Value, number)),
@@ -66,7 +67,8 @@ fn numbers(rt: HostRuntime) -> Result<(), Fail> {
 /// The kinds of a member as a flag, any text, an address, a prefix, an id, and an id that must be
 /// there.
 fn kinds_told(alloc: Global, text: &str) -> Result<[Kind; 6], Fail> {
-    let path = Path::row(alloc, "Vpcs", 0)?;
+    let list = Path::list("Vpcs");
+    let path = list.row(0);
     let row = Value::from_str(alloc, text)?;
     Ok([
         kind_told(flag_if(alloc, &row, &path, "F")),
@@ -131,14 +133,18 @@ fn lists(rt: HostRuntime) -> Result<(), Fail> {
     Ok(())
 }
 
-fn item_place(alloc: Global) -> Result<Path, Fail> {
-    let path = Path::row(alloc, "NetworkInterfaces", 18446744073709551615)?;
-    Ok(path.item("Groups", 1)?.member("GroupId")?)
+fn item_place(alloc: Global) -> Result<PathText, Fail> {
+    let list = Path::list("NetworkInterfaces");
+    let row = list.row(18446744073709551615);
+    let groups = row.member("Groups");
+    let group = groups.row(1);
+    Ok(group.member("GroupId").text(alloc)?)
 }
 
 fn tags_told(alloc: Global) -> Result<FieldFault, Fail> {
     let row = Value::from_str(alloc, "{\"Groups\": [1, 2], \"Tags\": 3}")?;
-    let path = Path::row(alloc, "NetworkInterfaces", 0)?;
+    let list = Path::list("NetworkInterfaces");
+    let path = list.row(0);
     match list_if(alloc, &row, &path, "Tags") {
         Ok(_) => Ok(FieldFault::Memory),
         Err(fault) => Ok(fault),
@@ -147,7 +153,8 @@ fn tags_told(alloc: Global) -> Result<FieldFault, Fail> {
 
 fn groups_told(alloc: Global) -> Result<usize, Fail> {
     let row = Value::from_str(alloc, "{\"Groups\": [1, 2], \"Tags\": 3}")?;
-    let path = Path::row(alloc, "NetworkInterfaces", 0)?;
+    let list = Path::list("NetworkInterfaces");
+    let path = list.row(0);
     match list_if(alloc, &row, &path, "Groups") {
         Ok(groups) => Ok(groups.len()),
         Err(_) => Ok(0),

@@ -165,7 +165,7 @@ pub fn read_site(alloc: Global, bundle: &Value) -> Result<Site, FormFault>
     if !is_plain(bundle) {
         return Err(FormFault::NotYet);
     }
-    let reader = Reader::of(alloc)?;
+    let reader = Reader::of(alloc);
     let frame = reader.frame(bundle)?;
     let groups = reader.groups_of(frame.vpc.bytes(), bundle)?;
     let hosts = reader.hosts_of(frame.subnet.bytes(), &groups, bundle)?;

@@ -50,14 +50,14 @@ impl<T: Drop> From<AllocFailed<T>> for FormFault {
 #[derive(Drop)]
 pub struct Reader {
     pub alloc: Global,
-    pub root: Path,
+    pub root: Path<'static>,
     ghost rooted: { root ≡ bundle_path },
 }
 
 impl Reader {
-    pub fn of(alloc: Global) -> Result<Reader, NoMemory> {
-        let root = Path::name(alloc, "$")?;
-        Ok(Reader { alloc, root })
+    pub fn of(alloc: Global) -> Reader {
+        let root = Path::list("$");
+        Reader { alloc, root }
     }
 
     pub fn id(&self, row: &Value, field: &str) -> Result<Id, FormFault>
