@@ -23,6 +23,11 @@ abbrev pub number_from : ℕ → List (List ℕ) → List ℕ → Option ℕ
 number_from n [] id = None
 number_from n (known ∷ others) id = if bytes_eq id known then Some n else number_from (n + 1) others id
 
+-- the number that stands beside the id
+abbrev pub number_in : List (List ℕ × ℕ) → List ℕ → Option ℕ
+number_in [] id = None
+number_in (entry ∷ entries) id = if bytes_eq id entry.0 then Some entry.1 else number_in entries id
+
 -- the ids of a rule and of its group, which are read of each row
 abbrev pub head_of : Data → List ℕ → Result RuleHead FieldFault
 head_of row path =
@@ -30,12 +35,15 @@ head_of row path =
     and_then (id_of row path (codes "GroupId")) (λ group.
     Ok (record { id = id; group = group })))
 
+-- whether the row names a group
+abbrev pub names_group : Data → Bool
+names_group row = is_some (member_of (part_of row (codes "ReferencedGroupInfo")) (codes "GroupId"))
+
 -- whether the row names an IPv4 block, a prefix list or a group: others, as those of IPv6, are dropped
 abbrev pub has_target : Data → Bool
 has_target row =
     is_some (member_of row (codes "CidrIpv4"))
-    || (is_some (member_of row (codes "PrefixListId"))
-    || is_some (member_of (part_of row (codes "ReferencedGroupInfo")) (codes "GroupId")))
+    || (is_some (member_of row (codes "PrefixListId")) || names_group row)
 
 -- a block, else a list, else a group (profile)
 abbrev pub one_target : Option Block → Option (List ℕ) → Option (List ℕ) → Targets

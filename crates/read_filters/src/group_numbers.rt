@@ -1,34 +1,32 @@
 // Groups by their ids.
 ghost use Rattle.std.specs.Prelude.{◌≡◌, IfOk, map};
-ghost use Rattle.read_filters.specs.GroupRules.{number_from};
+ghost use Rattle.read_filters.specs.GroupRules.{number_from, number_in};
 
 use indexmap::IndexMap;
 use std::alloc::{AllocError, Global};
 use std::marker::Model;
 use vpc_base::NoMemory;
-use vpc_model::Group;
+use vpc_model::{Group, Id};
 
-/// The numbers of groups by their ids. Contracts see it as a function.
+/// Numbers by ids. Contracts see the ids, each with its number.
 #[derive(Debug, Drop)]
 pub struct GroupNumbers {
     numbers: IndexMap<Vec<u8>, usize>,
 }
 
 impl Model for GroupNumbers {
-    ghost use Rattle.std.specs.Prelude.{List, ℕ, Option, bytes_eq};
-    ghost use Rattle.std.specs.Map.{lookup};
+    ghost use Rattle.std.specs.Prelude.{List, ℕ, map};
 
-    ghost Value = { List ℕ → Option ℕ };
+    ghost Value = { List (List ℕ × ℕ) };
 
-    ghost view = { λ s id. lookup (λ k. bytes_eq id k.items) s.numbers.entries };
+    ghost view = { λ s. map (λ e. (e.0.items, e.1)) s.numbers.entries };
 }
 
 impl GroupNumbers {
-    ghost use Rattle.std.specs.Prelude.{List, ℕ, Some, None, bytes_eq, if◌then◌else◌, OnOk};
-    ghost use Rattle.read_filters.specs.GroupRules.{or_else};
+    ghost use Rattle.std.specs.Prelude.{None, [], ◌++◌, ◌∷◌, if◌then◌else◌, is_some, OnOk};
 
     fn new(alloc: Global) -> GroupNumbers
-        ensures { (id : List ℕ) → result id ≡ None }
+        ensures { result ≡ [] }
     {
         GroupNumbers {
             numbers: IndexMap::new(alloc),
@@ -36,32 +34,38 @@ impl GroupNumbers {
     }
 
     /// The number of the first group with this id.
+    #[tactic(auto, using(crate::proofs::NumberLemmas::number_lookups))]
     pub fn get(&self, id: &[u8]) -> Option<usize>
-        ensures { result ≡ self.now id.now }
+        ensures { result ≡ number_in self.now id.now }
     {
         self.numbers.get(id).copied()
     }
 
-    // An id that is there keeps its number.
-    fn add(&mut self, id: Vec<u8>, number: usize) -> Result<(), AllocError>
-        ensures { OnOk result ((i : List ℕ) → self.new i ≡ or_else (self.old i) (if bytes_eq i id.items then Some number else None)) }
+    fn append(&mut self, id: Vec<u8>, number: usize) -> Result<(), AllocError>
+        requires { number_in self.old id.items ≡ None }
+        ensures { OnOk result (self.new ≡ self.old ++ (id.items, number) ∷ []) }
     {
-        match self.get(id.as_slice()) {
-            Some(_) => {}
-            None => {
-                self.numbers.insert(id, number)?;
-            }
-        }
+        self.numbers.insert(id, number)?;
         Ok(())
+    }
+
+    // An id that is there keeps its number.
+    fn add(&mut self, alloc: Global, id: &Id, number: usize) -> Result<(), AllocError>
+        ensures { OnOk result (self.new ≡ (if is_some (number_in self.old id.now) then self.old else self.old ++ (id.now, number) ∷ [])) }
+    {
+        match self.get(id.bytes()) {
+            Some(_) => Ok(()),
+            None => self.append(id.bytes().to_vec(alloc)?, number),
+        }
     }
 
     /// The numbers of the groups, from 0. Of those with one id the first counts.
     pub fn of(alloc: Global, groups: &[Group]) -> Result<GroupNumbers, NoMemory>
-        ensures { IfOk result (λ n. n ≡ number_from 0 (map (λ g. g.id) groups.now)) }
+        ensures { IfOk result (λ n. number_in n ≡ number_from 0 (map (λ g. g.id) groups.now)) }
     {
         let mut numbers = GroupNumbers::new(alloc);
         for (number, group) in groups.iter().enumerate() {
-            numbers.add(group.id.bytes().to_vec(alloc)?, number)?;
+            numbers.add(alloc, &group.id, number)?;
         }
         Ok(numbers)
     }

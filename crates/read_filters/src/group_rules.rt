@@ -1,8 +1,9 @@
 // Rules that are told apart from their groups.
-ghost use Rattle.std.specs.Prelude.{◌≡◌, ◌++◌, ◌∷◌, [], IfOk, if◌then◌else◌, is_some, map};
+ghost use Rattle.std.specs.Prelude.{◌≡◌, ◌++◌, ◌∷◌, [], IfOk, OnOk, codes, if◌then◌else◌, is_some, map, option_to_list};
 ghost use Rattle.serde_json.specs.View.{view};
 ghost use Rattle.json_fields.specs.FieldFault.{Reads};
-ghost use Rattle.read_filters.specs.GroupRules.{body_of, has_target, head_of, kept_for, one_target, rule_if, rule_with, rules_from, rules_of, seen_with, target_of};
+ghost use Rattle.json_fields.specs.Paths.{at_row};
+ghost use Rattle.read_filters.specs.GroupRules.{body_of, has_target, head_of, kept_for, names_group, number_in, one_target, rule_if, rule_with, rules_from, rules_of, seen_with, target_of};
 
 use crate::group_numbers::GroupNumbers;
 use crate::permissions::{Targets, Traffic, traffic_of};
@@ -11,9 +12,9 @@ use json_fields::{
 };
 use prefix_text::Prefix;
 use serde_json::Value;
-use std::alloc::Global;
+use std::alloc::{AllocError, Global};
 use vpc_base::{NoMemory, OwnList};
-use vpc_model::{Id, Permission};
+use vpc_model::{Group, Id, Permission};
 
 /// A rule of the group of a number.
 #[derive(Debug, Drop)]
@@ -62,7 +63,7 @@ fn has_target(row: &Value) -> bool
         || (member(row, "PrefixListId").is_some() || names_group(row))
 }
 
-fn only<T: Drop>(alloc: Global, item: T) -> Result<OwnList<T>, NoMemory>
+fn only<T: Drop>(alloc: Global, item: T) -> Result<OwnList<T>, AllocError>
     ensures { IfOk result (λ l. l ≡ item ∷ []) }
 {
     let mut items = Vec::new(alloc);
@@ -156,7 +157,7 @@ fn kept_for(
     row: &Value,
     head: &RuleHead,
 ) -> Result<Option<usize>, NoMemory>
-    ensures kept { IfOk result (λ n. n ≡ kept_for numbers.now seen.old (view row.now) head.now) }
+    ensures kept { IfOk result (λ n. n ≡ kept_for (number_in numbers.now) seen.old (view row.now) head.now) }
     ensures seen { IfOk result (λ n. seen.new ≡ (if is_some n then seen.old ++ head.now.id ∷ [] else seen.old)) }
 {
     if !has_target(row) {
@@ -179,7 +180,7 @@ fn rule_if(
     row: &Value,
     path: &Path,
 ) -> Result<Option<GroupRule>, FieldFault>
-    ensures rule { Reads (λ x. x) (rule_if numbers.now seen.old (view row.now) path.now) result }
+    ensures rule { Reads (λ x. x) (rule_if (number_in numbers.now) seen.old (view row.now) path.now) result }
     ensures seen { IfOk result (λ r. seen.new ≡ seen_with seen.old r) }
 {
     let head = head_of(alloc, row, path)?;
@@ -190,20 +191,43 @@ fn rule_if(
     Ok(Some(rule_with(head.id, number, body)))
 }
 
+// What memory refuses is dropped.
+fn add_if(rules: &mut Vec<GroupRule>, rule: Option<GroupRule>) -> Result<(), AllocError>
+    ensures { OnOk result (rules.new.items ≡ rules.old.items ++ option_to_list rule) }
+{
+    if let Some(rule) = rule {
+        rules.push(rule)?;
+    }
+    Ok(())
+}
+
+// A row of the list at its place.
+fn row_if(
+    alloc: Global,
+    numbers: &GroupNumbers,
+    seen: &mut SeenIds,
+    row: &Value,
+    number: usize,
+) -> Result<Option<GroupRule>, FieldFault>
+    ensures rule { Reads (λ x. x) (rule_if (number_in numbers.now) seen.old (view row.now) (at_row (codes "SecurityGroupRules") number)) result }
+    ensures seen { IfOk result (λ r. seen.new ≡ seen_with seen.old r) }
+{
+    let list = Path::list("SecurityGroupRules");
+    rule_if(alloc, numbers, seen, row, &list.row(number as u64))
+}
+
 fn rules_among(
     alloc: Global,
     numbers: &GroupNumbers,
     rows: &[&Value],
 ) -> Result<Vec<GroupRule>, FieldFault>
-    ensures { Reads (λ v. v.items) (rules_from numbers.now [] 0 (map (λ r. view r.now) rows.now)) result }
+    ensures { Reads (λ v. v.items) (rules_from (number_in numbers.now) [] 0 (map (λ r. view r.now) rows.now)) result }
 {
     let mut seen = SeenIds::new(alloc);
     let mut rules = Vec::new(alloc);
     for (number, row) in rows.iter().enumerate() {
-        let path = Path::row(alloc, "SecurityGroupRules", number as u64)?;
-        if let Some(rule) = rule_if(alloc, numbers, &mut seen, row, &path)? {
-            rules.push(rule)?;
-        }
+        let rule = row_if(alloc, numbers, &mut seen, row, number)?;
+        add_if(&mut rules, rule)?;
     }
     Ok(rules)
 }

@@ -5,6 +5,8 @@
 #![tactic(auto)]
 
 mod acls;
+mod group_numbers;
+mod group_rules;
 mod groups;
 mod permissions;
 mod protocols;

@@ -87,10 +87,10 @@ impl ReadRow for PairedGroups {
 
 /// The sources or destinations of a permission.
 #[derive(Debug, Drop)]
-struct Targets {
-    blocks: OwnList<Prefix>,
-    lists: OwnList<Id>,
-    groups: OwnList<Id>,
+pub struct Targets {
+    pub blocks: OwnList<Prefix>,
+    pub lists: OwnList<Id>,
+    pub groups: OwnList<Id>,
 }
 
 fn targets_of(alloc: Global, row: &Value, path: &Path) -> Result<Targets, FieldFault>

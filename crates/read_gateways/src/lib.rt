@@ -13,3 +13,6 @@ mod texts;
 mod transit;
 
 pub use reader::{GatewayRows, read_gateways};
+
+#[cfg(test)]
+mod tests;
