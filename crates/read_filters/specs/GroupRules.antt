@@ -1,6 +1,6 @@
 -- What the rows of SecurityGroupRules mean (EC2 API, DescribeSecurityGroupRules): where they tell rules of a group, they
 -- stand in place of the group's permissions.
-use Rattle.std.specs.Prelude.{ℕ, ◌+◌, ◌==◌, ◌∷◌, ◌++◌, ◌||◌, ◌&&◌, Bool, true, false, not, List, [], Option, Some, None, bytes_eq, codes, filter, is_some, map, option_to_list, Result, Ok, if◌then◌else◌}
+use Rattle.std.specs.Prelude.{ℕ, ◌+◌, ◌==◌, ◌∷◌, ◌++◌, ◌||◌, ◌&&◌, Bool, true, false, not, List, [], Option, Some, None, bytes_eq, codes, filter, is_some, length, map, option_to_list, Result, Ok, if◌then◌else◌}
 use Rattle.std.specs.List.{list_any}
 use Rattle.serde_json.specs.Data.{Data}
 use Rattle.prefix_text.specs.Block.{Block}
@@ -119,11 +119,14 @@ permissions_of directed rules = map (λ rule. rule.permission) (filter directed 
 
 -- the group with these rules in place of its permissions, where there are any
 abbrev pub with_rules : List GroupRule → Group → Group
-with_rules [] group = group
-with_rules (rule ∷ rules) group = record group {
-  inward = permissions_of (λ r. not r.outward) (rule ∷ rules);
-  outward = permissions_of (λ r. r.outward) (rule ∷ rules);
-}
+with_rules rules group =
+    if length rules == 0 then group
+    else (record {
+      id = group.id;
+      vpc = group.vpc;
+      inward = permissions_of (λ rule. not rule.outward) rules;
+      outward = permissions_of (λ rule. rule.outward) rules;
+    })
 
 -- the rules of the group of this number
 abbrev pub rules_at : ℕ → List GroupRule → List GroupRule

@@ -5,3 +5,4 @@ pub mod Permissions
 pub mod Groups
 pub mod Filters
 pub mod GroupRules
+pub mod Shares

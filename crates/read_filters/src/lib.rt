@@ -12,5 +12,7 @@ mod permissions;
 mod protocols;
 mod ranges;
 mod reader;
+mod ruled_groups;
 
 pub use reader::{FilterRows, read_filters};
+pub use ruled_groups::read_group_rules;
