@@ -17,8 +17,8 @@ drop-next rows k row within at = rw (add-one, drop-cons rows k row within) (ap (
 pub rules_from-step : {R : Type 0} (shown : R → Data) (number_of : List ℕ → Option ℕ) (seen : List (List ℕ)) (rows : List R) (k : ℕ) (row : R) (all : List GroupRule)
     → k < length rows → row ≡ get_or rows k row
     → and_then (rules_from number_of seen k (map shown (drop k rows))) (λ others. Ok (all ++ others))
-      ≡ and_then (rule_if number_of seen (shown row) (at_row (codes "SecurityGroupRules") k)) (λ rule.
-        and_then (rules_from number_of (seen_with seen rule) (k + 1) (map shown (drop (k + 1) rows))) (λ others. Ok ((all ++ option_to_list rule) ++ others)))
+    ≡ and_then (rule_if number_of seen (shown row) (at_row (codes "SecurityGroupRules") k)) (λ rule.
+    and_then (rules_from number_of (seen_with seen rule) (k + 1) (map shown (drop (k + 1) rows))) (λ others. Ok ((all ++ option_to_list rule) ++ others)))
 rules_from-step shown number_of seen rows k row all within at =
     rw (drop-next rows k row within at) (by (rule_if number_of seen (shown row) (at_row (codes "SecurityGroupRules") k)))
   where
@@ -29,7 +29,7 @@ rules_from-step shown number_of seen rows k row all within at =
 
     by : (r : Result (Option GroupRule) FieldFault)
         → and_then (and_then r (λ rule. and_then (rules_from number_of (seen_with seen rule) (k + 1) (map shown (drop (k + 1) rows))) (λ o. Ok (option_to_list rule ++ o)))) (λ o. Ok (all ++ o))
-          ≡ and_then r (λ rule. and_then (rules_from number_of (seen_with seen rule) (k + 1) (map shown (drop (k + 1) rows))) (λ o. Ok ((all ++ option_to_list rule) ++ o)))
+        ≡ and_then r (λ rule. and_then (rules_from number_of (seen_with seen rule) (k + 1) (map shown (drop (k + 1) rows))) (λ o. Ok ((all ++ option_to_list rule) ++ o)))
     by (Err fault) = refl
     by (Ok rule) = joined rule (rules_from number_of (seen_with seen rule) (k + 1) (map shown (drop (k + 1) rows)))
 
@@ -45,7 +45,7 @@ pub rules_from-next : {R : Type 0} (shown : R → Data) (number_of : List ℕ �
     → k < length rows → row ≡ get_or rows k row
     → rule_if number_of seen (shown row) (at_row (codes "SecurityGroupRules") k) ≡ Ok rule
     → and_then (rules_from number_of (seen_with seen rule) (k + 1) (map shown (drop (k + 1) rows))) (λ others. Ok ((all ++ option_to_list rule) ++ others))
-      ≡ and_then (rules_from number_of seen k (map shown (drop k rows))) (λ others. Ok (all ++ others))
+    ≡ and_then (rules_from number_of seen k (map shown (drop k rows))) (λ others. Ok (all ++ others))
 rules_from-next shown number_of seen rows k row all rule within at read =
     sym
     (rules_from-step shown number_of seen rows k row all within at

@@ -86,12 +86,7 @@ fn head_of(alloc: Global, row: &Value, path: &Path) -> Result<AclHead, FieldFaul
     })
 }
 
-fn entry_range(
-    alloc: Global,
-    kind: QKind,
-    row: &Value,
-    path: &Path,
-) -> Result<QRange, FieldFault>
+fn entry_range(alloc: Global, kind: QKind, row: &Value, path: &Path) -> Result<QRange, FieldFault>
     ensures { Reads (λ x. x) (entry_range kind (view row.now) path.now) result }
 {
     match kind {

@@ -59,8 +59,7 @@ fn names_group(row: &Value) -> bool
 fn has_target(row: &Value) -> bool
     ensures { result ≡ has_target (view row.now) }
 {
-    member(row, "CidrIpv4").is_some()
-        || (member(row, "PrefixListId").is_some() || names_group(row))
+    member(row, "CidrIpv4").is_some() || (member(row, "PrefixListId").is_some() || names_group(row))
 }
 
 fn only<T: Drop>(alloc: Global, item: T) -> Result<OwnList<T>, AllocError>

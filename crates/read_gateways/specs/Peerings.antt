@@ -20,9 +20,9 @@ is_active_of row path =
 abbrev pub pair_if : Bool → Data → List ℕ → Result (Option (List ℕ × List ℕ)) FieldFault
 pair_if active row path =
     if active then
-      and_then (side_of row path (codes "RequesterVpcInfo")) (λ requester.
-      and_then (side_of row path (codes "AccepterVpcInfo")) (λ accepter.
-      Ok (Some (requester, accepter))))
+    and_then (side_of row path (codes "RequesterVpcInfo")) (λ requester.
+    and_then (side_of row path (codes "AccepterVpcInfo")) (λ accepter.
+    Ok (Some (requester, accepter))))
     else Ok None
 
 -- a peering, with the VPCs on its sides where it is active

@@ -43,16 +43,22 @@ fn peerings_of(alloc: Global, bundle: &Value) -> Result<Vec<Peering>, FieldFault
 fn attachments_of(alloc: Global, bundle: &Value) -> Result<Vec<Attachment>, FieldFault>
     ensures { Reads (λ v. v.items) (attachments_of (view bundle.now)) result }
 {
-    let all =
-        read_kept_list::<Attachment, Attachments>(alloc, bundle, "TransitGatewayVpcAttachments")?;
+    let all = read_kept_list::<Attachment, Attachments>(
+        alloc,
+        bundle,
+        "TransitGatewayVpcAttachments",
+    )?;
     Ok(first_of_each(alloc, all)?)
 }
 
 fn associations_of(alloc: Global, bundle: &Value) -> Result<Vec<Association>, FieldFault>
     ensures { Reads (λ v. v.items) (associations_of (view bundle.now)) result }
 {
-    let all =
-        read_kept_list::<Association, Associations>(alloc, bundle, "TransitGatewayAttachments")?;
+    let all = read_kept_list::<Association, Associations>(
+        alloc,
+        bundle,
+        "TransitGatewayAttachments",
+    )?;
     Ok(first_of_each(alloc, all)?)
 }
 
