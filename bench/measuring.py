@@ -12,7 +12,7 @@ RUNS = 7
 
 def program():
     """The program to measure: the first word, or the one that ./vpc builds."""
-    return sys.argv[1] if len(sys.argv) > 1 else os.path.join(TOP, "crates/vpc_cli/out/vpc_cli")
+    return sys.argv[1] if len(sys.argv) > 1 else os.path.join(TOP, "out/vpc")
 
 
 def written(name, make, count):

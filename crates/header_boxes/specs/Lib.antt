@@ -3,3 +3,4 @@ pub mod Cells
 pub mod Rest
 pub mod Minus
 pub mod Laws
+pub mod Rows

@@ -6,6 +6,7 @@ mod division;
 mod laws;
 mod products;
 mod rest;
+mod rows;
 #[cfg(test)]
 mod tests;
 
@@ -15,3 +16,4 @@ pub use laws::{
     aligned_by_ends, aligned_cell, aligned_grows, aligned_transitive, box_holds_low, cell_number,
     low_is_least, minus_aligned, minus_low_after, volume_is_positive, within_holds,
 };
+pub use rows::Row;

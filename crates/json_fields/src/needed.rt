@@ -2,9 +2,9 @@
 ghost use Rattle.std.specs.Prelude.{◌≡◌};
 ghost use Rattle.serde_json.specs.View.{view};
 ghost use Rattle.json_fields.specs.FieldFault.{Reads};
-ghost use Rattle.json_fields.specs.Fields.{flag_of, needed, prefix_of_field, text_of};
+ghost use Rattle.json_fields.specs.Fields.{addr_of_field, flag_of, needed, prefix_of_field, text_of};
 
-use crate::fields::{flag_if, prefix_if, str_if};
+use crate::fields::{addr_if, flag_if, prefix_if, str_if};
 use crate::{FieldFault, Path};
 use prefix_text::Prefix;
 use serde_json::Value;
@@ -33,6 +33,16 @@ pub fn str_at<'a>(
         Ok(Some(text)) => Ok(text),
         Ok(None) => Err(FieldFault::wrong_shape(alloc, path, field)),
         Err(fault) => Err(fault),
+    }
+}
+
+/// An IPv4 address in dotted decimal notation, which must be there. The high byte comes first.
+pub fn addr_at(alloc: Global, row: &Value, path: &Path, field: &str) -> Result<u32, FieldFault>
+    ensures { Reads (λ x. x) (needed addr_of_field (view row.now) path.now field.now) result }
+{
+    match addr_if(alloc, row, path, field)? {
+        Some(addr) => Ok(addr),
+        None => Err(FieldFault::wrong_shape(alloc, path, field)),
     }
 }
 

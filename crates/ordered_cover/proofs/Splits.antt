@@ -16,9 +16,10 @@ use Rattle.header_boxes.specs.declared.boxes.Box5.{Box5}
 use Rattle.header_boxes.proofs.BoxLaws.{low_is_least, volume_is_positive}
 use Rattle.header_boxes.proofs.CellNumbers.{aligned_through, aligned_to_itself}
 use Rattle.header_boxes.proofs.Held.{holds_low, holds_whole, valid_if_within, within_itself}
-use Rattle.ordered_cover.specs.Cover.{IsFirstThrough, NoneThrough, HasWord, is_covered, AreWhole, IsBlocked, IsMore}
+use Rattle.header_boxes.specs.Rows.{IsFirstThrough, NoneThrough, HasWord, is_covered, AreWhole}
+use Rattle.ordered_cover.specs.Cover.{IsBlocked, IsMore}
 use Rattle.ordered_cover.specs.Open.{one_if, holders, row_holders, IsLeast, IsAsked, AreSplit, AreSplitBySome}
-use Rattle.ordered_cover.specs.declared.rows.Row.{Row}
+use Rattle.header_boxes.specs.declared.rows.Row.{Row}
 use Rattle.ordered_cover.proofs.Lists.{one_at, any_from_one, none_from_zero, zero_from_all}
 use Rattle.ordered_cover.proofs.Order.{before_trans, before_upto, before_other}
 use Rattle.ordered_cover.proofs.Boxes.{within_trans}
@@ -78,7 +79,8 @@ module _ {W : Type 0} {meaning : Header → Option W} {cuts : CutLists} {sides :
   -- before anything was asked
   pub split_at_start : IsValid sides → AreSplit meaning cuts sides (sides ∷ []) []
   split_at_start v = record {
-    are_true = record { within = All-nil _; aligned = All-nil _; word = All-nil _; disjoint = λ i j d lt inside. absurd (omega arith); ascending = λ i j d lt inside. absurd (omega arith) };
+    are_true = record { within = All-nil _; disjoint = λ i j d lt inside. absurd (omega arith); word = All-nil _ };
+    ordered = record { ascending = λ i j d lt inside. absurd (omega arith); aligned = All-nil _ };
     each = λ h. let s = sum_by-cons (λ b. one_if (holds h b)) sides [] in omega (arith, s);
     within = All-cons (λ b. IsWithin b sides) sides [] (within_itself sides v) (All-nil _);
     aligned = All-cons (λ b. IsAligned cuts b sides) sides [] (aligned_to_itself cuts sides) (All-nil _);
@@ -153,10 +155,12 @@ module _ {W : Type 0} {meaning : Header → Option W} {cuts : CutLists} {sides :
         record {
           are_true = record {
             within = All-push (λ r. IsWithin r.part sides) rows row s.are_true.within (within_trans part a.whole sides a.within whole);
-            aligned = All-push (λ r. IsAligned cuts r.part sides) rows row s.are_true.aligned (aligned_through cuts part a.whole sides a.aligned whole_aligned);
-            word = All-push (HasWord meaning) rows row s.are_true.word a.means;
             disjoint = all_pairs_push (λ x y. AreDisjoint x.part y.part) rows row s.are_true.disjoint in_no_row;
-            ascending = all_pairs_push (λ x y. IsBefore (low_of x.part) (low_of y.part)) rows row s.are_true.ascending whole_after;
+            word = All-push (HasWord meaning) rows row s.are_true.word a.means;
+          };
+          ordered = record {
+            ascending = all_pairs_push (λ x y. IsBefore (low_of x.part) (low_of y.part)) rows row s.ordered.ascending whole_after;
+            aligned = All-push (λ r. IsAligned cuts r.part sides) rows row s.ordered.aligned (aligned_through cuts part a.whole sides a.aligned whole_aligned);
           };
           each = λ h.
               let n = holders_new a h in let o = holders_old a h in let e = s.each h in let p = a.rest.each h in
@@ -216,7 +220,7 @@ module _ {W : Type 0} {meaning : Header → Option W} {cuts : CutLists} {sides :
 module _ {W : Type 0} {meaning : Header → Option W} {cuts : CutLists} {sides : Box5} where
   pub blocked_from_split : {open_boxes : List Box5} {rows : List (Row W)} (max : ℕ) → AreSplit meaning cuts sides open_boxes rows → open_boxes ≡ [] → length rows ≤ max
       → IsBlocked meaning cuts sides max rows
-  blocked_from_split {open_boxes = open_boxes} {rows = rows} max s none few = record { are_true = s.are_true; whole = whole_from_split open_boxes rows none s; few = few }
+  blocked_from_split {open_boxes = open_boxes} {rows = rows} max s none few = record { are_true = s.are_true; ordered = s.ordered; whole = whole_from_split open_boxes rows none s; few = few }
 
   -- the first open box begins at the first header outside the rows
   pub more_from_split : {open_boxes others : List Box5} {rows : List (Row W)} (max : ℕ) (b : Box5) → AreSplit meaning cuts sides open_boxes rows
@@ -233,6 +237,7 @@ module _ {W : Type 0} {meaning : Header → Option W} {cuts : CutLists} {sides :
       let covered : (k : Header) → holds k sides ≡ true → IsBefore k (low_of b) → is_covered rows k ≡ true = before_open open_boxes rows s b least in
       record {
         are_true = s.are_true;
+        ordered = s.ordered;
         count = count;
         outside = record { inside = holds_whole (low_of b) b sides within here; outside = none_from_zero (λ r. holds (low_of b) r.part) rows zero_rows; first = covered };
         begun = λ k d lt. let P : Box5 → Type 0 = (λ o. IsBefore (low_of (get_or rows k d).part) (low_of o)) in
@@ -247,6 +252,6 @@ module _ {W : Type 0} {meaning : Header → Option W} {cuts : CutLists} {sides :
             let c = sum_by-cons (λ x. one_if (holds h x)) b others in
             let e = s.each h in let m = at_most_one (holds h sides) in
             absurd (omega (arith, r, here, o, c, e, m))) in
-            let l = more_cells (λ (r : Row W). r.part) cuts sides b rows s.are_true.within s.are_true.aligned s.are_true.disjoint within b_aligned b_apart in
+            let l = more_cells (λ (r : Row W). r.part) cuts sides b rows s.are_true.within s.ordered.aligned s.are_true.disjoint within b_aligned b_apart in
             omega (arith, l, count);
       }

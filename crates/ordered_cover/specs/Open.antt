@@ -7,8 +7,8 @@ use Rattle.vpc_base.specs.declared.headers.Header.{Header}
 use Rattle.header_boxes.specs.Boxes.{holds, IsWithin, low_of, volume_of}
 use Rattle.header_boxes.specs.Cells.{IsAligned}
 use Rattle.header_boxes.specs.declared.boxes.Box5.{Box5}
-use Rattle.ordered_cover.specs.Cover.{AreTrueRows}
-use Rattle.ordered_cover.specs.declared.rows.Row.{Row}
+use Rattle.header_boxes.specs.Rows.{AreTrueRows, AreOrdered}
+use Rattle.header_boxes.specs.declared.rows.Row.{Row}
 
 -- 1 for true, 0 for false
 abbrev pub one_if : Bool → ℕ
@@ -48,9 +48,10 @@ pub record IsAsked {W : Type 0} (meaning : Header → Option W) (cuts : CutLists
   pub rest : AreRest cuts whole part pieces
   pub left : IsPermutation (others ++ pieces) new
 
--- true rows and open boxes that begin after them hold each header of the sides once, and no other header
+-- ordered true rows and open boxes that begin after them hold each header of the sides once, and no other header
 pub record AreSplit {W : Type 0} (meaning : Header → Option W) (cuts : CutLists) (sides : Box5) (open_boxes : List Box5) (rows : List (Row W)) : Type 0 where
-  pub are_true : AreTrueRows meaning cuts sides rows
+  pub are_true : AreTrueRows meaning sides rows
+  pub ordered : AreOrdered cuts sides rows
   pub each : (h : Header) → holders open_boxes h + row_holders rows h ≡ one_if (holds h sides)
   pub within : All (λ b. IsWithin b sides) open_boxes
   pub aligned : All (λ b. IsAligned cuts b sides) open_boxes

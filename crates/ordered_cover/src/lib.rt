@@ -10,5 +10,6 @@ pub mod search;
 #[cfg(test)]
 mod tests;
 
+pub use header_boxes::Row;
 pub use probe::Probe;
-pub use rows::{Cover, Row};
+pub use rows::Cover;

@@ -1,13 +1,6 @@
 // What a cover answers.
-use header_boxes::Box5;
+use header_boxes::Row;
 use vpc_base::Header;
-
-/// A box of headers that all have one word.
-#[derive(Clone, Copy, Debug, PartialEq, Eq)]
-pub struct Row<W> {
-    pub part: Box5,
-    pub word: W,
-}
 
 /// What is known of all headers of a box.
 #[derive(Debug, Drop)]

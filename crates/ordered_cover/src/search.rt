@@ -3,12 +3,13 @@
 //! open low corner.
 ghost use Rattle.std.specs.Prelude.{◌≡◌, ◌≤◌, ◌++◌, ◌∷◌, List, [], Option, All, IfOk, OnOk, IfNone, IfSome};
 ghost use Rattle.header_boxes.specs.Boxes.{IsValid};
-ghost use Rattle.ordered_cover.specs.Cover.{IsFirst, IsCover};
+ghost use Rattle.header_boxes.specs.Rows.{IsFirst};
+ghost use Rattle.ordered_cover.specs.Cover.{IsCover};
 ghost use Rattle.ordered_cover.specs.Open.{IsAsked};
 
 use crate::open::OpenBoxes;
-use crate::{Cover, Probe, Row};
-use header_boxes::Box5;
+use crate::{Cover, Probe};
+use header_boxes::{Box5, Row};
 use std::alloc::{AllocError, Global};
 use vpc_base::{Header, NoMemory};
 

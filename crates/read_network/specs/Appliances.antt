@@ -37,13 +37,16 @@ kind_by row path text =
     else (if bytes_eq text (codes "peer") then peer_of row path
     else Err (BadText (at_member path (codes "Kind"))))))
 
+-- what the appliance forwards
+abbrev pub kind_at : Data → List ℕ → Result ApplianceKind FieldFault
+kind_at row path = and_then (needed text_of row path (codes "Kind")) (kind_by row path)
+
 -- an appliance
 abbrev pub appliance_of : Data → List ℕ → Result Appliance FieldFault
 appliance_of row path =
     and_then (id_of row path (codes "NetworkInterfaceId")) (λ id.
-    and_then (needed text_of row path (codes "Kind")) (λ text.
-    and_then (kind_by row path text) (λ kind.
-    Ok (record { id = id; kind = kind }))))
+    and_then (kind_at row path) (λ kind.
+    Ok (record { id = id; kind = kind })))
 
 -- the appliances of a bundle
 abbrev pub appliances_of : Data → Result (List Appliance) FieldFault

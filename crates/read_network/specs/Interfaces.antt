@@ -60,6 +60,10 @@ abbrev pub kind_of : Option (List ℕ) → InterfaceKind
 kind_of None = Host
 kind_of (Some text) = if is_gateway_type text then Gateway else Host
 
+-- the kind of the row
+abbrev pub kind_at : Data → List ℕ → Result InterfaceKind FieldFault
+kind_at row path = and_then (text_of row path (codes "InterfaceType")) (λ text. Ok (kind_of text))
+
 -- ---- the whole row
 
 abbrev pub group_id : Data → List ℕ → Result (List ℕ) FieldFault
@@ -71,8 +75,8 @@ manner_of row path =
     and_then (each_item group_id row path (codes "Groups")) (λ groups.
     and_then (flag_of row path (codes "SourceDestCheck")) (λ checked.
     and_then (has_text (codes "available") row path (codes "Status")) (λ idle.
-    and_then (text_of row path (codes "InterfaceType")) (λ type.
-    Ok (record { groups = groups; checked = unwrap_or checked true; idle = idle; kind = kind_of type })))))
+    and_then (kind_at row path) (λ kind.
+    Ok (record { groups = groups; checked = unwrap_or checked true; idle = idle; kind = kind })))))
 
 -- an interface
 abbrev pub interface_of : Data → List ℕ → Result Interface FieldFault

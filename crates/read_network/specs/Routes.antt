@@ -20,10 +20,14 @@ abbrev pub reach_by_list : Data → List ℕ → Option (List ℕ) → Result (O
 reach_by_list row path (Some list) = Ok (Some (ByList list))
 reach_by_list row path None = if is_some (member_of row (codes "DestinationIpv6CidrBlock")) then Ok None else Err (WrongShape path)
 
+-- what a route without a block serves
+abbrev pub reach_else : Data → List ℕ → Result (Option Reach) FieldFault
+reach_else row path = and_then (id_if_of row path (codes "DestinationPrefixListId")) (reach_by_list row path)
+
 -- a route to a block, or to what else the row names
 abbrev pub reach_by_block : Data → List ℕ → Option Block → Result (Option Reach) FieldFault
 reach_by_block row path (Some block) = Ok (Some (ByBlock block))
-reach_by_block row path None = and_then (id_if_of row path (codes "DestinationPrefixListId")) (reach_by_list row path)
+reach_by_block row path None = reach_else row path
 
 -- what a route serves; nothing where it serves IPv6 addresses alone
 abbrev pub reach_of : Data → List ℕ → Result (Option Reach) FieldFault
@@ -41,6 +45,16 @@ gateway_target id =
     if bytes_eq id (codes "local") then targets.Local
     else (if starts_with nat_eq id (codes "igw-") then targets.Internet id else targets.Other id)
 
+-- fields whose targets aren't followed (profile)
+abbrev pub unfollowed : List Choice
+unfollowed =
+    (codes "InstanceId", λ id. targets.Other id)
+    ∷ (codes "LocalGatewayId", λ id. targets.Other id)
+    ∷ (codes "CarrierGatewayId", λ id. targets.Other id)
+    ∷ (codes "EgressOnlyInternetGatewayId", λ id. targets.Other id)
+    ∷ (codes "CoreNetworkArn", λ id. targets.Other id)
+    ∷ []
+
 -- the fields in the order in which they are looked for
 abbrev pub choices : List Choice
 choices =
@@ -49,12 +63,7 @@ choices =
     ∷ (codes "TransitGatewayId", λ id. targets.Transit id)
     ∷ (codes "VpcPeeringConnectionId", λ id. targets.Peer id)
     ∷ (codes "NetworkInterfaceId", λ id. targets.Interface id)
-    ∷ (codes "InstanceId", λ id. targets.Other id)
-    ∷ (codes "LocalGatewayId", λ id. targets.Other id)
-    ∷ (codes "CarrierGatewayId", λ id. targets.Other id)
-    ∷ (codes "EgressOnlyInternetGatewayId", λ id. targets.Other id)
-    ∷ (codes "CoreNetworkArn", λ id. targets.Other id)
-    ∷ []
+    ∷ unfollowed
 
 -- the target, where the id is there, or the other one
 abbrev pub target_or : Option (List ℕ) → (List ℕ → Target) → Result Target FieldFault → Result Target FieldFault

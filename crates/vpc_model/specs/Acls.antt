@@ -1,17 +1,15 @@
 -- Verdicts of network ACLs (VPC User Guide, "Network ACL rules"). ACLs know no connections.
-use Rattle.std.specs.Prelude.{ℕ, ◌&&◌, not, nat_lt, Bool, false, List, Option, Some, None}
+use Rattle.std.specs.Prelude.{◌&&◌, Bool, List, None, Option, Some, false, nat_lt, not, ℕ}
+use Rattle.vpc_model.specs.Types.{AclRow, Dir, Header}
+use Rattle.vpc_base.specs.declared.headers.Dir.TheVariants as dirs
 use Rattle.prefix_text.specs.Block.{holds}
-use Rattle.vpc_base.specs.declared.headers.Header.{Header}
-use Rattle.vpc_base.specs.declared.headers.Dir.{Dir}
-use Rattle.vpc_base.specs.declared.headers.Dir.TheVariants.{Inward, Outward}
-use Rattle.vpc_model.specs.declared.rows.AclRow.{AclRow}
 use Rattle.vpc_model.specs.Choice.{chosen}
-use Rattle.vpc_model.specs.Filter.{far_address, matches_proto, is_between}
+use Rattle.vpc_model.specs.Filter.{far_address, is_between, matches_proto}
 
 -- the row is of the direction (EC2 API, DescribeNetworkAcls)
 abbrev pub is_of_dir : Dir → AclRow → Bool
-is_of_dir Inward r = not r.outward
-is_of_dir Outward r = r.outward
+is_of_dir dirs.Inward r = not r.outward
+is_of_dir dirs.Outward r = r.outward
 
 -- protocol, port range and block match (VPC User Guide, "Network ACL rules")
 abbrev pub acl_matches : Dir → Header → AclRow → Bool

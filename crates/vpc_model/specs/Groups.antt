@@ -1,19 +1,12 @@
 -- What security groups allow (VPC User Guide, "Security group rules").
-use Rattle.std.specs.Prelude.{ℕ, ◌+◌, ◌&&◌, ◌||◌, Bool, false, List, [], ◌∷◌, Option, Some, None, bytes_eq, option_map, option_and_then, position}
 use Rattle.std.specs.List.{list_any}
+use Rattle.std.specs.Prelude.{◌&&◌, ◌||◌, ◌∷◌, ◌+◌, [], Bool, List, None, Option, Some, bytes_eq, false, option_and_then, option_map, position, ℕ}
+use Rattle.vpc_model.specs.Types.{Description, Dir, Group, GroupNo, Header, Interface, Permission, RuleRef}
+use Rattle.vpc_base.specs.declared.headers.Dir.TheVariants as dirs
 use Rattle.prefix_text.specs.Block.{holds}
-use Rattle.vpc_base.specs.declared.headers.Header.{Header}
-use Rattle.vpc_base.specs.declared.headers.Dir.{Dir}
-use Rattle.vpc_base.specs.declared.headers.Dir.TheVariants.{Inward, Outward}
-use Rattle.vpc_model.specs.declared.numbers.GroupNo.{GroupNo}
-use Rattle.vpc_model.specs.declared.outcomes.RuleRef.{RuleRef}
-use Rattle.vpc_model.specs.declared.rows.Description.{Description}
-use Rattle.vpc_model.specs.declared.rows.Group.{Group}
-use Rattle.vpc_model.specs.declared.rows.Interface.{Interface}
-use Rattle.vpc_model.specs.declared.rows.Permission.{Permission}
 use Rattle.vpc_model.specs.Choice.{or_else}
-use Rattle.vpc_model.specs.Filter.{far_address, matches_proto, is_between}
-use Rattle.vpc_model.specs.Lookup.{is_listed, has_address, entries_of, group_of_id, group_at}
+use Rattle.vpc_model.specs.Filter.{far_address, is_between, matches_proto}
+use Rattle.vpc_model.specs.Lookup.{entries_of, group_at, group_of_id, has_address, is_listed}
 
 -- the address is a private address of an interface that has the group (VPC User Guide, "Security group rules")
 abbrev pub is_member : Description → List ℕ → ℕ → Bool
@@ -45,8 +38,12 @@ permission_allows d vpc dir h p = matches_proto p.proto h.proto && (is_between p
 
 -- the rules of a direction: IpPermissions or IpPermissionsEgress (EC2 API, DescribeSecurityGroups)
 abbrev pub permissions_of : Dir → Group → List Permission
-permissions_of Inward g = g.inward
-permissions_of Outward g = g.outward
+permissions_of dirs.Inward g = g.inward
+permissions_of dirs.Outward g = g.outward
+
+-- a rule that allows nothing
+abbrev pub no_permission : Permission
+no_permission = record { id = None; proto = None; q_from = 1; q_to = 0; blocks = []; lists = []; groups = [] }
 
 -- the first rule of the group that allows the header, numbered from 1 (profile)
 abbrev pub rule_of_group : Description → Dir → Header → GroupNo → Option RuleRef

@@ -1,11 +1,9 @@
 -- Public addresses and the internet (VPC User Guide, "Internet gateways").
-use Rattle.std.specs.Prelude.{ℕ, ◌==◌, Bool, List, [], ◌∷◌, Option, option_map, find, map, filter}
-use Rattle.std.specs.List.{list_any, filter_map, flat_map}
-use Rattle.prefix_text.specs.Block.{Block, holds}
-use Rattle.vpc_model.specs.declared.numbers.VpcNo.{VpcNo}
-use Rattle.vpc_model.specs.declared.rows.Description.{Description}
-use Rattle.vpc_model.specs.declared.rows.Interface.{Interface}
-use Rattle.vpc_model.specs.Lookup.{is_in_vpc, vpc_of_interface, vpc_no}
+use Rattle.std.specs.List.{filter_map, flat_map, list_any}
+use Rattle.std.specs.Prelude.{◌==◌, ◌∷◌, [], Bool, List, Option, filter, find, map, option_map, ℕ}
+use Rattle.vpc_model.specs.Types.{Block, Description, Interface, VpcNo}
+use Rattle.prefix_text.specs.Block.{holds}
+use Rattle.vpc_model.specs.Lookup.{is_in_vpc, vpc_no, vpc_of_interface}
 
 -- 0.0.0.0/8, 10.0.0.0/8, 127.0.0.0/8, 169.254.0.0/16, 172.16.0.0/12, 192.168.0.0/16 and 224.0.0.0/3 (profile)
 abbrev pub unroutable_blocks : List Block

@@ -1,3 +1,4 @@
+pub mod Types
 pub mod Id
 pub mod Place
 pub mod Choice
@@ -11,16 +12,15 @@ pub mod Internet
 pub mod Peerings
 pub mod Nat
 pub mod Transit
+pub mod Appliances
 pub mod Step
 pub mod Walk
 pub mod Verdict
+pub mod Replay
+pub mod Accepted
 pub mod Cuts
+pub mod Sound
 pub mod Text
 pub mod Report
 pub mod ReportText
-pub mod Laws
-pub mod Networks
-pub mod Examples
-pub mod Printed
-pub mod Stops
-pub mod Reported
+pub mod Same

@@ -1,36 +1,14 @@
--- Rows by their numbers, and numbers by ids. A number is the place of a row in its list, from 0. In an
+-- Rows by their numbers, and numbers by ids. A number counts the rows of a list, from 0. In an
 -- accepted description every number that is asked for is in range and every id that is looked for is
 -- described; elsewhere the row is an empty one, and the number is the list's length.
-use Rattle.std.specs.Prelude.{ℕ, ◌==◌, ◌&&◌, Bool, true, false, List, [], Option, None, bytes_eq, option_map, position, slice_index_or, unwrap_or}
 use Rattle.std.specs.List.{list_any, position_or_len}
-use Rattle.prefix_text.specs.Block.{Block}
-use Rattle.vpc_model.specs.declared.numbers.VpcNo.{VpcNo}
-use Rattle.vpc_model.specs.declared.numbers.SubnetNo.{SubnetNo}
-use Rattle.vpc_model.specs.declared.numbers.EniNo.{EniNo}
-use Rattle.vpc_model.specs.declared.numbers.TableNo.{TableNo}
-use Rattle.vpc_model.specs.declared.numbers.AclNo.{AclNo}
-use Rattle.vpc_model.specs.declared.numbers.GroupNo.{GroupNo}
-use Rattle.vpc_model.specs.declared.numbers.IgwNo.{IgwNo}
-use Rattle.vpc_model.specs.declared.numbers.NatNo.{NatNo}
-use Rattle.vpc_model.specs.declared.numbers.PeerNo.{PeerNo}
-use Rattle.vpc_model.specs.declared.numbers.AttNo.{AttNo}
-use Rattle.vpc_model.specs.declared.numbers.TgwTableNo.{TgwTableNo}
-use Rattle.vpc_model.specs.declared.rows.Description.{Description}
-use Rattle.vpc_model.specs.declared.rows.Vpc.{Vpc}
-use Rattle.vpc_model.specs.declared.rows.Subnet.{Subnet}
-use Rattle.vpc_model.specs.declared.rows.Interface.{Interface}
-use Rattle.vpc_model.specs.declared.rows.InterfaceKind.TheVariants.{Host}
-use Rattle.vpc_model.specs.declared.rows.RouteTable.{RouteTable}
-use Rattle.vpc_model.specs.declared.rows.Acl.{Acl}
-use Rattle.vpc_model.specs.declared.rows.Group.{Group}
-use Rattle.vpc_model.specs.declared.rows.InternetGateway.{InternetGateway}
-use Rattle.vpc_model.specs.declared.rows.NatGateway.{NatGateway}
-use Rattle.vpc_model.specs.declared.rows.NatLife.TheVariants.{Gone}
-use Rattle.vpc_model.specs.declared.rows.Peering.{Peering}
-use Rattle.vpc_model.specs.declared.rows.Attachment.{Attachment}
-use Rattle.vpc_model.specs.declared.rows.TgwTable.{TgwTable}
+use Rattle.std.specs.Prelude.{◌==◌, ◌&&◌, [], Bool, List, None, Option, Some, bytes_eq, false, find, length, option_map, position, slice_index_or, true, unwrap_or, ℕ}
+use Rattle.vpc_model.specs.Types.{Acl, AclNo, AttNo, Attachment, Block, Description, EniNo, Group, GroupNo, IgwNo, Interface, InternetGateway, NatGateway, NatNo, PeerNo, Peering, RouteTable, Subnet, SubnetNo, TableNo, TgwTable, TgwTableNo, Vpc, VpcNo}
+use Rattle.vpc_model.specs.declared.rows.InterfaceKind.TheVariants as kinds
+use Rattle.vpc_model.specs.declared.rows.NatLife.TheVariants as lives
+use Rattle.vpc_model.specs.Choice.{or_else}
 
--- the id stands in the list (profile: notation)
+-- the id stands in the list
 abbrev pub is_listed : List ℕ → List (List ℕ) → Bool
 is_listed id ids = list_any (λ i. bytes_eq i id) ids
 
@@ -44,9 +22,9 @@ vpc_at d v = slice_index_or d.vpcs v.0 (record { id = []; blocks = [] })
 abbrev pub subnet_at : Description → SubnetNo → Subnet
 subnet_at d s = slice_index_or d.subnets s.0 (record { id = []; vpc = []; zone = [] })
 
--- an interface that sends and receives nothing (profile: notation)
+-- an interface that sends and receives nothing
 abbrev pub no_interface : Interface
-no_interface = record { id = []; subnet = []; primary = None; addresses = []; groups = []; checked = true; idle = true; kind = Host }
+no_interface = record { id = []; subnet = []; primary = None; addresses = []; groups = []; checked = true; idle = true; kind = kinds.Host }
 
 -- a row of DescribeNetworkInterfaces (EC2 API, DescribeNetworkInterfaces)
 abbrev pub interface_at : Description → EniNo → Interface
@@ -60,7 +38,7 @@ table_at d t = slice_index_or d.tables t.0 (record { id = []; vpc = []; main = f
 abbrev pub acl_at : Description → AclNo → Acl
 acl_at d a = slice_index_or d.acls a.0 (record { id = []; subnets = []; rows = [] })
 
--- a group without rules (profile: notation)
+-- a group without rules
 abbrev pub no_group : Group
 no_group = record { id = []; vpc = []; inward = []; outward = [] }
 
@@ -74,7 +52,7 @@ igw_at d g = slice_index_or d.igws g.0 (record { id = []; vpcs = [] })
 
 -- a row of DescribeNatGateways (EC2 API, DescribeNatGateways)
 abbrev pub nat_at : Description → NatNo → NatGateway
-nat_at d n = slice_index_or d.nats n.0 (record { id = []; life = Gone })
+nat_at d n = slice_index_or d.nats n.0 (record { id = []; life = lives.Gone })
 
 -- a row of DescribeVpcPeeringConnections (EC2 API, DescribeVpcPeeringConnections)
 abbrev pub peering_at : Description → PeerNo → Peering
@@ -90,49 +68,77 @@ tgw_table_at d t = slice_index_or d.tgw_tables t.0 (record { id = []; routes = [
 
 -- ---- numbers by id
 
--- the VPC with a VpcId (profile: notation)
+-- the VPC with a VpcId
 abbrev pub vpc_no : Description → List ℕ → VpcNo
 vpc_no d id = record { 0 = position_or_len (λ v. bytes_eq v.id id) d.vpcs }
 
--- the VPC is described (profile: notation)
+-- the VPC is described
 abbrev pub has_vpc : Description → List ℕ → Bool
 has_vpc d id = list_any (λ v. bytes_eq v.id id) d.vpcs
 
--- the subnet with a SubnetId (profile: notation)
+-- the subnet is described
+abbrev pub has_subnet : Description → List ℕ → Bool
+has_subnet d id = list_any (λ s. bytes_eq s.id id) d.subnets
+
+-- the subnet with a SubnetId
 abbrev pub subnet_no : Description → List ℕ → SubnetNo
 subnet_no d id = record { 0 = position_or_len (λ s. bytes_eq s.id id) d.subnets }
 
--- the interface with a NetworkInterfaceId (profile: notation)
+-- the interface is described
+abbrev pub has_interface : Description → List ℕ → Bool
+has_interface d id = list_any (λ e. bytes_eq e.id id) d.interfaces
+
+-- the interface with a NetworkInterfaceId
 abbrev pub eni_no : Description → List ℕ → EniNo
 eni_no d id = record { 0 = position_or_len (λ e. bytes_eq e.id id) d.interfaces }
 
--- the gateway with an InternetGatewayId (profile: notation)
+-- the internet gateway is described
+abbrev pub has_igw : Description → List ℕ → Bool
+has_igw d id = list_any (λ g. bytes_eq g.id id) d.igws
+
+-- the gateway with an InternetGatewayId
 abbrev pub igw_no : Description → List ℕ → IgwNo
 igw_no d id = record { 0 = position_or_len (λ g. bytes_eq g.id id) d.igws }
 
--- the gateway with a NatGatewayId (profile: notation)
+-- the NAT gateway is described
+abbrev pub has_nat : Description → List ℕ → Bool
+has_nat d id = list_any (λ n. bytes_eq n.id id) d.nats
+
+-- the gateway with a NatGatewayId
 abbrev pub nat_no : Description → List ℕ → NatNo
 nat_no d id = record { 0 = position_or_len (λ n. bytes_eq n.id id) d.nats }
 
--- the peering with a VpcPeeringConnectionId (profile: notation)
+-- the peering is described
+abbrev pub has_peering : Description → List ℕ → Bool
+has_peering d id = list_any (λ x. bytes_eq x.id id) d.peerings
+
+-- the peering with a VpcPeeringConnectionId
 abbrev pub peer_no : Description → List ℕ → PeerNo
 peer_no d id = record { 0 = position_or_len (λ x. bytes_eq x.id id) d.peerings }
 
--- the number of the described group with a GroupId (profile: notation)
+-- the group is described
+abbrev pub has_group : Description → List ℕ → Bool
+has_group d id = list_any (λ g. bytes_eq g.id id) d.groups
+
+-- the number of the described group with a GroupId
 abbrev pub group_of_id : Description → List ℕ → Option GroupNo
 group_of_id d id = option_map (λ k. record { 0 = k }) (position (λ g. bytes_eq g.id id) d.groups)
 
--- the number of the described attachment with a TransitGatewayAttachmentId (profile: notation)
+-- the number of the described attachment with a TransitGatewayAttachmentId
 abbrev pub attachment_of_id : Description → List ℕ → Option AttNo
 attachment_of_id d id = option_map (λ k. record { 0 = k }) (position (λ a. bytes_eq a.id id) d.attachments)
 
--- the number of the described table with a TransitGatewayRouteTableId (profile: notation)
+-- the number of the described table with a TransitGatewayRouteTableId
 abbrev pub tgw_table_of_id : Description → List ℕ → Option TgwTableNo
 tgw_table_of_id d id = option_map (λ k. record { 0 = k }) (position (λ t. bytes_eq t.id id) d.tgw_tables)
 
+-- the prefix list is described
+abbrev pub has_list : Description → List ℕ → Bool
+has_list d id = list_any (λ l. bytes_eq l.id id) d.lists
+
 -- the blocks of a prefix list (EC2 API, GetManagedPrefixListEntries)
 abbrev pub entries_of : Description → List ℕ → List Block
-entries_of d id = let l = slice_index_or d.lists (position_or_len (λ l. bytes_eq l.id id) d.lists) (record { id = []; entries = [] }) in l.entries
+entries_of d id = elim (find (λ l. bytes_eq l.id id) d.lists) [ None ↦ [] | Some l ↦ l.entries ]
 
 -- ---- what belongs to what
 
@@ -164,8 +170,9 @@ host_of d v a = option_map (λ k. record { 0 = k }) (position (λ e. has_address
 abbrev pub table_of : Description → SubnetNo → TableNo
 table_of d s =
     let row = subnet_at d s in
-    let main = position_or_len (λ t. t.main && bytes_eq t.vpc row.vpc) d.tables in
-    record { 0 = unwrap_or (position (λ t. is_listed row.id t.subnets) d.tables) main }
+    let associated = position (λ t. is_listed row.id t.subnets) d.tables in
+    let main = position (λ t. t.main && bytes_eq t.vpc row.vpc) d.tables in
+    record { 0 = unwrap_or (or_else associated main) (length d.tables) }
 
 -- the ACL that is associated with a subnet (EC2 API, DescribeNetworkAcls)
 abbrev pub acl_of : Description → SubnetNo → AclNo
@@ -174,3 +181,7 @@ acl_of d s = let row = subnet_at d s in record { 0 = position_or_len (λ a. is_l
 -- the internet gateway that is attached to a VPC (EC2 API, DescribeInternetGateways)
 abbrev pub gateway_of : Description → VpcNo → Option IgwNo
 gateway_of d v = let row = vpc_at d v in option_map (λ k. record { 0 = k }) (position (λ g. is_listed row.id g.vpcs) d.igws)
+
+-- the number of the attached gateway of a VPC that has one
+abbrev pub attached_gateway : Description → VpcNo → IgwNo
+attached_gateway d v = unwrap_or (gateway_of d v) (record { 0 = length d.igws })

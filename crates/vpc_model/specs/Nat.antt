@@ -1,10 +1,10 @@
 -- NAT gateways (VPC User Guide, "NAT gateways"; RFC 3022). Which port is given is this project's profile.
-use Rattle.std.specs.Prelude.{ℕ, ◌+◌, ◌==◌, ◌&&◌, ◌||◌, nat_le, nat_lt, Bool, List, [], ◌∷◌, Option, find, count_by, option_and_then, if◌then◌else◌}
 use Rattle.std.specs.List.{list_any}
+use Rattle.std.specs.Prelude.{◌==◌, ◌&&◌, ◌||◌, ◌+◌, ◌-◌, if◌then◌else◌, Bool, List, None, Option, Some, count_by, find, nat_le, nat_lt, option_and_then, suc, unwrap_or, zero, ℕ}
+use Rattle.vpc_model.specs.Types.{Header, NatNo}
 use Rattle.vpc_base.specs.Header.{reply_of}
-use Rattle.vpc_base.specs.declared.headers.Header.{Header}
-use Rattle.vpc_model.specs.declared.numbers.NatNo.{NatNo}
-use Rattle.vpc_model.specs.Connections.{same_header, is_header}
+use Rattle.vpc_model.specs.Choice.{or_else}
+use Rattle.vpc_model.specs.Connections.{is_header, same_header}
 
 -- an open that a gateway sent out: its header before and after the translation (profile)
 pub record Translation : Type 0 where
@@ -32,18 +32,18 @@ is_full ts n h = nat_le 55000 (count_by (shares n h) ts)
 abbrev pub first_port : ℕ → ℕ
 first_port p = if nat_lt p 1024 then p + 1024 else p
 
--- the next port that is tried: one more, and 1,024 after 65,535 (profile)
-abbrev pub next_port : ℕ → ℕ
-next_port p = if p == 65535 then 1024 else p + 1
+-- the first of n ports, from this one on, that isn't taken
+abbrev pub first_free : (ℕ → Bool) → ℕ → ℕ → Option ℕ
+first_free taken zero port = None
+first_free taken (suc n) port = if taken port then first_free taken n (port + 1) else Some port
 
--- the first port from this one on that isn't taken, found in at most as many steps as there are entries (profile)
-abbrev pub free_port : {X : Type 0} → List X → (ℕ → Bool) → ℕ → ℕ
-free_port [] taken port = port
-free_port (_ ∷ steps) taken port = if taken port then free_port steps taken (next_port port) else port
+-- the first port that isn't taken, from this one to 65,535 and then from 1,024 on (profile)
+abbrev pub free_port : (ℕ → Bool) → ℕ → ℕ
+free_port taken port = unwrap_or (or_else (first_free taken (65536 - port) port) (first_free taken (port - 1024) 1024)) port
 
 -- the translation of a header that has none: to the gateway's own address, and to a port that the profile chooses (VPC User Guide, "NAT gateways")
 abbrev pub new_translation : List Translation → NatNo → ℕ → Header → Translation
-new_translation ts n own h = record { nat = n; before = h; after = record h { src = own; p = free_port ts (is_taken ts n h) (first_port h.p) } }
+new_translation ts n own h = record { nat = n; before = h; after = record h { src = own; p = free_port (is_taken ts n h) (first_port h.p) } }
 
 -- the translation that a gateway has of a header (profile)
 abbrev pub translation_of : List Translation → NatNo → Header → Option Translation

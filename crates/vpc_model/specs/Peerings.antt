@@ -1,10 +1,9 @@
 -- What a peering carries (VPC Peering Guide, "VPC peering basics"; that both addresses must lie in the blocks of
 -- their VPCs is this project's profile).
-use Rattle.std.specs.Prelude.{ℕ, Bool, List, bytes_eq, if◌then◌else◌}
 use Rattle.std.specs.List.{list_any}
+use Rattle.std.specs.Prelude.{if◌then◌else◌, Bool, List, bytes_eq, ℕ}
+use Rattle.vpc_model.specs.Types.{Description, VpcNo}
 use Rattle.prefix_text.specs.Block.{holds}
-use Rattle.vpc_model.specs.declared.numbers.VpcNo.{VpcNo}
-use Rattle.vpc_model.specs.declared.rows.Description.{Description}
 use Rattle.vpc_model.specs.Lookup.{vpc_at}
 
 -- a block of the VPC holds the address (VPC User Guide, "VPC CIDR blocks")

@@ -1,24 +1,21 @@
 -- The route that a table chooses for a destination (VPC User Guide, "Route priority").
-use Rattle.std.specs.Prelude.{ℕ, ◌==◌, ◌&&◌, ◌||◌, not, nat_lt, Bool, true, false, List, Option, Some, None, is_some, option_map, unwrap_or, if◌then◌else◌}
 use Rattle.std.specs.List.{list_any}
+use Rattle.std.specs.Prelude.{◌==◌, ◌&&◌, ◌||◌, if◌then◌else◌, Bool, List, None, Option, Some, false, is_some, nat_lt, not, option_map, true, unwrap_or, ℕ}
+use Rattle.vpc_model.specs.Types.{Description, Reach, Route, Target}
+use Rattle.vpc_model.specs.declared.rows.Reach.TheVariants as reaches
+use Rattle.vpc_model.specs.declared.rows.Target.TheVariants as targets
 use Rattle.prefix_text.specs.Block.{holds}
-use Rattle.vpc_model.specs.declared.rows.Description.{Description}
-use Rattle.vpc_model.specs.declared.rows.Route.{Route}
-use Rattle.vpc_model.specs.declared.rows.Reach.{Reach}
-use Rattle.vpc_model.specs.declared.rows.Reach.TheVariants.{Block, List as ByList}
-use Rattle.vpc_model.specs.declared.rows.Target.{Target}
-use Rattle.vpc_model.specs.declared.rows.Target.TheVariants.{Local}
-use Rattle.vpc_model.specs.Choice.{chosen, chosen_place}
+use Rattle.vpc_model.specs.Choice.{chosen, chosen_number}
 use Rattle.vpc_model.specs.Lookup.{entries_of}
 
 -- the length of the block that holds the address, or of the longest such entry of the prefix list (VPC User Guide, "Route priority")
 abbrev pub match_length : Description → ℕ → Reach → Option ℕ
-match_length d a (Block b) = if holds a b then Some b.length else None
-match_length d a (ByList id) = option_map (λ b. b.length) (chosen (holds a) (λ x y. nat_lt y.length x.length) (entries_of d id))
+match_length d a (reaches.Block b) = if holds a b then Some b.length else None
+match_length d a (reaches.List id) = option_map (λ b. b.length) (chosen (holds a) (λ x y. nat_lt y.length x.length) (entries_of d id))
 
 -- the local route of a VPC (VPC User Guide, "Route tables")
 abbrev pub is_local : Target → Bool
-is_local Local = true
+is_local targets.Local = true
 is_local _ = false
 
 -- the route matches the address (VPC User Guide, "Route priority")
@@ -31,8 +28,8 @@ is_candidate d routes a r = matches d a r && not ((r.propagated && not (is_local
 
 -- routes to blocks come before routes to prefix lists (VPC User Guide, "Route priority")
 abbrev pub kind_of_reach : Reach → ℕ
-kind_of_reach (Block b) = 0
-kind_of_reach (ByList id) = 1
+kind_of_reach (reaches.Block b) = 0
+kind_of_reach (reaches.List id) = 1
 
 -- the kind by which routes of equal length are told apart: propagated routes come last (profile)
 abbrev pub kind_of : Route → ℕ
@@ -45,6 +42,6 @@ beats d a r s =
     let n = unwrap_or (match_length d a s.reach) 0 in
     nat_lt n m || (m == n && nat_lt (kind_of r) (kind_of s))
 
--- the place of the chosen route, where the profile takes the first of equal ones (VPC User Guide, "Route priority")
+-- the number of the chosen route, where the profile takes the first of equal ones (VPC User Guide, "Route priority")
 abbrev pub chosen_route : Description → List Route → ℕ → Option ℕ
-chosen_route d routes a = chosen_place (is_candidate d routes a) (beats d a) routes
+chosen_route d routes a = chosen_number (is_candidate d routes a) (beats d a) routes

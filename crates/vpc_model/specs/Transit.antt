@@ -1,20 +1,16 @@
 -- Transit gateways (Transit Gateways guide, "How transit gateways work"). By which subnet a packet leaves is
 -- this project's profile.
-use Rattle.std.specs.Prelude.{ℕ, ◌==◌, ◌&&◌, ◌||◌, not, nat_lt, Bool, List, [], ◌∷◌, Option, Some, None, bytes_eq, find, position, option_map, option_and_then, if◌then◌else◌}
+use Rattle.std.specs.Prelude.{◌==◌, ◌&&◌, ◌||◌, ◌∷◌, [], if◌then◌else◌, Bool, List, None, Option, Some, bytes_eq, find, nat_lt, not, option_and_then, option_map, position, ℕ}
+use Rattle.vpc_model.specs.Types.{AttNo, Description, SubnetNo, TgwRoute, TgwTableNo}
 use Rattle.prefix_text.specs.Block.{holds}
-use Rattle.vpc_model.specs.declared.numbers.SubnetNo.{SubnetNo}
-use Rattle.vpc_model.specs.declared.numbers.AttNo.{AttNo}
-use Rattle.vpc_model.specs.declared.numbers.TgwTableNo.{TgwTableNo}
-use Rattle.vpc_model.specs.declared.rows.Description.{Description}
-use Rattle.vpc_model.specs.declared.rows.TgwRoute.{TgwRoute}
-use Rattle.vpc_model.specs.Choice.{or_else, chosen_place}
-use Rattle.vpc_model.specs.Lookup.{subnet_at, subnet_no, attachment_at, tgw_table_of_id, has_vpc}
+use Rattle.vpc_model.specs.Choice.{chosen_number, or_else}
+use Rattle.vpc_model.specs.Lookup.{attachment_at, has_vpc, subnet_at, subnet_no, tgw_table_of_id}
 
 -- the subnet is in the zone (EC2 API, DescribeSubnets)
 abbrev pub is_in_zone : Description → List ℕ → List ℕ → Bool
 is_in_zone d zone id = let s = subnet_at d (subnet_no d id) in bytes_eq s.zone zone
 
--- the first of these subnets in the zone (profile: notation)
+-- the first of these subnets in the zone
 abbrev pub subnet_in_zone : Description → List ℕ → List (List ℕ) → Option SubnetNo
 subnet_in_zone d zone ids = option_map (subnet_no d) (find (is_in_zone d zone) ids)
 
@@ -38,9 +34,9 @@ table_of_attachment d a =
 abbrev pub beats_tgw : TgwRoute → TgwRoute → Bool
 beats_tgw r s = nat_lt s.block.length r.block.length || ((r.block.length == s.block.length) && (not r.propagated && s.propagated))
 
--- the place of the chosen route, where the profile takes the first of equal ones (Transit Gateways guide, "How transit gateways work")
+-- the number of the chosen route, where the profile takes the first of equal ones (Transit Gateways guide, "How transit gateways work")
 abbrev pub chosen_tgw_route : List TgwRoute → ℕ → Option ℕ
-chosen_tgw_route routes a = chosen_place (λ r. holds a r.block) beats_tgw routes
+chosen_tgw_route routes a = chosen_number (λ r. holds a r.block) beats_tgw routes
 
 -- the first of these subnets (profile)
 abbrev pub first_subnet : Description → List (List ℕ) → Option SubnetNo

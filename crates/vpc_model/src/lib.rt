@@ -4,11 +4,13 @@
 #![tactic(auto)]
 
 mod ids;
-pub mod laws;
 mod numbers;
 mod outcomes;
 mod places;
+mod refusals;
 mod rows;
+mod same;
+mod stop_texts;
 mod stops;
 #[cfg(test)]
 mod tests;
@@ -19,9 +21,12 @@ pub use numbers::{
 };
 pub use outcomes::{By, Event, Hop, Outcome, Phase, RuleRef, Verdict};
 pub use places::{Came, End, EnterBy, Place, start_place};
+pub use refusals::{ListName, Refusal};
 pub use rows::{
     Acl, AclRow, Appliance, ApplianceKind, Association, Attachment, Description, Group, Interface,
     InterfaceKind, InternetGateway, NatGateway, NatLife, Peering, Permission, PrefixList, Reach,
     Route, RouteTable, Subnet, Target, TgwRoute, TgwTable, Vpc,
 };
+pub use same::{same_stop, same_verdict};
+pub use stop_texts::StopText;
 pub use stops::{Foreign, Stop, StopName};

@@ -1,10 +1,13 @@
 // Why a packet is stopped.
+ghost use Rattle.std.specs.Prelude.{◌≡◌};
+ghost use Rattle.vpc_model.specs.Text.{name_of};
+
 use crate::{AclNo, AttNo, End, EniNo, IgwNo, NatNo, PeerNo, Place, TableNo, TgwTableNo, VpcNo};
 
 /// What leads out of the networks that are followed.
-#[derive(Clone, Copy, Debug)]
+#[derive(Clone, Copy, Debug, PartialEq, Eq)]
 pub enum Foreign {
-    /// The target of a route, by its table and its place there, from 0.
+    /// The target of a route, by its table and its number there, from 0.
     Target(TableNo, u32),
     /// A NAT gateway without a subnet.
     Nat(NatNo),
@@ -18,7 +21,7 @@ pub enum Foreign {
     FarAttachment(TgwTableNo, u32),
 }
 
-/// Why and where a packet is stopped. A route is carried by its table and its place there, from 0; an
+/// Why and where a packet is stopped. A route is carried by its table and its number there, from 0; an
 /// ACL row by its ACL and its rule number; `Loop` and `TooFar` by the place that would come next.
 #[derive(Clone, Copy, Debug)]
 pub enum Stop {
@@ -127,4 +130,49 @@ pub enum StopName {
     WrongPlace,
     WrongReturn,
     NoReply,
+}
+
+impl Stop {
+    /// Its name, without what it carries.
+    pub fn name(&self) -> StopName
+        ensures { result ≡ name_of self.now }
+    {
+        match self {
+            Stop::Detached(_) => StopName::Detached,
+            Stop::SourceCheck(_) => StopName::SourceCheck,
+            Stop::DestCheck(_) => StopName::DestCheck,
+            Stop::GroupsOut(_) => StopName::GroupsOut,
+            Stop::GroupsIn(_) => StopName::GroupsIn,
+            Stop::NotAHost(_) => StopName::NotAHost,
+            Stop::ApplianceDrop(_) => StopName::ApplianceDrop,
+            Stop::NoRoute(_) => StopName::NoRoute,
+            Stop::Blackhole(_, _) => StopName::Blackhole,
+            Stop::AclOut(_, _) => StopName::AclOut,
+            Stop::AclIn(_, _) => StopName::AclIn,
+            Stop::NoHost(_) => StopName::NoHost,
+            Stop::NoGateway(_) => StopName::NoGateway,
+            Stop::GatewayDetached(_) => StopName::GatewayDetached,
+            Stop::NoPublic(_) => StopName::NoPublic,
+            Stop::PrivateAddress => StopName::PrivateAddress,
+            Stop::NatNotAvailable(_) => StopName::NatNotAvailable,
+            Stop::NatAnswer(_) => StopName::NatAnswer,
+            Stop::NatProtocol(_) => StopName::NatProtocol,
+            Stop::NatFull(_) => StopName::NatFull,
+            Stop::NatUnsolicited(_) => StopName::NatUnsolicited,
+            Stop::PeerNotActive(_) => StopName::PeerNotActive,
+            Stop::PeerSource(_) => StopName::PeerSource,
+            Stop::PeerDestination(_) => StopName::PeerDestination,
+            Stop::TgwNoAttachment(_, _) => StopName::TgwNoAttachment,
+            Stop::TgwNoZone(_) => StopName::TgwNoZone,
+            Stop::TgwNoTable(_) => StopName::TgwNoTable,
+            Stop::TgwNoRoute(_) => StopName::TgwNoRoute,
+            Stop::TgwBlackhole(_, _) => StopName::TgwBlackhole,
+            Stop::Unmodelled(_) => StopName::Unmodelled,
+            Stop::Loop(_) => StopName::Loop,
+            Stop::TooFar(_) => StopName::TooFar,
+            Stop::WrongPlace(_) => StopName::WrongPlace,
+            Stop::WrongReturn(_) => StopName::WrongReturn,
+            Stop::NoReply(_) => StopName::NoReply,
+        }
+    }
 }

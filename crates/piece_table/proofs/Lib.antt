@@ -1,0 +1,4 @@
+pub mod Ascending
+pub mod PieceLemmas
+pub mod Growth
+pub mod Halves

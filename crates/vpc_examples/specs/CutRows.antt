@@ -1,0 +1,75 @@
+-- Where answers may change in a small network: the cuts of each kind of row, and of the rows that each place asks.
+use Rattle.std.specs.Prelude.{◌++◌, ◌∷◌, ◌≡◌, [], List, Some, codes, false, true, ℕ}
+use Rattle.vpc_examples.specs.Types.{AttNo, Description, Place}
+use Rattle.vpc_model.specs.declared.rows.ApplianceKind.TheVariants as forwards
+use Rattle.vpc_model.specs.declared.places.Came.TheVariants as from
+use Rattle.vpc_model.specs.declared.places.Place.TheVariants as places
+use Rattle.vpc_model.specs.declared.rows.Target.TheVariants as targets
+use Rattle.vpc_model.specs.declared.places.EnterBy.TheVariants as through
+use Rattle.vpc_examples.specs.Examples.{eni, nat, subnet, vpc}
+use Rattle.vpc_examples.specs.Networks.{acl, bare, block, group, host_with, https_from, list_route, main_table, route, site_attachment, subnet_row, tcp_row, tgw_blackhole, v4}
+use Rattle.vpc_model.specs.Cuts.{cuts_at, cuts_of_rule, on_sides}
+
+-- one row of each kind that cuts, each with a number of its own
+abbrev pub cut_apart : Description
+cut_apart = record (bare (record { id = codes "vpc-1"; blocks = block (v4 10 0 0 0) 16 ∷ [] } ∷ []) (subnet_row (codes "subnet-a") (codes "vpc-1") (codes "z") ∷ [])) {
+  interfaces = host_with (codes "eni-a") (codes "subnet-a") (v4 10 0 1 10) (Some (v4 203 0 113 10)) (codes "sg-a") ∷ [];
+  tables = main_table (codes "rtb-1") (codes "vpc-1") (route (block (v4 10 7 0 0) 16) targets.Local ∷ list_route (codes "pl-1") (targets.Other (codes "vpce-1")) ∷ []) ∷ [];
+  lists = record { id = codes "pl-1"; entries = block (v4 52 0 0 0) 8 ∷ [] } ∷ [];
+  acls = acl (codes "acl-1") (codes "subnet-a" ∷ []) (tcp_row 100 false true 22 2000 (block (v4 10 8 0 0) 16) ∷ []) ∷ [];
+  groups = group (codes "sg-a") (codes "vpc-1") (record (https_from (block (v4 10 9 0 0) 16)) { proto = Some 50 } ∷ []) [] ∷ [];
+  attachments = site_attachment (codes "a") ∷ [];
+  associations = record { attachment = codes "att-a"; table = codes "tgw-rtb-1" } ∷ [];
+  tgw_tables = record { id = codes "tgw-rtb-1"; routes = tgw_blackhole (block (v4 10 6 0 0) 16) ∷ [] } ∷ [];
+  appliances = record { id = codes "eni-a"; kind = forwards.Service 8080 8081 } ∷ [];
+}
+
+-- addresses that are cut in every network: both ends of each block that the internet doesn't carry
+abbrev pub unroutable_cuts : List ℕ
+unroutable_cuts = v4 0 0 0 0 ∷ v4 1 0 0 0 ∷ v4 10 0 0 0 ∷ v4 11 0 0 0 ∷ v4 127 0 0 0 ∷ v4 128 0 0 0 ∷ v4 169 254 0 0 ∷ v4 169 255 0 0 ∷ v4 172 16 0 0 ∷ v4 172 32 0 0 ∷ v4 192 168 0 0 ∷ v4 192 169 0 0 ∷ v4 224 0 0 0 ∷ []
+
+-- the same with the VPC's block, both addresses of the interface and the ACL row's block; an appliance's boxes begin at 0
+abbrev pub standing_addresses : List ℕ
+standing_addresses =
+    unroutable_cuts
+    ++ (v4 10 0 0 0 ∷ v4 10 1 0 0 ∷ v4 10 0 1 10 ∷ v4 10 0 1 11 ∷ v4 203 0 113 10 ∷ v4 203 0 113 11 ∷ v4 10 8 0 0 ∷ v4 10 9 0 0 ∷ [])
+    ++ (0 ∷ 0 ∷ 0 ∷ 0 ∷ 0 ∷ 0 ∷ 0 ∷ 0 ∷ [])
+
+-- ports that are cut in every place: of the echo request, of the ACL row and of the appliance, whose boxes begin at 0
+abbrev pub standing_ports : List ℕ
+standing_ports = 2048 ∷ 2049 ∷ 22 ∷ 2001 ∷ 0 ∷ 8080 ∷ 8082 ∷ 8080 ∷ 8082 ∷ 0 ∷ 0 ∷ 8080 ∷ 8082 ∷ 8080 ∷ 8082 ∷ 0 ∷ []
+
+-- addresses: a place that asks no row has the standing cuts, an interface's those of its groups besides, a router's those of its
+-- table, a transit gateway's those of the attachment's table
+abbrev pub AddressesAreCutAtPlaces : Type 0
+AddressesAreCutAtPlaces =
+    let at : Place → List ℕ = (λ p. let c = cuts_at cut_apart p in c.addr) in
+    let first_attachment : AttNo = record { 0 = 0 } in
+    (at (places.OutOf (eni 0)) ≡ standing_addresses ++ (v4 10 9 0 0 ∷ v4 10 10 0 0 ∷ []))
+    × ((at (places.Into (eni 0)) ≡ standing_addresses ++ (v4 10 9 0 0 ∷ v4 10 10 0 0 ∷ []))
+    × ((at (places.Router (subnet 0) (from.Host (eni 0))) ≡ standing_addresses ++ (v4 10 7 0 0 ∷ v4 10 8 0 0 ∷ v4 52 0 0 0 ∷ v4 53 0 0 0 ∷ []))
+    × ((at (places.Tgw first_attachment (subnet 0)) ≡ standing_addresses ++ (v4 10 6 0 0 ∷ v4 10 7 0 0 ∷ []))
+    × ((at (places.Enter (vpc 0) through.Gateway) ≡ standing_addresses)
+    × ((at (places.IgwOut (vpc 0)) ≡ standing_addresses)
+    × ((at places.Internet ≡ standing_addresses)
+    × ((at (places.IgwIn (vpc 0)) ≡ standing_addresses)
+    × ((at (places.NatOut (nat 0)) ≡ standing_addresses)
+    × ((at (places.NatIn (nat 0)) ≡ standing_addresses)
+    × ((at (places.Peer (record { 0 = 0 }) (vpc 0)) ≡ standing_addresses)
+    × (at (places.TgwLeave first_attachment (subnet 0)) ≡ standing_addresses)))))))))))
+
+-- ports and protocols: a place that asks no rule has the standing cuts, an interface's those of its groups besides
+abbrev pub PortsAreCutAtPlaces : Type 0
+PortsAreCutAtPlaces =
+    let q : Place → List ℕ = (λ p. let c = cuts_at cut_apart p in c.q) in
+    let protocols : Place → List ℕ = (λ p. let c = cuts_at cut_apart p in c.proto) in
+    (q (places.Router (subnet 0) (from.Host (eni 0))) ≡ standing_ports)
+    × ((q (places.OutOf (eni 0)) ≡ standing_ports ++ (443 ∷ 444 ∷ []))
+    × ((protocols places.Internet ≡ 1 ∷ 2 ∷ 6 ∷ 7 ∷ 17 ∷ 18 ∷ 6 ∷ 7 ∷ 6 ∷ 7 ∷ 6 ∷ 7 ∷ 17 ∷ 18 ∷ 17 ∷ 18 ∷ [])
+    × (protocols (places.Into (eni 0)) ≡ 1 ∷ 2 ∷ 6 ∷ 7 ∷ 17 ∷ 18 ∷ 6 ∷ 7 ∷ 6 ∷ 7 ∷ 6 ∷ 7 ∷ 17 ∷ 18 ∷ 17 ∷ 18 ∷ 50 ∷ 51 ∷ [])))
+
+-- a range that ends at 65,535 cuts p at 64,512 all the same, and no side past its end
+abbrev pub EdgesPastTheEndCutBelow : Type 0
+EdgesPastTheEndCutBelow =
+    let c = on_sides (cuts_of_rule (Some 255) 1000 65535 (block (v4 255 0 0 0) 8 ∷ [])) in
+    (c.p ≡ 1000 ∷ 64512 ∷ []) × ((c.q ≡ 1000 ∷ []) × ((c.proto ≡ 255 ∷ []) × (c.addr ≡ v4 255 0 0 0 ∷ [])))

@@ -1,0 +1,127 @@
+-- Descriptions that make a network, and descriptions that don't, each with its first cause.
+use Rattle.std.specs.Prelude.{◌∷◌, ◌≡◌, [], List, None, Option, Some, codes, ℕ}
+use Rattle.vpc_examples.specs.Types.{Description, Interface, NatLife, Refusal, Route, RouteTable, Target}
+use Rattle.vpc_model.specs.declared.rows.ApplianceKind.TheVariants as forwards
+use Rattle.vpc_model.specs.declared.rows.NatLife.TheVariants as lives
+use Rattle.vpc_model.specs.declared.refusals.Refusal.TheVariants as refusals
+use Rattle.vpc_model.specs.declared.rows.Target.TheVariants as targets
+use Rattle.vpc_examples.specs.Middleboxes.{with_appliance}
+use Rattle.vpc_examples.specs.Networks.{acl, acl_1, allow_all, anywhere, bare, behind_nat, gone_route, group, https_from_group, list_route, low_ports_in, main_table, open_rows, peered, route, site_host, site_table, subnet_table, transit, two_subnets, v4, vpc_1}
+use Rattle.vpc_examples.specs.Stops.{eni_a, eni_b, plain_vpc, with_hosts, with_route}
+use Rattle.vpc_model.specs.Accepted.{refusal_of}
+
+-- the first cause against a description, if there is one
+abbrev pub cause : Description → Option Refusal
+cause d = refusal_of d
+
+abbrev pub missing : List ℕ → List ℕ → Option Refusal
+missing row id = Some (refusals.MissingReference row id)
+
+-- the networks of the other examples
+abbrev pub NetworksAreAccepted : Type 0
+NetworksAreAccepted =
+    (cause plain_vpc ≡ None)
+    × ((cause (behind_nat low_ports_in) ≡ None)
+    × ((cause peered ≡ None)
+    × ((cause transit ≡ None)
+    × ((cause (with_appliance (forwards.Service 443 443) []) ≡ None)
+    × (cause (bare [] []) ≡ None)))))
+
+-- ---- ids and addresses that stand twice
+
+abbrev pub TellsDuplicates : Type 0
+TellsDuplicates =
+    (cause (record plain_vpc { vpcs = vpc_1 ∷ vpc_1 ∷ [] }) ≡ Some (refusals.DuplicateId (codes "vpc-1")))
+    × ((cause (record plain_vpc { acls = acl_1 ∷ acl_1 ∷ [] }) ≡ Some (refusals.DuplicateId (codes "acl-1")))
+    × ((cause (record transit { associations = record { attachment = codes "att-a"; table = codes "tgw-rtb-a" } ∷ record { attachment = codes "att-a"; table = codes "tgw-rtb-b" } ∷ [] }) ≡ Some (refusals.DuplicateId (codes "att-a")))
+    × ((cause (with_hosts eni_a (record eni_b { addresses = (v4 10 0 1 10, None) ∷ [] })) ≡ Some (refusals.DuplicateAddress (codes "vpc-1") (v4 10 0 1 10)))
+    × ((cause (with_hosts eni_a (record eni_b { addresses = (v4 10 0 2 20, None) ∷ (v4 10 0 2 20, None) ∷ [] })) ≡ Some (refusals.DuplicateAddress (codes "vpc-1") (v4 10 0 2 20)))
+    × ((cause (record peered { interfaces = site_host (codes "a") 1 ∷ record (site_host (codes "b") 2) { addresses = (v4 10 1 1 10, None) ∷ [] } ∷ [] }) ≡ None)
+    × (cause (record peered { interfaces = record (site_host (codes "a") 1) { addresses = (v4 10 1 1 10, Some (v4 203 0 113 1)) ∷ [] } ∷ record (site_host (codes "b") 2) { addresses = (v4 10 2 1 10, Some (v4 203 0 113 1)) ∷ [] } ∷ [] })
+    ≡ Some (refusals.DuplicatePublic (v4 203 0 113 1))))))))
+
+-- ---- references
+
+-- of a subnet, an interface, an ACL, a group, an internet gateway and an appliance
+abbrev pub TellsMissingRows : Type 0
+TellsMissingRows =
+    (cause (record plain_vpc { vpcs = [] }) ≡ missing (codes "subnet-a") (codes "vpc-1"))
+    × ((cause (with_hosts (record eni_a { subnet = codes "subnet-x" }) eni_b) ≡ missing (codes "eni-a") (codes "subnet-x"))
+    × ((cause (with_hosts (record eni_a { groups = codes "sg-a" ∷ codes "sg-x" ∷ [] }) eni_b) ≡ missing (codes "eni-a") (codes "sg-x"))
+    × ((cause (two_subnets (acl (codes "acl-1") (codes "subnet-a" ∷ codes "subnet-x" ∷ []) open_rows ∷ [])) ≡ missing (codes "acl-1") (codes "subnet-x"))
+    × ((cause (record plain_vpc { groups = group (codes "sg-a") (codes "vpc-1") [] [] ∷ group (codes "sg-b") (codes "vpc-x") [] [] ∷ [] }) ≡ missing (codes "sg-b") (codes "vpc-x"))
+    × ((cause (record plain_vpc { groups = group (codes "sg-a") (codes "vpc-1") [] (record allow_all { lists = codes "pl-x" ∷ [] } ∷ []) ∷ group (codes "sg-b") (codes "vpc-1") [] [] ∷ [] }) ≡ missing (codes "sg-a") (codes "pl-x"))
+    × ((cause (record plain_vpc { groups = group (codes "sg-a") (codes "vpc-1") [] (https_from_group (codes "sg-x") ∷ []) ∷ group (codes "sg-b") (codes "vpc-1") [] [] ∷ [] }) ≡ None)
+    × ((cause (record plain_vpc { igws = record { id = codes "igw-1"; vpcs = codes "vpc-x" ∷ [] } ∷ [] }) ≡ missing (codes "igw-1") (codes "vpc-x"))
+    × (cause (record plain_vpc { appliances = record { id = codes "eni-x"; kind = forwards.All } ∷ [] }) ≡ missing (codes "eni-x") (codes "eni-x")))))))))
+
+-- of a route table: its VPC, its subnets, its prefix lists, and the targets of routes, unless they are gone
+abbrev pub TellsMissingTargets : Type 0
+TellsMissingTargets =
+    let missing_target : Route → List ℕ → Type 0 = (λ r id. cause (with_route r) ≡ missing (codes "rtb-1") id) in
+    (cause (record plain_vpc { tables = record (main_table (codes "rtb-1") (codes "vpc-1") []) { vpc = codes "vpc-x" } ∷ [] }) ≡ missing (codes "rtb-1") (codes "vpc-x"))
+    × ((cause (record peered { tables = subnet_table (codes "rtb-a") (codes "vpc-a") (codes "subnet-b") [] ∷ [] }) ≡ missing (codes "rtb-a") (codes "subnet-b"))
+    × (missing_target (list_route (codes "pl-x") targets.Local) (codes "pl-x")
+    × (missing_target (route anywhere (targets.Internet (codes "igw-x"))) (codes "igw-x")
+    × (missing_target (route anywhere (targets.Nat (codes "nat-x"))) (codes "nat-x")
+    × (missing_target (route anywhere (targets.Peer (codes "pcx-x"))) (codes "pcx-x")
+    × (missing_target (route anywhere (targets.Interface (codes "eni-x"))) (codes "eni-x")
+    × ((cause (with_route (route anywhere (targets.Transit (codes "tgw-x")))) ≡ None)
+    × ((cause (with_route (route anywhere (targets.Other (codes "vpce-x")))) ≡ None)
+    × (cause (with_route (gone_route anywhere (targets.Nat (codes "nat-x")))) ≡ None)))))))))
+
+-- a route's NAT gateway, peering or interface is one of the table's VPC; one that isn't live or active may be anywhere
+abbrev pub TellsForeignTargets : Type 0
+TellsForeignTargets =
+    let from_c : Target → Description → Description = (λ target d. record d { tables = site_table (codes "a") 1 [] ∷ site_table (codes "b") 2 [] ∷ site_table (codes "c") 3 (route anywhere target ∷ []) ∷ [] }) in
+    let nat_in : NatLife → Description = (λ life. record peered { nats = record { id = codes "nat-1"; life = life } ∷ [] }) in
+    (cause (from_c (targets.Peer (codes "pcx-ab")) peered) ≡ missing (codes "rtb-c") (codes "pcx-ab"))
+    × ((cause (from_c (targets.Peer (codes "pcx-off")) (record peered { peerings = record { id = codes "pcx-off"; pair = None } ∷ [] })) ≡ None)
+    × ((cause (from_c (targets.Interface (codes "eni-a")) peered) ≡ missing (codes "rtb-c") (codes "eni-a"))
+    × ((cause (from_c (targets.Nat (codes "nat-1")) (nat_in (lives.Live (codes "subnet-a") (codes "eni-a") (v4 10 1 1 10)))) ≡ missing (codes "rtb-c") (codes "nat-1"))
+    × ((cause (from_c (targets.Nat (codes "nat-1")) (nat_in (lives.Live (codes "subnet-x") (codes "eni-a") (v4 10 1 1 10)))) ≡ missing (codes "rtb-c") (codes "nat-1"))
+    × (cause (from_c (targets.Nat (codes "nat-1")) (nat_in lives.Gone)) ≡ None)))))
+
+-- of a live NAT gateway, and of an attachment whose VPC is described
+abbrev pub TellsMissingAtGateways : Type 0
+TellsMissingAtGateways =
+    let with_nat : NatLife → Description = (λ life. record peered { nats = record { id = codes "nat-1"; life = life } ∷ [] }) in
+    let with_attachment : List ℕ → List ℕ → Description = (λ vpc_id subnet_id. record peered { attachments = record { id = codes "att-1"; gateway = codes "tgw-1"; vpc = vpc_id; subnets = subnet_id ∷ [] } ∷ [] }) in
+    (cause (with_nat (lives.Live (codes "subnet-x") (codes "eni-a") (v4 10 1 1 10))) ≡ missing (codes "nat-1") (codes "subnet-x"))
+    × ((cause (with_nat (lives.Live (codes "subnet-a") (codes "eni-x") (v4 10 1 1 10))) ≡ missing (codes "nat-1") (codes "eni-x"))
+    × ((cause (with_nat (lives.Live (codes "subnet-b") (codes "eni-a") (v4 10 1 1 10))) ≡ missing (codes "nat-1") (codes "eni-a"))
+    × ((cause (with_nat (lives.Live (codes "subnet-a") (codes "eni-a") (v4 10 1 1 11))) ≡ missing (codes "nat-1") (codes "eni-a"))
+    × ((cause (with_nat (lives.Live (codes "subnet-a") (codes "eni-a") (v4 10 1 1 10))) ≡ None)
+    × ((cause (with_attachment (codes "vpc-a") (codes "subnet-b")) ≡ missing (codes "att-1") (codes "subnet-b"))
+    × ((cause (with_attachment (codes "vpc-a") (codes "subnet-a")) ≡ None)
+    × (cause (with_attachment (codes "vpc-x") (codes "subnet-x")) ≡ None)))))))
+
+-- ---- tables, ACLs and gateways
+
+abbrev pub TellsTablesAndAcls : Type 0
+TellsTablesAndAcls =
+    let tables : List RouteTable → Option Refusal = (λ ts. cause (record plain_vpc { tables = ts })) in
+    let main : RouteTable = main_table (codes "rtb-1") (codes "vpc-1") [] in
+    let of_a : RouteTable = subnet_table (codes "rtb-a") (codes "vpc-1") (codes "subnet-a") [] in
+    (tables (of_a ∷ []) ≡ Some (refusals.NoRouteTable (codes "subnet-b")))
+    × ((tables (main ∷ of_a ∷ []) ≡ None)
+    × ((tables (main ∷ record main { id = codes "rtb-2" } ∷ of_a ∷ record of_a { id = codes "rtb-c" } ∷ []) ≡ Some (refusals.TwoTables (codes "vpc-1")))
+    × ((tables (main ∷ of_a ∷ record of_a { id = codes "rtb-c" } ∷ []) ≡ Some (refusals.TwoTables (codes "subnet-a")))
+    × ((tables (main ∷ record of_a { subnets = codes "subnet-a" ∷ codes "subnet-a" ∷ [] } ∷ []) ≡ None)
+    × ((cause (two_subnets (acl (codes "acl-1") (codes "subnet-b" ∷ []) [] ∷ [])) ≡ Some (refusals.NoAcl (codes "subnet-a")))
+    × ((cause (two_subnets (acl_1 ∷ record acl_1 { id = codes "acl-2" } ∷ [])) ≡ Some (refusals.TwoAcls (codes "subnet-a")))
+    × ((cause (record plain_vpc { igws = record { id = codes "igw-1"; vpcs = codes "vpc-1" ∷ codes "vpc-1" ∷ [] } ∷ [] }) ≡ None)
+    × (cause (record plain_vpc { igws = record { id = codes "igw-1"; vpcs = codes "vpc-1" ∷ [] } ∷ record { id = codes "igw-2"; vpcs = codes "vpc-1" ∷ [] } ∷ [] }) ≡ Some (refusals.TwoInternetGateways (codes "vpc-1"))))))))))
+
+-- of several causes the first in this order is told: ids, references, private addresses, public ones, tables, ACLs, gateways, two
+-- tables, two ACLs
+abbrev pub TellsFirstCause : Type 0
+TellsFirstCause =
+    let twice : Interface = record eni_b { addresses = (v4 10 0 1 10, Some (v4 203 0 113 1)) ∷ (v4 10 0 2 20, Some (v4 203 0 113 1)) ∷ [] } in
+    let worst : Description = record (with_hosts (record eni_a { groups = codes "sg-x" ∷ [] }) twice) { vpcs = vpc_1 ∷ vpc_1 ∷ []; tables = []; acls = [] } in
+    (cause worst ≡ Some (refusals.DuplicateId (codes "vpc-1")))
+    × ((cause (record worst { vpcs = vpc_1 ∷ [] }) ≡ missing (codes "eni-a") (codes "sg-x"))
+    × ((cause (record worst { vpcs = vpc_1 ∷ []; interfaces = eni_a ∷ twice ∷ [] }) ≡ Some (refusals.DuplicateAddress (codes "vpc-1") (v4 10 0 1 10)))
+    × ((cause (record worst { vpcs = vpc_1 ∷ []; interfaces = twice ∷ [] }) ≡ Some (refusals.DuplicatePublic (v4 203 0 113 1)))
+    × ((cause (record worst { vpcs = vpc_1 ∷ []; interfaces = [] }) ≡ Some (refusals.NoRouteTable (codes "subnet-a")))
+    × (cause (record plain_vpc { acls = []; igws = record { id = codes "igw-1"; vpcs = codes "vpc-1" ∷ [] } ∷ record { id = codes "igw-2"; vpcs = codes "vpc-1" ∷ [] } ∷ [] }) ≡ Some (refusals.NoAcl (codes "subnet-a")))))))

@@ -1,0 +1,13 @@
+//! What packets do in small networks, computed with the definitions of `vpc_model`.
+#![tactic(auto)]
+
+pub mod choices;
+pub mod crossings;
+pub mod cuts;
+pub mod gateways;
+pub mod middleboxes;
+pub mod refusals;
+pub mod refused;
+pub mod subnets;
+pub mod texts;
+pub mod told;

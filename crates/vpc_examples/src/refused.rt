@@ -1,0 +1,42 @@
+// Which descriptions make a network.
+ghost use Rattle.vpc_examples.specs.Refused.{NetworksAreAccepted, TellsDuplicates, TellsMissingRows, TellsMissingTargets, TellsForeignTargets, TellsMissingAtGateways, TellsTablesAndAcls, TellsFirstCause};
+
+/// The networks of the other examples are accepted.
+pub fn accepts_networks()
+    ensures { NetworksAreAccepted }
+{}
+
+/// Ids and addresses that stand twice.
+pub fn tells_duplicates()
+    ensures { TellsDuplicates }
+{}
+
+/// References to rows that are not there.
+pub fn tells_missing_rows()
+    ensures { TellsMissingRows }
+{}
+
+/// Targets of routes that are not there.
+pub fn tells_missing_targets()
+    ensures { TellsMissingTargets }
+{}
+
+/// Targets of routes in another VPC.
+pub fn tells_foreign_targets()
+    ensures { TellsForeignTargets }
+{}
+
+/// What gateways name.
+pub fn tells_missing_at_gateways()
+    ensures { TellsMissingAtGateways }
+{}
+
+/// Subnets and VPCs with no table, no ACL, or two.
+pub fn tells_tables_and_acls()
+    ensures { TellsTablesAndAcls }
+{}
+
+/// Of several causes the first in the order is told.
+pub fn tells_the_first_cause()
+    ensures { TellsFirstCause }
+{}

@@ -1,0 +1,32 @@
+// Texts of stops, rules and protocols.
+ghost use Rattle.vpc_examples.specs.Told.{PrintsInterfaceStops, PrintsGatewayStops, PrintsTransitStops, PrintsWalkStops, PrintsRules, PrintsProtocols};
+
+/// Stops at interfaces, route tables and ACLs.
+pub fn prints_stops_at_interfaces()
+    ensures { PrintsInterfaceStops }
+{}
+
+/// Stops at gateways and peerings.
+pub fn prints_stops_at_gateways()
+    ensures { PrintsGatewayStops }
+{}
+
+/// Stops at transit gateways, and beyond what is followed.
+pub fn prints_stops_at_transit_gateways()
+    ensures { PrintsTransitStops }
+{}
+
+/// Stops of whole walks.
+pub fn prints_stops_of_walks()
+    ensures { PrintsWalkStops }
+{}
+
+/// Rules by number and by id.
+pub fn prints_rules()
+    ensures { PrintsRules }
+{}
+
+/// Protocols by name and by number.
+pub fn prints_protocols()
+    ensures { PrintsProtocols }
+{}

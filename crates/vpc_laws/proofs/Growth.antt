@@ -1,0 +1,202 @@
+-- What a step adds to connections and translations.
+use Rattle.std.proofs.Common.{◌≡◌, ℕ, ◌&&◌, ◌||◌, not, List, [], ◌∷◌, ◌++◌, Option, Some, None, refl, inl, inr, ◌∙◌, sym}
+use Rattle.std.specs.List.{list_any}
+use Rattle.std.proofs.lemmas.Bool.{cond_both}
+use Rattle.std.proofs.lemmas.List.{append-nil}
+use Rattle.vpc_base.specs.declared.headers.Header.{Header}
+use Rattle.vpc_base.specs.declared.headers.Dir.{Dir}
+use Rattle.vpc_base.specs.declared.headers.Dir.TheVariants.{Inward, Outward}
+use Rattle.vpc_base.specs.declared.headers.Label.{Label}
+use Rattle.vpc_base.specs.declared.headers.Label.TheVariants.{Opening, Answer}
+use Rattle.vpc_model.specs.declared.numbers.EniNo.{EniNo}
+use Rattle.vpc_model.specs.declared.numbers.NatNo.{NatNo}
+use Rattle.vpc_model.specs.declared.outcomes.By.{By}
+use Rattle.vpc_model.specs.declared.outcomes.RuleRef.{RuleRef}
+use Rattle.vpc_model.specs.declared.places.Place.{Place}
+use Rattle.vpc_model.specs.declared.places.Place.TheVariants.{OutOf, Router, Enter, Into, IgwOut, Internet, IgwIn, NatOut, NatIn, Peer, Tgw, TgwLeave}
+use Rattle.vpc_model.specs.declared.rows.Description.{Description}
+use Rattle.vpc_model.specs.Connections.{Connection, Passing, added, same_connection, open_passing, answer_passing, label_passing, passing_groups, passing_of, is_tracked}
+use Rattle.vpc_model.specs.Groups.{first_rule}
+use Rattle.vpc_model.specs.Internet.{is_unroutable}
+use Rattle.vpc_model.specs.Lookup.{interface_at, has_address}
+use Rattle.vpc_model.specs.Nat.{Translation, is_translatable, is_full, translation_of}
+use Rattle.vpc_model.specs.Step.{Moment, Step, step_at, step_of, step_out, step_into, step_internet, step_nat_out, step_nat_in, out_passing, in_passing, translate}
+use Rattle.vpc_laws.specs.Laws.{AddsOwn, AddsTranslation, own_connection, Begins}
+
+-- ---- connections
+
+pub added-adds : (p : Place) (h : Header) (conns : List Connection) (c : Connection) → own_connection p h ≡ Some c → AddsOwn Opening p h conns (added conns c)
+added-adds p h conns c own =
+    cond_both (list_any (same_connection c) conns) conns (conns ++ c ∷ []) (λ (x : List Connection). AddsOwn Opening p h conns x)
+    (λ _. inl refl) (λ _. inr (c, (refl, (own, refl))))
+
+open_passing-adds : (p : Place) (h : Header) (conns : List Connection) (c : Connection) (r : Option RuleRef) → own_connection p h ≡ Some c → AddsOwn Opening p h conns (open_passing conns c r).conns
+open_passing-adds p h conns c None own = inl refl
+open_passing-adds p h conns c (Some r) own = added-adds p h conns c own
+
+answer_passing-conns : (conns : List Connection) (r : Option RuleRef) → (answer_passing conns r).conns ≡ conns
+answer_passing-conns conns None = refl
+answer_passing-conns conns (Some r) = refl
+
+label_passing-adds : (d : Description) (label : Label) (i : EniNo) (dir : Dir) (p : Place) (h : Header) (conns : List Connection) → own_connection p h ≡ Some (record { eni = i; dir = dir; header = h }) → AddsOwn label p h conns (label_passing d label i dir h conns).conns
+label_passing-adds d Opening i dir p h conns own = open_passing-adds p h conns (record { eni = i; dir = dir; header = h }) (first_rule d (interface_at d i) dir h) own
+label_passing-adds d Answer i dir p h conns own =
+    cond_both (is_tracked conns i dir h) _ (answer_passing conns (first_rule d (interface_at d i) dir h)) (λ (x : Passing). AddsOwn Answer p h conns x.conns)
+    (λ _. inl refl) (λ _. inl (answer_passing-conns conns (first_rule d (interface_at d i) dir h)))
+
+passing_groups-adds : (d : Description) (label : Label) (i : EniNo) (dir : Dir) (p : Place) (h : Header) (conns : List Connection) (groups : List (List ℕ)) → own_connection p h ≡ Some (record { eni = i; dir = dir; header = h }) → AddsOwn label p h conns (passing_groups d label i dir h conns groups).conns
+passing_groups-adds d label i dir p h conns [] own = inl refl
+passing_groups-adds d label i dir p h conns (g ∷ gs) own = label_passing-adds d label i dir p h conns own
+
+out_passing-adds : (d : Description) (label : Label) (i : EniNo) (p : Place) (m : Moment) (by : Option By) (conns : List Connection) → AddsOwn label p m.header m.conns conns → AddsOwn label p m.header m.conns (out_passing d i m (record { by = by; conns = conns })).conns
+out_passing-adds d label i p m None conns adds = inl refl
+out_passing-adds d label i p m (Some by) conns adds = adds
+
+in_passing-adds : (label : Label) (i : EniNo) (p : Place) (m : Moment) (by : Option By) (conns : List Connection) → AddsOwn label p m.header m.conns conns → AddsOwn label p m.header m.conns (in_passing i m (record { by = by; conns = conns })).conns
+in_passing-adds label i p m None conns adds = inl refl
+in_passing-adds label i p m (Some by) conns adds = adds
+
+step_out-adds : (d : Description) (label : Label) (i : EniNo) (m : Moment) → AddsOwn label (OutOf i) m.header m.conns (step_out d label i m).conns
+step_out-adds d label i m =
+    let e = interface_at d i in
+    let passing = passing_of d label i Outward m.header m.conns in
+    cond_both e.idle _ _ (λ (s : Step). AddsOwn label (OutOf i) m.header m.conns s.conns) (λ _. inl refl)
+    (λ _. cond_both (e.checked && not (has_address e m.header.src)) _ _ (λ (s : Step). AddsOwn label (OutOf i) m.header m.conns s.conns) (λ _. inl refl)
+    (λ _. out_passing-adds d label i (OutOf i) m passing.by passing.conns (passing_groups-adds d label i Outward (OutOf i) m.header m.conns e.groups refl)))
+
+step_into-adds : (d : Description) (label : Label) (i : EniNo) (m : Moment) → AddsOwn label (Into i) m.header m.conns (step_into d label i m).conns
+step_into-adds d label i m =
+    let e = interface_at d i in
+    let passing = passing_of d label i Inward m.header m.conns in
+    cond_both e.idle _ _ (λ (s : Step). AddsOwn label (Into i) m.header m.conns s.conns) (λ _. inl refl)
+    (λ _. cond_both (e.checked && not (has_address e m.header.dst)) _ _ (λ (s : Step). AddsOwn label (Into i) m.header m.conns s.conns) (λ _. inl refl)
+    (λ _. in_passing-adds label i (Into i) m passing.by passing.conns (passing_groups-adds d label i Inward (Into i) m.header m.conns e.groups refl)))
+
+step_internet-conns : (d : Description) (m : Moment) → (step_internet d m).conns ≡ m.conns
+step_internet-conns d m = cond_both (is_unroutable m.header.src || is_unroutable m.header.dst) _ _ (λ (s : Step). s.conns ≡ m.conns) (λ _. refl) (λ _. refl)
+
+translate-conns : (d : Description) (n : NatNo) (m : Moment) (t : Option Translation) → (translate d n m t).conns ≡ m.conns
+translate-conns d n m (Some t) = refl
+translate-conns d n m None = cond_both (is_full m.nats n m.header) _ _ (λ (s : Step). s.conns ≡ m.conns) (λ _. refl) (λ _. refl)
+
+step_nat_out-conns : (d : Description) (label : Label) (n : NatNo) (m : Moment) → (step_nat_out d label n m).conns ≡ m.conns
+step_nat_out-conns d Answer n m = refl
+step_nat_out-conns d Opening n m =
+    cond_both (is_translatable m.header.proto) (translate d n m (translation_of m.nats n m.header)) _ (λ (s : Step). s.conns ≡ m.conns)
+    (λ _. translate-conns d n m (translation_of m.nats n m.header)) (λ _. refl)
+
+step_nat_in-conns : (d : Description) (label : Label) (n : NatNo) (m : Moment) → (step_nat_in d label n m).conns ≡ m.conns
+step_nat_in-conns d Opening n m = refl
+step_nat_in-conns d Answer n m = refl
+
+pub step_at-adds : (d : Description) (label : Label) (p : Place) (m : Moment) → AddsOwn label p m.header m.conns (step_at d label p m).conns
+step_at-adds d label (OutOf i) m = step_out-adds d label i m
+step_at-adds d label (Into i) m = step_into-adds d label i m
+step_at-adds d label (Router s came) m = inl refl
+step_at-adds d label (Enter v by) m = inl refl
+step_at-adds d label (IgwOut v) m = inl refl
+step_at-adds d label Internet m = inl (step_internet-conns d m)
+step_at-adds d label (IgwIn v) m = inl refl
+step_at-adds d label (NatOut n) m = inl (step_nat_out-conns d label n m)
+step_at-adds d label (NatIn n) m = inl (step_nat_in-conns d label n m)
+step_at-adds d label (Peer x v) m = inl refl
+step_at-adds d label (Tgw a s) m = inl refl
+step_at-adds d label (TgwLeave a s) m = inl refl
+
+-- ---- translations
+
+out_passing-nats : (d : Description) (i : EniNo) (m : Moment) (by : Option By) (conns : List Connection) → (out_passing d i m (record { by = by; conns = conns })).nats ≡ m.nats
+out_passing-nats d i m None conns = refl
+out_passing-nats d i m (Some by) conns = refl
+
+in_passing-nats : (i : EniNo) (m : Moment) (by : Option By) (conns : List Connection) → (in_passing i m (record { by = by; conns = conns })).nats ≡ m.nats
+in_passing-nats i m None conns = refl
+in_passing-nats i m (Some by) conns = refl
+
+pub step_out-nats : (d : Description) (label : Label) (i : EniNo) (m : Moment) → (step_out d label i m).nats ≡ m.nats
+step_out-nats d label i m =
+    let e = interface_at d i in
+    let passing = passing_of d label i Outward m.header m.conns in
+    cond_both e.idle _ _ (λ (s : Step). s.nats ≡ m.nats) (λ _. refl)
+    (λ _. cond_both (e.checked && not (has_address e m.header.src)) _ _ (λ (s : Step). s.nats ≡ m.nats) (λ _. refl)
+    (λ _. out_passing-nats d i m passing.by passing.conns))
+
+pub step_into-nats : (d : Description) (label : Label) (i : EniNo) (m : Moment) → (step_into d label i m).nats ≡ m.nats
+step_into-nats d label i m =
+    let e = interface_at d i in
+    let passing = passing_of d label i Inward m.header m.conns in
+    cond_both e.idle _ _ (λ (s : Step). s.nats ≡ m.nats) (λ _. refl)
+    (λ _. cond_both (e.checked && not (has_address e m.header.dst)) _ _ (λ (s : Step). s.nats ≡ m.nats) (λ _. refl)
+    (λ _. in_passing-nats i m passing.by passing.conns))
+
+pub step_internet-nats : (d : Description) (m : Moment) → (step_internet d m).nats ≡ m.nats
+step_internet-nats d m = cond_both (is_unroutable m.header.src || is_unroutable m.header.dst) _ _ (λ (s : Step). s.nats ≡ m.nats) (λ _. refl) (λ _. refl)
+
+pub step_nat_in-nats : (d : Description) (label : Label) (n : NatNo) (m : Moment) → (step_nat_in d label n m).nats ≡ m.nats
+step_nat_in-nats d Opening n m = refl
+step_nat_in-nats d Answer n m = refl
+
+translate-adds : (d : Description) (n : NatNo) (m : Moment) (t : Option Translation) → AddsTranslation Opening (NatOut n) m.header m.nats (translate d n m t).nats
+translate-adds d n m (Some t) = inl refl
+translate-adds d n m None =
+    cond_both (is_full m.nats n m.header) _ _ (λ (s : Step). AddsTranslation Opening (NatOut n) m.header m.nats s.nats)
+    (λ _. inl refl) (λ _. inr (_, (refl, (refl, (refl, refl)))))
+
+step_nat_out-adds : (d : Description) (label : Label) (n : NatNo) (m : Moment) → AddsTranslation label (NatOut n) m.header m.nats (step_nat_out d label n m).nats
+step_nat_out-adds d Answer n m = inl refl
+step_nat_out-adds d Opening n m =
+    cond_both (is_translatable m.header.proto) (translate d n m (translation_of m.nats n m.header)) _ (λ (s : Step). AddsTranslation Opening (NatOut n) m.header m.nats s.nats)
+    (λ _. translate-adds d n m (translation_of m.nats n m.header)) (λ _. inl refl)
+
+pub step_at-translates : (d : Description) (label : Label) (p : Place) (m : Moment) → AddsTranslation label p m.header m.nats (step_at d label p m).nats
+step_at-translates d label (OutOf i) m = inl (step_out-nats d label i m)
+step_at-translates d label (Into i) m = inl (step_into-nats d label i m)
+step_at-translates d label (Router s came) m = inl refl
+step_at-translates d label (Enter v by) m = inl refl
+step_at-translates d label (IgwOut v) m = inl refl
+step_at-translates d label Internet m = inl (step_internet-nats d m)
+step_at-translates d label (IgwIn v) m = inl refl
+step_at-translates d label (NatOut n) m = step_nat_out-adds d label n m
+step_at-translates d label (NatIn n) m = inl (step_nat_in-nats d label n m)
+step_at-translates d label (Peer x v) m = inl refl
+step_at-translates d label (Tgw a s) m = inl refl
+step_at-translates d label (TgwLeave a s) m = inl refl
+
+-- ---- what follows
+
+pub AddsOwn-begins : (label : Label) (p : Place) (h : Header) (before after : List Connection) → AddsOwn label p h before after → Begins before after
+AddsOwn-begins label p h before after (inl e) = ([], e ∙ sym (append-nil before))
+AddsOwn-begins label p h before after (inr (c, (opens, (own, e)))) = (c ∷ [], e)
+
+pub AddsTranslation-begins : (label : Label) (p : Place) (h : Header) (before after : List Translation) → AddsTranslation label p h before after → Begins before after
+AddsTranslation-begins label p h before after (inl e) = ([], e ∙ sym (append-nil before))
+AddsTranslation-begins label p h before after (inr (t, (opens, (here, (whole, e))))) = (t ∷ [], e)
+
+pub AddsOwn-elsewhere : (label : Label) (p : Place) (h : Header) (before after : List Connection) → own_connection p h ≡ None → AddsOwn label p h before after → after ≡ before
+AddsOwn-elsewhere label p h before after none (inl e) = e
+AddsOwn-elsewhere label p h before after none (inr (c, (opens, (own, e)))) = cc
+
+pub AddsOwn-answer : (p : Place) (h : Header) (before after : List Connection) → AddsOwn Answer p h before after → after ≡ before
+AddsOwn-answer p h before after (inl e) = e
+AddsOwn-answer p h before after (inr (c, (opens, (own, e)))) = cc
+
+pub AddsTranslation-answer : (p : Place) (h : Header) (before after : List Translation) → AddsTranslation Answer p h before after → after ≡ before
+AddsTranslation-answer p h before after (inl e) = e
+AddsTranslation-answer p h before after (inr (t, (opens, (here, (whole, e))))) = cc
+
+-- ---- the laws
+
+pub step_adds_own : (d : Description) (label : Label) (m : Moment) → AddsOwn label m.place m.header m.conns (step_of d label m).conns
+step_adds_own d label m = step_at-adds d label m.place m
+
+pub step_adds_translation : (d : Description) (label : Label) (m : Moment) → AddsTranslation label m.place m.header m.nats (step_of d label m).nats
+step_adds_translation d label m = step_at-translates d label m.place m
+
+pub step_keeps : (d : Description) (label : Label) (m : Moment) → Begins m.conns (step_of d label m).conns × Begins m.nats (step_of d label m).nats
+step_keeps d label m = (AddsOwn-begins label m.place m.header _ _ (step_adds_own d label m), AddsTranslation-begins label m.place m.header _ _ (step_adds_translation d label m))
+
+pub connections_change_at_interfaces : (d : Description) (label : Label) (m : Moment) → own_connection m.place m.header ≡ None → (step_of d label m).conns ≡ m.conns
+connections_change_at_interfaces d label m none = AddsOwn-elsewhere label m.place m.header _ _ none (step_adds_own d label m)
+
+pub answer_adds_nothing : (d : Description) (m : Moment) → ((step_of d Answer m).conns ≡ m.conns) × ((step_of d Answer m).nats ≡ m.nats)
+answer_adds_nothing d m = (AddsOwn-answer m.place m.header _ _ (step_adds_own d Answer m), AddsTranslation-answer m.place m.header _ _ (step_adds_translation d Answer m))

@@ -1,0 +1,5 @@
+use Rattle.vpc_laws.proofs.Walks.{answer_leaves_all}
+use Rattle.vpc_laws.proofs.walks.answer_leaves_all.Goals as goal
+
+pub returns : goal.returns
+returns c = answer_leaves_all

@@ -1,0 +1,5 @@
+use Rattle.vpc_laws.proofs.Walks.{walk_keeps_book}
+use Rattle.vpc_laws.proofs.walks.keeps_translations.Goals as goal
+
+pub returns : goal.returns
+returns c = walk_keeps_book

@@ -1,0 +1,5 @@
+use Rattle.vpc_laws.proofs.Walks.{left_connections_are_own}
+use Rattle.vpc_laws.proofs.walks.remembers_own_connections.Goals as goal
+
+pub returns : goal.returns
+returns c = left_connections_are_own

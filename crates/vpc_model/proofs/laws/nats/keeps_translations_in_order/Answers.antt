@@ -1,5 +1,0 @@
-use Rattle.vpc_model.proofs.Books.{step_keeps_book}
-use Rattle.vpc_model.proofs.laws.nats.keeps_translations_in_order.Goals as goal
-
-pub returns : goal.returns
-returns c = step_keeps_book

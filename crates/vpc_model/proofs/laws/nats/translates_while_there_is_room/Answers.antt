@@ -1,5 +1,0 @@
-use Rattle.vpc_model.proofs.Replies.{roomy_gateway_translates}
-use Rattle.vpc_model.proofs.laws.nats.translates_while_there_is_room.Goals as goal
-
-pub returns : goal.returns
-returns c = roomy_gateway_translates

@@ -1,5 +1,0 @@
-use Rattle.std.proofs.Common.{refl}
-use Rattle.vpc_model.proofs.laws.refusals.ends_long_walks.Goals as goal
-
-pub returns : goal.returns
-returns c = (refl, refl)

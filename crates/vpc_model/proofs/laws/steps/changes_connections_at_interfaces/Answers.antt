@@ -1,5 +1,0 @@
-use Rattle.vpc_model.proofs.Growth.{connections_change_at_interfaces}
-use Rattle.vpc_model.proofs.laws.steps.changes_connections_at_interfaces.Goals as goal
-
-pub returns : goal.returns
-returns c = connections_change_at_interfaces

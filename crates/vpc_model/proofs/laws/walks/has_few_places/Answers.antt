@@ -1,5 +1,0 @@
-use Rattle.vpc_model.proofs.Walks.{walk_is_short}
-use Rattle.vpc_model.proofs.laws.walks.has_few_places.Goals as goal
-
-pub returns : goal.returns
-returns c = walk_is_short

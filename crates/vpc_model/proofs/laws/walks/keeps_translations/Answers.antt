@@ -1,5 +1,0 @@
-use Rattle.vpc_model.proofs.Walks.{walk_keeps_book}
-use Rattle.vpc_model.proofs.laws.walks.keeps_translations.Goals as goal
-
-pub returns : goal.returns
-returns c = walk_keeps_book

@@ -1,0 +1,288 @@
+#!/bin/sh
+# Tests of the launcher, over a small checkout of its own and a stand-in for rt: nothing is proved, and it takes some
+# seconds. The last line is 'N passed, M failed'.
+unset CDPATH VPC_QUIET VPC_JOBS VPC_WAIT
+here=$(cd -- "$(dirname -- "$0")" && pwd)
+room=$(mktemp -d)
+trap 'chmod -R u+w "$room"; rm -rf "$room"' EXIT
+passed=0 failed=0
+stand_in=$here/kit:$PATH
+# The kit may be in PATH: without it there is none of its folder.
+no_kit=$(printf '%s' "$PATH" | tr ':' '\n' | while read -r it; do [ -x "$it/rt" ] || printf '%s:' "$it"; done)
+CALLS=$room/calls
+export CALLS
+
+# A checkout of five crates, of which the program needs four, one of them with no specs.
+checkout() {
+    mkdir -p "$1"
+    cp "$here/../vpc" "$1/vpc"
+    mkdir -p "$1/examples"
+    echo '{}' >"$1/examples/one-subnet.json"
+    printf '%s\n' '# lowest first' 'base:' 'left: base arrayvec' 'right: base' 'other: base' \
+        'vpc_cli: left right  base serde_json' >"$1/crates.txt"
+    for it in base left right other vpc_cli; do
+        mkdir -p "$1/crates/$it/src" "$1/crates/$it/proofs/f"
+        echo "// $it" >"$1/crates/$it/src/lib.rt"
+        echo "-- $it" >"$1/crates/$it/proofs/f/Answers.antt"
+    done
+    mv "$1/crates/vpc_cli/src/lib.rt" "$1/crates/vpc_cli/src/main.rt"
+    echo one >"$1/crates/vpc_cli/src/main.rt"
+}
+
+# Runs the launcher: $1 the PATH, then the command. Leaves its output, its errors and its status.
+start() {
+    PATH_=$1
+    shift
+    : >"$CALLS"
+    out=$(PATH=$PATH_ "$@" 2>"$room/err")
+    status=$?
+    err=$(cat "$room/err")
+    calls=$(cat "$CALLS")
+}
+
+# The launcher takes no file by its times alone that was written within the last two seconds.
+settle() {
+    sleep 2.2
+}
+
+# Compares what was found ($2) with what is wanted ($3).
+is() {
+    if [ "$2" = "$3" ]; then
+        passed=$((passed + 1))
+    else
+        failed=$((failed + 1))
+        printf 'FAILED: %s\n  wanted: %s\n  found:  %s\n' "$1" "$3" "$2"
+    fi
+}
+
+# Compares what was found ($2) with a pattern ($3).
+fits() {
+    # shellcheck disable=SC2254 # (a pattern is meant)
+    case $2 in
+    $3) is "$1" x x ;;
+    *) is "$1" "$2" "$3" ;;
+    esac
+}
+
+top=$room/checkout
+checkout "$top"
+settle
+
+# No kit, nothing built: one line, 125, nothing run.
+start "$no_kit" "$top/vpc" words
+is 'no kit: status' $status 125
+is 'no kit: output' "$out" ''
+is 'no kit: one line' "$(wc -l <"$room/err")" 1
+fits 'no kit: words' "$err" 'vpc: *no rt in PATH*'
+
+# The first run builds and tells of each crate, none but those that the program stands on.
+start "$stand_in" "$top/vpc" some words
+is 'first run: status' $status 0
+is 'first run: output' "$out" "one $PWD some words"
+is 'first run: crates' "$(printf '%s\n' "$err" | sed -n 's/, [0-9]* s so far//; s/^proving //p')" 'base, 1 of 4
+left, 2 of 4
+right, 3 of 4
+vpc_cli, 4 of 4'
+fits 'first run: calls' "$calls" '*rt all check --jobs *'
+
+# Unchanged: nothing is asked of rt, and nothing said.
+start "$stand_in" "$top/vpc" again
+is 'unchanged: status' $status 0
+is 'unchanged: output' "$out" "one $PWD again"
+is 'unchanged: errors' "$err" ''
+is 'unchanged: calls' "$calls" ''
+
+# The program's status is the launcher's.
+start "$stand_in" "$top/vpc" fails
+is "the program's status" $status 3
+
+# No kit, the same sources: it runs.
+start "$no_kit" "$top/vpc" again
+is 'built, no kit: status' $status 0
+is 'built, no kit: output' "$out" "one $PWD again"
+is 'built, no kit: errors' "$err" ''
+start "$stand_in" "$top/vpc" again
+is 'the kit again: calls' "$calls" ''
+
+# Written anew with the same text: checksums, no build.
+touch "$top/crates/base/src/lib.rt"
+start "$stand_in" "$top/vpc" again
+is 'touched: output' "$out" "one $PWD again"
+is 'touched: calls' "$calls" ''
+start "$no_kit" "$top/vpc" again
+is 'touched, no kit' "$out" "one $PWD again"
+
+# An edit with the old time, of the same length: built anew.
+echo two >"$room/main.rt"
+touch -r "$top/crates/vpc_cli/src/main.rt" "$room/main.rt"
+cp -p "$room/main.rt" "$top/crates/vpc_cli/src/main.rt"
+start "$no_kit" "$top/vpc" again
+is 'edited, no kit: status' $status 125
+is 'edited, no kit: output' "$out" ''
+start "$stand_in" "$top/vpc" again
+is 'edited: output' "$out" "two $PWD again"
+
+# An edit of a proof counts, a new file too, one of another crate doesn't.
+for it in left/proofs/f/Answers.antt left/specs/Lib.antt right/src/new.rt; do
+    mkdir -p "$top/crates/${it%/*}"
+    echo "-- $it" >>"$top/crates/$it"
+    start "$stand_in" "$top/vpc" again
+    fits "edit of $it" "$calls" '*rt all check*'
+done
+rm "$top/crates/right/src/new.rt"
+start "$stand_in" "$top/vpc" again
+fits 'a file removed' "$calls" '*rt all check*'
+echo '// more' >>"$top/crates/other/src/lib.rt"
+start "$stand_in" "$top/vpc" again
+is "edit of a crate that isn't needed" "$(grep -c 'all check' "$CALLS")" 0
+sed -i 's/^other: base$/other: base left/; s/^# lowest/# the lowest/' "$top/crates.txt"
+start "$stand_in" "$top/vpc" again
+is 'edit of another line of crates.txt' "$(grep -c 'all check' "$CALLS")" 0
+sed -i 's/^left: base arrayvec$/left: base/' "$top/crates.txt"
+start "$stand_in" "$top/vpc" again
+fits 'edit of a line of crates.txt' "$calls" '*rt all check*'
+settle
+start "$stand_in" "$top/vpc" again
+start "$stand_in" env KIT='stand-in 2' "$top/vpc" again
+is 'rt looks the same' "$calls" ''
+mkdir "$room/other-kit"
+cp "$here/kit/rt" "$room/other-kit/rt"
+start "$room/other-kit:$stand_in" "$top/vpc" again
+is 'another rt, the same kit' "$calls" 'rt version'
+start "$stand_in" "$top/vpc" again
+is 'the first rt again' "$calls" 'rt version'
+start "$room/other-kit:$stand_in" env KIT='stand-in 2' "$top/vpc" again
+fits 'another kit' "$calls" '*rt all check*'
+start "$stand_in" "$top/vpc" again
+fits 'the first kit again' "$calls" '*rt all check*'
+
+# A program that was written otherwise isn't run.
+cp -p "$top/out/vpc" "$room/kept"
+echo 'echo other' >>"$top/out/vpc"
+start "$no_kit" "$top/vpc" again
+is 'program changed, no kit' "$status $out" '125 '
+start "$stand_in" "$top/vpc" again
+is 'program changed' "$out" "two $PWD again"
+# What rt leaves in its own folder doesn't matter, as after a gate.
+rm -rf "$top"/crates/*/out
+start "$no_kit" "$top/vpc" again
+is "rt's folders are gone" "$out" "two $PWD again"
+
+# A source that doesn't prove: one line of error, the old answer isn't given, neither then nor later.
+echo three >"$top/crates/vpc_cli/src/main.rt"
+for it in left run; do
+    for _ in first second; do
+        start "$stand_in" env FAILS=$it VPC_QUIET=1 "$top/vpc" again
+        is "$it fails: status" $status 125
+        is "$it fails: output" "$out" ''
+        is "$it fails: one line" "$(wc -l <"$room/err")" 1
+    done
+done
+start "$stand_in" env FAILS=left VPC_QUIET=1 "$top/vpc" again
+fits 'which crate' "$err" 'vpc: left is not proved: *out/build.log'
+start "$no_kit" "$top/vpc" again
+is 'fails, then no kit' "$status $out" '125 '
+echo two >"$top/crates/vpc_cli/src/main.rt"
+start "$no_kit" "$top/vpc" again
+is 'the old text again' "$status $out" "0 two $PWD again"
+echo three >"$top/crates/vpc_cli/src/main.rt"
+rm -rf "$top/crates/vpc_cli/out"
+start "$stand_in" env WRITES_NOTHING=1 VPC_QUIET=1 "$top/vpc" again
+is 'no program written' "$status $out" '125 '
+start "$stand_in" env VPC_QUIET=1 "$top/vpc" again
+is 'quiet' "$status $out $err" "0 three $PWD again "
+
+# A source that changes while it is built, also where it is changed back.
+echo four >"$top/crates/vpc_cli/src/main.rt"
+(sleep 1 && echo five >"$top/crates/vpc_cli/src/main.rt") &
+start "$stand_in" env TAKES=0.5 VPC_QUIET=1 "$top/vpc" again
+is 'edited meanwhile' "$status $out" '125 '
+wait
+(sleep 1 && touch "$top/crates/vpc_cli/src/main.rt") &
+start "$stand_in" env TAKES=0.5 VPC_QUIET=1 "$top/vpc" again
+is 'written meanwhile' "$status $out" '125 '
+wait
+start "$stand_in" "$top/vpc" again
+is 'after all that' "$status $out" "0 five $PWD again"
+
+# Through links, with CDPATH, from elsewhere, with blanks and a leading - in the path.
+mkdir -p "$room/bin"
+ln -s "$top/vpc" "$room/vpc-1"
+ln -s ../vpc-1 "$room/bin/vpc"
+start "$room/bin:$stand_in" vpc by link
+is 'by a link of a link' "$out" "five $PWD by link"
+cd "$room" || exit
+for it in checkout/vpc ./checkout/vpc bin/vpc; do
+    start "$no_kit" env CDPATH="$room:/tmp" "$it" x
+    is "CDPATH, $it" "$status $out $err" "0 five $room x "
+done
+cd checkout || exit
+start "$no_kit" sh vpc x
+is 'sh vpc' "$status $out $err" "0 five $top x "
+checkout "$room/with  blanks"
+start "$stand_in" "$room/with  blanks/vpc" x
+is 'blanks' "$status $out" "0 one $PWD x"
+start "$no_kit" "$room/with  blanks/vpc" x
+is 'blanks, no kit' "$status $out" "0 one $PWD x"
+cd "$room" || exit
+mv 'with  blanks' ./-dash
+start "$no_kit" ./-dash/vpc x
+is 'a leading -' "$status $out" "0 one $PWD x"
+
+# A checkout that can't be written to. (as root, everything can be written to: then another user tries)
+chmod -R a-w "$top"
+chmod 755 "$room"
+as=
+[ "$(id -u)" != 0 ] || as='setpriv --reuid=65534 --regid=65534 --clear-groups'
+# shellcheck disable=SC2086
+start "$no_kit" env CALLS=/dev/null $as "$top/vpc" x
+is 'read-only' "$status $out $err" "0 five $PWD x "
+checkout "$room/read-only"
+chmod -R a-w "$room/read-only"
+# shellcheck disable=SC2086
+start "$stand_in" env CALLS=/dev/null $as "$room/read-only/vpc" x
+fits 'read-only and not built' "$status $out $err" "125  vpc: *can't be written to"
+chmod -R u+w "$top"
+
+# Two first runs at once: one builds, both answer.
+checkout "$room/two"
+: >"$CALLS"
+for it in a b; do
+    PATH=$stand_in TAKES=0.5 "$room/two/vpc" $it >"$room/out-$it" 2>"$room/err-$it" &
+done
+wait
+is 'two at once: answers' "$(cat "$room/out-a" "$room/out-b")" "one $PWD a
+one $PWD b"
+is 'two at once: builds' "$(grep -c 'all check' "$CALLS")" 1
+is 'two at once: one waits' "$(cat "$room/err-a" "$room/err-b" | grep -c waiting)" 1
+
+# The one that builds is killed: the other goes on.
+checkout "$room/killed"
+PATH=$stand_in TAKES=1 "$room/killed/vpc" a >/dev/null 2>&1 &
+holder=$!
+sleep 1
+kill -9 $holder
+wait $holder 2>/dev/null
+began=$(date +%s)
+start "$stand_in" env VPC_QUIET=1 "$room/killed/vpc" b
+is 'killed' "$status $out" "0 one $PWD b"
+is 'killed: no long wait' "$(($(date +%s) - began < 10))" 1
+
+# The one that builds takes too long.
+checkout "$room/long"
+PATH=$stand_in TAKES=2 "$room/long/vpc" a >/dev/null 2>&1 &
+sleep 1
+start "$stand_in" env VPC_WAIT=1 VPC_QUIET=1 "$room/long/vpc" b
+fits 'waited long' "$status $out $err" '125  vpc: another build *'
+wait
+
+# On a terminal one line moves.
+if command -v script >/dev/null; then
+    checkout "$room/terminal"
+    PATH=$stand_in TAKES=1.2 script -qec "stty cols 200; '$room/terminal/vpc' x" /dev/null >"$room/typed" </dev/null
+    fits 'on a terminal' "$(tr '\r' '\n' <"$room/typed" | grep -c 'proving vpc_cli, 4 of 4, [0-9]* s so far')" '[1-9]*'
+    is 'on a terminal: few lines' "$(wc -l <"$room/typed")" 2
+fi
+
+echo "$passed passed, $failed failed"
+[ "$failed" = 0 ]

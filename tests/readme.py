@@ -1,0 +1,86 @@
+"""Runs each `$` line of README.md and of the pages of docs/, and compares what it prints with what stands below it.
+
+    python3 tests/readme.py [PAGE..]
+
+A line that begins with four blanks and `$` is a command; it goes on after a `\\` at its end, and while a quotation is
+open. The lines below it, up to the next command or an empty line, are what it prints on standard output. The commands of
+one page run in turn in one folder, which has links to this checkout's scripts and examples, so what they write is gone
+afterwards. A stand-in for the command line of AWS answers collect-bundle. The program must be built, or be built by the
+first command.
+"""
+
+import os
+import shlex
+import subprocess
+import sys
+import tempfile
+
+TOP = os.path.dirname(os.path.dirname(os.path.abspath(__file__)))
+LINKED = ("vpc", "collect-bundle", "examples")
+
+
+def is_unfinished(text):
+    """Whether a command goes on in the next line."""
+    try:
+        shlex.split(text)
+    except ValueError:
+        return True
+    return text.endswith("\\")
+
+
+def commands(page):
+    """The commands of a page: the number of the line, the text, and the lines that it is to print."""
+    found, is_open, goes_on = [], False, False
+    with open(page, encoding="utf-8") as file:
+        for number, line in enumerate(file, 1):
+            line = line.rstrip("\n")
+            if not line.startswith("    "):
+                is_open = goes_on = False
+                continue
+            line = line[4:]
+            if goes_on:
+                found[-1][1].append(line)
+            elif line.startswith("$ "):
+                found.append((number, [line[2:]], []))
+                is_open = True
+            elif is_open:
+                found[-1][2].append(line)
+                continue
+            goes_on = is_open and is_unfinished("\n".join(found[-1][1]))
+    return [(number, "\n".join(text), printed) for number, text, printed in found]
+
+
+def run(page):
+    """Runs the commands of a page, and gives how many printed what they should and how many did not."""
+    passed, failed = 0, 0
+    with tempfile.TemporaryDirectory() as room:
+        for name in LINKED:
+            os.symlink(os.path.join(TOP, name), os.path.join(room, name))
+        path = os.pathsep.join([os.path.join(TOP, "tests", "account"), os.environ["PATH"]])
+        for number, text, printed in commands(page):
+            ran = subprocess.run(
+                ["bash", "-c", text], cwd=room, env={**os.environ, "PATH": path}, capture_output=True, text=True
+            )
+            if ran.stdout.splitlines() == printed:
+                passed += 1
+                continue
+            failed += 1
+            print(f"{os.path.relpath(page, TOP)}:{number}: {text}", "-- wanted:", *printed, sep="\n")
+            print("-- printed:", ran.stdout + ran.stderr, sep="\n")
+    return passed, failed
+
+
+def main(words):
+    pages = words or [
+        os.path.join(TOP, "README.md"),
+        *sorted(os.path.join(TOP, "docs", it) for it in os.listdir(os.path.join(TOP, "docs")) if it.endswith(".md")),
+    ]
+    results = [run(it) for it in pages]
+    passed, failed = (sum(it) for it in zip(*results))
+    print(f"{passed} passed, {failed} failed")
+    # (a page whose commands are no longer found would pass)
+    return 0 if passed and not failed else 1
+
+
+if __name__ == "__main__":
+    sys.exit(main(sys.argv[1:]))
