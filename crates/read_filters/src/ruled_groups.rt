@@ -149,8 +149,9 @@ fn with_all_rules(
 /// The groups with the rules that a bundle's `SecurityGroupRules` tell of them (EC2 API,
 /// DescribeSecurityGroupRules), and the first fault where one can't be read: no groups are handed back
 /// then. A group of which a rule is kept has those rules, in order, in place of its permissions; any
-/// other keeps its own. Rules of IPv6, of groups that aren't described, and those with the id of an
-/// earlier one that is kept are left out. It takes time linear in the bundle and the groups.
+/// other keeps its own; of groups with one id, the first counts. Rules of IPv6, of groups that aren't
+/// described, and those with the id of an earlier one that is kept are left out. It takes time linear in
+/// the bundle and the groups.
 pub fn read_group_rules(
     alloc: Global,
     bundle: &Value,

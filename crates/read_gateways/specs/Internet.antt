@@ -7,7 +7,7 @@ use Rattle.json_fields.specs.declared.fault.FieldFault.{FieldFault}
 use Rattle.json_fields.specs.Kept.{each_kept_item}
 use Rattle.vpc_model.specs.declared.rows.InternetGateway.{InternetGateway}
 
--- whether a gateway in this state serves the VPC
+-- whether a gateway in this state serves the VPC (profile)
 abbrev pub is_attached : List ℕ → Bool
 is_attached state = bytes_eq state (codes "available") || bytes_eq state (codes "attached")
 

@@ -21,7 +21,7 @@ use Rattle.read_gateways.specs.declared.transit.AttachmentHead.{AttachmentHead}
 abbrev pub id_item : Data → List ℕ → Result (List ℕ) FieldFault
 id_item item path = and_then (in_shape path (as_str item)) (λ text. in_grammar path (id_in text))
 
--- whether an attachment in this state carries packets
+-- whether an attachment in this state carries packets (profile)
 abbrev pub is_usable : List ℕ → Bool
 is_usable state = bytes_eq state (codes "available") || bytes_eq state (codes "modifying")
 

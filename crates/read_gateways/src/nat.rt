@@ -1,12 +1,11 @@
 // NAT gateways.
-ghost use Rattle.std.specs.Prelude.{◌≡◌, codes, option_map};
+ghost use Rattle.std.specs.Prelude.{◌≡◌};
 ghost use Rattle.serde_json.specs.View.{view};
 ghost use Rattle.json_fields.specs.FieldFault.{Reads};
-ghost use Rattle.json_fields.specs.Fields.{addr_of_field, needed};
 ghost use Rattle.read_gateways.specs.Nat.{chosen_address, life_if, life_within, live_of, nat_address_of, nat_gateway_of, primary_number};
 
 use crate::texts::text_is;
-use json_fields::{FieldFault, Path, ReadRow, addr_if, flag_if, id_at, id_if, read_items};
+use json_fields::{FieldFault, Path, ReadRow, addr_at, flag_if, id_at, id_if, read_items};
 use serde_json::Value;
 use std::alloc::Global;
 use vpc_model::{Id, NatGateway, NatLife};
@@ -21,20 +20,11 @@ struct NatAddress {
     primary: bool,
 }
 
-fn private_ip_at(alloc: Global, row: &Value, path: &Path) -> Result<u32, FieldFault>
-    ensures { Reads (λ x. x) (needed addr_of_field (view row.now) path.now (codes "PrivateIp")) result }
-{
-    match addr_if(alloc, row, path, "PrivateIp")? {
-        Some(address) => Ok(address),
-        None => Err(FieldFault::wrong_shape(alloc, path, "PrivateIp")),
-    }
-}
-
 fn nat_address_of(alloc: Global, row: &Value, path: &Path) -> Result<NatAddress, FieldFault>
     ensures { Reads (λ x. x) (nat_address_of (view row.now) path.now) result }
 {
     let eni = id_at(alloc, row, path, "NetworkInterfaceId")?;
-    let address = private_ip_at(alloc, row, path)?;
+    let address = addr_at(alloc, row, path, "PrivateIp")?;
     let primary = flag_if(alloc, row, path, "IsPrimary")?;
     Ok(NatAddress {
         eni,
