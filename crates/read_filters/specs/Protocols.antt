@@ -1,0 +1,21 @@
+-- Protocols as rules name them.
+use Rattle.std.specs.Prelude.{ℕ, List, Option, Some, None, option_map, bytes_eq, codes, Result, if◌then◌else◌}
+use Rattle.serde_json.specs.Data.{Data}
+use Rattle.prefix_text.specs.Number.{number_of}
+use Rattle.json_fields.specs.FieldFault.{and_then, in_shape}
+use Rattle.json_fields.specs.Fields.{text_in}
+use Rattle.json_fields.specs.Paths.{at_member}
+use Rattle.json_fields.specs.declared.fault.FieldFault.{FieldFault}
+
+-- a protocol by its number, or all of them, which are none of these numbers (EC2 API, NetworkAclEntry)
+abbrev pub numbered_protocol : List ℕ → Option (Option ℕ)
+numbered_protocol text = if bytes_eq text (codes "-1") then Some None else option_map Some (number_of text 255)
+
+-- a protocol by its name or its number, or all of them (EC2 API, IpPermission)
+abbrev pub named_protocol : List ℕ → Option (Option ℕ)
+named_protocol text =
+    if bytes_eq text (codes "tcp") then Some (Some 6)
+    else if bytes_eq text (codes "udp") then Some (Some 17)
+    else if bytes_eq text (codes "icmp") then Some (Some 1)
+    else if bytes_eq text (codes "icmpv6") then Some (Some 58)
+    else numbered_protocol text
