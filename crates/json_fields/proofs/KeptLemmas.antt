@@ -29,9 +29,11 @@ unseen-with_another {A = A} same key_of seen key (row ∷ rows) =
     equal : (was : Bool) (xs ys : List A) → xs ≡ cond (not (was || (true || false))) ys xs
     equal true xs ys = refl
     equal false xs ys = refl
+
     other : (was : Bool) (xs ys : List A) → xs ≡ ys → cond (not was) (row ∷ xs) xs ≡ cond (not (was || (false || false))) (row ∷ ys) ys
     other true xs ys e = e
     other false xs ys e = ap (λ zs. row ∷ zs) e
+
     by : unseen same key_of seen (with_another same key_of key rows) ≡ unseen same key_of (seen ++ key ∷ []) rows
         → (is : Bool) → unseen same key_of seen (cond (not is) (row ∷ with_another same key_of key rows) (with_another same key_of key rows))
         ≡ cond (not (list_any (same (key_of row)) seen || (is || false))) (row ∷ unseen same key_of (seen ++ key ∷ []) rows) (unseen same key_of (seen ++ key ∷ []) rows)
@@ -44,7 +46,7 @@ pub unseen-new : {A K : Type 0} (same : K → K → Bool) (key_of : A → K) (se
     → unseen same key_of seen (firsts_by same key_of (row ∷ rows)) ≡ row ∷ unseen same key_of (seen ++ key_of row ∷ []) (firsts_by same key_of rows)
 unseen-new {A = A} same key_of seen row rows new =
     by (list_any (same (key_of row)) seen) new (unseen same key_of seen (with_another same key_of (key_of row) (firsts_by same key_of rows))) (unseen same key_of (seen ++ key_of row ∷ []) (firsts_by same key_of rows))
-      (unseen-with_another same key_of seen (key_of row) (firsts_by same key_of rows))
+    (unseen-with_another same key_of seen (key_of row) (firsts_by same key_of rows))
   where
     by : (was : Bool) → was ≡ false → (xs ys : List A) → xs ≡ ys → cond (not was) (row ∷ xs) xs ≡ row ∷ ys
     by was e xs ys f = rw (e, f) refl
@@ -64,9 +66,11 @@ list_any-seen {K = K} same tells seen key other known =
   where
     or_true : (b : Bool) → b ≡ true → b ≡ (b || (true || false))
     or_true b e = rw e refl
+
     or_false : (b : Bool) → (b || (false || false)) ≡ b
     or_false true = refl
     or_false false = refl
+
     by : (is : Bool) → same other key ≡ is → (list_any (same other) seen || (is || false)) ≡ list_any (same other) seen
     by true e =
         let one : other ≡ key = tells other key e in
@@ -83,8 +87,10 @@ dropped-seen {A = A} same tells key_of seen row rows known =
   where
     by : (was : Bool) → was ≡ true → (xs : List A) → cond (not was) (row ∷ xs) xs ≡ xs
     by was e xs = rw e refl
+
     step : (other : A) (one two : Bool) (xs ys : List A) → one ≡ two → xs ≡ ys → cond (not one) (other ∷ xs) xs ≡ cond (not two) (other ∷ ys) ys
     step other one two xs ys e f = rw (e, f) refl
+
     equal : (others : List A) → unseen same key_of (seen ++ key_of row ∷ []) others ≡ unseen same key_of seen others
     equal [] = refl
     equal (other ∷ others) =

@@ -7,21 +7,20 @@ ghost use Rattle.json_fields.specs.Fields.{member_of, elements_if};
 ghost use Rattle.json_fields.specs.Bundle.{rows_of, joined_lists, is_object, all_objects, objects_of};
 
 use crate::FieldFault;
-use crate::members::{member, references};
+use crate::members::{elements, member, references};
 use serde_json::Value;
 use std::alloc::Global;
 use std::slice;
 
 /// The rows of one object's list of this name.
-#[tactic(auto, using(crate::proofs::Elements::array_elements))]
 fn own_list<'a>(alloc: Global, part: &'a Value, name: &str) -> Result<Vec<&'a Value>, FieldFault>
     ensures { Reads (λ v. map (λ r. view r.now) v.items) (elements_if name.now (member_of (view part.now) name.now)) result }
 {
     let Some(value) = member(part, name) else {
         return Ok(Vec::new(alloc));
     };
-    match value.as_array() {
-        Some(values) => Ok(references(alloc, values.as_slice())?),
+    match elements(value) {
+        Some(values) => Ok(references(alloc, values)?),
         None => Err(FieldFault::wrong_shape_at(alloc, name)),
     }
 }
@@ -67,8 +66,8 @@ fn objects(bundle: &Value) -> Option<&[Value]>
     if bundle.is_object() {
         return Some(slice::from_ref(bundle));
     }
-    match bundle.as_array() {
-        Some(parts) => all_objects(parts.as_slice()),
+    match elements(bundle) {
+        Some(parts) => all_objects(parts),
         None => None,
     }
 }

@@ -6,7 +6,7 @@ ghost use Rattle.json_fields.specs.Paths.{at_member};
 ghost use Rattle.json_fields.specs.Fields.{flag_of, text_of, number_of, id_in, id_of, id_if_of, addr_of_field, prefix_of_field};
 
 use crate::members::member;
-use crate::{FieldFault, OwnText, Path};
+use crate::{FieldFault, Path};
 use prefix_text::{Prefix, read_addr, read_prefix};
 use serde_json::Value;
 use std::alloc::Global;
@@ -69,22 +69,6 @@ pub fn str_if<'a>(
     match value.as_str() {
         Some(text) => Ok(Some(text)),
         None => Err(FieldFault::wrong_shape(alloc, path, field)),
-    }
-}
-
-/// Any text, copied. No grammar is asked of it.
-pub fn text_if(
-    alloc: Global,
-    row: &Value,
-    path: &Path,
-    field: &str,
-) -> Result<Option<OwnText>, FieldFault>
-    ensures { Reads (λ x. x) (text_of (view row.now) path.now field.now) result }
-{
-    match str_if(alloc, row, path, field) {
-        Ok(Some(text)) => Ok(Some(OwnText::of(alloc, text)?)),
-        Ok(None) => Ok(None),
-        Err(fault) => Err(fault),
     }
 }
 

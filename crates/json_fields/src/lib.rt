@@ -15,18 +15,16 @@ mod needed;
 mod parts;
 mod path;
 mod rows;
-mod texts;
 
 pub use bundle::rows_of;
 pub use fault::FieldFault;
-pub use fields::{addr_if, flag_if, id_at, id_if, number_if, prefix_if, str_if, text_if};
-pub use kept::{HasId, SeenIds, first_of_each, those_there};
-pub use members::{list_if, member};
+pub use fields::{addr_if, flag_if, id_at, id_if, number_if, prefix_if, str_if};
+pub use kept::{HasId, SeenIds, first_of_each};
+pub use members::member;
 pub use needed::{addr_at, flag_at, prefix_at, str_at};
 pub use parts::{addr_if_within, has_text, id_if_within, id_within, str_if_within, str_within};
 pub use path::{Path, PathText};
-pub use rows::{ReadRow, items_if, read_each, read_items, read_kept_items, read_kept_list, read_list};
-pub use texts::OwnText;
+pub use rows::{ReadRow, read_items, read_kept_items, read_kept_list, read_list};
 
 #[cfg(test)]
 mod tests;

@@ -2,7 +2,7 @@
 ghost use Rattle.std.specs.Prelude.{◌≡◌, map, option_map, IfOk};
 ghost use Rattle.serde_json.specs.View.{view};
 ghost use Rattle.json_fields.specs.FieldFault.{Reads};
-ghost use Rattle.json_fields.specs.Fields.{member_of, list_of};
+ghost use Rattle.json_fields.specs.Fields.{array_of, list_of, member_of};
 
 use crate::{FieldFault, Path};
 use serde_json::Value;
@@ -29,21 +29,31 @@ pub(crate) fn references(alloc: Global, values: &[Value]) -> Result<Vec<&Value>,
     Ok(all)
 }
 
-/// The elements of the member of this name, which is an array, and none where it is absent or null.
+/// The elements of an array. `None` for another value.
 #[tactic(auto, using(crate::proofs::Elements::array_elements))]
-pub fn list_if<'a>(
+pub(crate) fn elements(value: &Value) -> Option<&[Value]>
+    ensures { option_map (λ s. map view s.now) result ≡ array_of (view value.now) }
+{
+    match value.as_array() {
+        Some(values) => Some(values.as_slice()),
+        None => None,
+    }
+}
+
+/// The elements of the member of this name, which is an array, and none where it is absent or null.
+pub(crate) fn items_if<'a>(
     alloc: Global,
     row: &'a Value,
     path: &Path,
     field: &str,
-) -> Result<Vec<&'a Value>, FieldFault>
-    ensures { Reads (λ v. map (λ r. view r.now) v.items) (list_of (view row.now) path.now field.now) result }
+) -> Result<&'a [Value], FieldFault>
+    ensures { Reads (λ s. map view s.now) (list_of (view row.now) path.now field.now) result }
 {
     let Some(value) = member(row, field) else {
-        return Ok(Vec::new(alloc));
+        return Ok(&[]);
     };
-    match value.as_array() {
-        Some(values) => Ok(references(alloc, values.as_slice())?),
+    match elements(value) {
+        Some(values) => Ok(values),
         None => Err(FieldFault::wrong_shape(alloc, path, field)),
     }
 }

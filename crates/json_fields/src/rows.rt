@@ -1,13 +1,12 @@
 // Rows of lists, each of which is read by itself.
-ghost use Rattle.std.specs.Prelude.{◌≡◌, map, option_map};
+ghost use Rattle.std.specs.Prelude.{map};
 ghost use Rattle.serde_json.specs.View.{view};
 ghost use Rattle.json_fields.specs.FieldFault.{Reads, each_row};
-ghost use Rattle.json_fields.specs.Fields.{array_of, list_of};
 ghost use Rattle.json_fields.specs.Kept.{each_item, each_kept_item, each_kept_of, each_of};
 ghost use Rattle.json_fields.specs.Paths.{at_row};
 
 use crate::kept::those_there;
-use crate::members::member;
+use crate::members::items_if;
 use crate::{FieldFault, Path, rows_of};
 use serde_json::Value;
 use std::alloc::Global;
@@ -41,7 +40,7 @@ fn read_row<R: ReadRow>(
 }
 
 /// What each of the rows tells, in order. `name` is the path of their list.
-pub fn read_each<R: ReadRow>(
+fn read_each<R: ReadRow>(
     alloc: Global,
     rows: &[&Value],
     name: &Path,
@@ -67,35 +66,6 @@ fn read_values<R: ReadRow>(
         all.push(read_row::<R>(alloc, value, name, number)?)?;
     }
     Ok(all)
-}
-
-/// The elements of an array.
-#[tactic(auto, using(crate::proofs::Elements::array_elements))]
-fn elements(value: &Value) -> Option<&[Value]>
-    ensures { option_map (λ s. map view s.now) result ≡ array_of (view value.now) }
-{
-    match value.as_array() {
-        Some(values) => Some(values.as_slice()),
-        None => None,
-    }
-}
-
-/// The elements of the member of this name, which is an array, and none where it is absent or null.
-pub fn items_if<'a>(
-    alloc: Global,
-    row: &'a Value,
-    path: &Path,
-    field: &str,
-) -> Result<&'a [Value], FieldFault>
-    ensures { Reads (λ s. map view s.now) (list_of (view row.now) path.now field.now) result }
-{
-    let Some(value) = member(row, field) else {
-        return Ok(&[]);
-    };
-    match elements(value) {
-        Some(values) => Ok(values),
-        None => Err(FieldFault::wrong_shape(alloc, path, field)),
-    }
 }
 
 /// What each item of the member of this name tells, which is an array, and nothing where it is absent

@@ -72,7 +72,7 @@ fn kinds_told(alloc: Global, text: &str) -> Result<[Kind; 6], Fail> {
     let row = Value::from_str(alloc, text)?;
     Ok([
         kind_told(flag_if(alloc, &row, &path, "F")),
-        kind_told(text_if(alloc, &row, &path, "F")),
+        kind_told(str_if(alloc, &row, &path, "F")),
         kind_told(addr_if(alloc, &row, &path, "F")),
         kind_told(prefix_if(alloc, &row, &path, "F")),
         kind_told(id_if(alloc, &row, &path, "F")),
@@ -141,23 +141,37 @@ fn item_place(alloc: Global) -> Result<PathText, Fail> {
     Ok(group.member("GroupId").text(alloc)?)
 }
 
-fn tags_told(alloc: Global) -> Result<FieldFault, Fail> {
-    let row = Value::from_str(alloc, "{\"Groups\": [1, 2], \"Tags\": 3}")?;
-    let list = Path::list("NetworkInterfaces");
-    let path = list.row(0);
-    match list_if(alloc, &row, &path, "Tags") {
-        Ok(_) => Ok(FieldFault::Memory),
-        Err(fault) => Ok(fault),
+/// The names of an interface's groups, which must be texts.
+struct GroupNames;
+
+impl ReadRow for GroupNames {
+    type Row = usize;
+
+    ghost use Rattle.std.specs.Prelude.{length, Ok, codes};
+    ghost use Rattle.json_fields.specs.FieldFault.{and_then};
+    ghost use Rattle.json_fields.specs.Fields.{needed, text_of};
+
+    ghost meaning = { λ row path. and_then (needed text_of row path (codes "GroupName")) (λ name. Ok (length name)) };
+
+    fn read(alloc: Global, row: &Value, path: &Path) -> Result<usize, FieldFault> {
+        match str_at(alloc, row, path, "GroupName") {
+            Ok(name) => Ok(name.len()),
+            Err(fault) => Err(fault),
+        }
     }
 }
 
-fn groups_told(alloc: Global) -> Result<usize, Fail> {
-    let row = Value::from_str(alloc, "{\"Groups\": [1, 2], \"Tags\": 3}")?;
+/// How many groups were read, or the place of the fault.
+fn groups_told(alloc: Global, text: &str) -> Result<(usize, String), Fail> {
+    let row = Value::from_str(alloc, text)?;
     let list = Path::list("NetworkInterfaces");
-    let path = list.row(0);
-    match list_if(alloc, &row, &path, "Groups") {
-        Ok(groups) => Ok(groups.len()),
-        Err(_) => Ok(0),
+    match read_items::<GroupNames>(alloc, &row, &list.row(7), "Groups") {
+        Ok(groups) => Ok((groups.len(), String::new(alloc))),
+        Err(FieldFault::WrongShape(path)) => Ok((
+            0,
+            String::from_utf8(path.bytes().to_vec(alloc)?)?,
+        )),
+        Err(_) => Ok((0, String::from_str(alloc, "no fault of the shape")?)),
     }
 }
 
@@ -166,13 +180,30 @@ fn places(rt: HostRuntime) -> Result<(), Fail> {
     let item = item_place(rt.alloc())?;
     let want: &[u8] = b"NetworkInterfaces[18446744073709551615].Groups[1].GroupId";
     assert_eq!(rt; item.bytes(), want);
-    assert_eq!(rt; groups_told(rt.alloc())?, 2);
-    match tags_told(rt.alloc())? {
-        FieldFault::WrongShape(path) => {
-            let want: &[u8] = b"NetworkInterfaces[0].Tags";
-            assert_eq!(rt; path.bytes(), want);
-        }
-        _ => assert!(rt; false),
+    let cases = [
+        ("{}", 0, ""),
+        ("{\"Groups\": null}", 0, ""),
+        (
+            "{\"Groups\": [{\"GroupName\": \"a\"}, {\"GroupName\": \"b\"}]}",
+            2,
+            "",
+        ),
+        ("{\"Groups\": {}}", 0, "NetworkInterfaces[7].Groups"),
+        (
+            "{\"Groups\": [{\"GroupName\": \"a\"}, 2]}",
+            0,
+            "NetworkInterfaces[7].Groups[1].GroupName",
+        ),
+        (
+            "{\"Groups\": [{\"GroupName\": 1}]}",
+            0,
+            "NetworkInterfaces[7].Groups[0].GroupName",
+        ),
+    ];
+    for (text, count, place) in cases {
+        let (read, fault) = groups_told(rt.alloc(), text)?;
+        assert_eq!(rt; read, count, "at {text}");
+        assert_eq!(rt; fault.as_str(), place, "at {text}");
     }
     Ok(())
 }

@@ -41,12 +41,7 @@ fn service_of(alloc: Global, row: &Value, path: &Path) -> Result<ApplianceKind, 
     }
 }
 
-fn kind_by(
-    alloc: Global,
-    row: &Value,
-    path: &Path,
-    text: &str,
-) -> Result<ApplianceKind, FieldFault>
+fn kind_by(alloc: Global, row: &Value, path: &Path, text: &str) -> Result<ApplianceKind, FieldFault>
     ensures { Reads (λ x. x) (kind_by (view row.now) path.now text.now) result }
 {
     if text == "all" {

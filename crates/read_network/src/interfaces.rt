@@ -51,11 +51,7 @@ impl ReadRow for PrivateAddresses {
 
     ghost meaning = { private_address };
 
-    fn read(
-        alloc: Global,
-        row: &Value,
-        path: &Path,
-    ) -> Result<(u32, Option<u32>), FieldFault> {
+    fn read(alloc: Global, row: &Value, path: &Path) -> Result<(u32, Option<u32>), FieldFault> {
         private_address(alloc, row, path)
     }
 }

@@ -86,11 +86,7 @@ impl ReadRow for Entries {
     }
 }
 
-fn prefix_list_of(
-    alloc: Global,
-    row: &Value,
-    path: &Path,
-) -> Result<Option<PrefixList>, FieldFault>
+fn prefix_list_of(alloc: Global, row: &Value, path: &Path) -> Result<Option<PrefixList>, FieldFault>
     ensures { Reads (λ x. x) (prefix_list_of (view row.now) path.now) result }
 {
     let id = id_at(alloc, row, path, "PrefixListId")?;

@@ -52,10 +52,7 @@ fn is_main(associations: &[TableAssociation]) -> bool
     associations.iter().any(|association| association.main)
 }
 
-fn subnets_of(
-    alloc: Global,
-    associations: Vec<TableAssociation>,
-) -> Result<Vec<Id>, AllocError>
+fn subnets_of(alloc: Global, associations: Vec<TableAssociation>) -> Result<Vec<Id>, AllocError>
     ensures { IfOk result (λ v. v.items ≡ subnets_of associations.items) }
 {
     let mut subnets = Vec::new(alloc);
