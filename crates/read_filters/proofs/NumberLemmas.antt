@@ -1,5 +1,5 @@
 -- Numbers beside ids.
-use Rattle.std.proofs.Common.{◌≡◌, ◌∙◌, ◌++◌, ◌∷◌, ◌+◌, ◌<◌, ℕ, Bool, true, false, List, [], Option, Some, None, refl, ap, sym, subst, map, drop, get_or, length, bytes_eq}
+use Rattle.std.proofs.Common.{◌≡◌, ◌∙◌, ◌++◌, ◌∷◌, ◌+◌, ◌<◌, ℕ, Bool, true, false, List, [], Option, Some, None, refl, ap, map, drop, get_or, length, bytes_eq}
 use Rattle.std.specs.Prelude.{is_some, if◌then◌else◌}
 use Rattle.std.specs.Map.{lookup}
 use Rattle.std.proofs.lemmas.Slice.Eq.{bytes_eq-Decides}
@@ -16,8 +16,6 @@ pub number_in-map : {K : Type 0} (items : K → List ℕ) (entries : List (K × 
     → number_in (map (λ e. (items e.0, e.1)) entries) id ≡ lookup (λ k. bytes_eq id (items k)) entries
 number_in-map items [] id = refl
 number_in-map items (e ∷ entries) id = rw (number_in-map items entries id)
-
-pub ruleset number_lookups = (number_in-map)
 
 -- one more entry
 pub number_in-append : (entries : List (List ℕ × ℕ)) (known : List ℕ) (n : ℕ) (id : List ℕ)
@@ -62,8 +60,3 @@ pub number_from-step : {G : Type 0} (id_of : G → List ℕ) (groups : List G) (
     → or_else (number_in (added entries (id_of g) n) id) (number_from (n + 1) (map id_of (drop (n + 1) groups)) id) ≡ or_else (number_in entries id) (number_from n (map id_of (drop n groups)) id)
 number_from-step id_of groups n g entries id within at =
     rw (drop-next groups n g within at) (number_in-added entries (id_of g) n (number_from (n + 1) (map id_of (drop (n + 1) groups)) id) id)
-
--- nothing else is left to number
-pub or_else-None : (o : Option ℕ) → or_else o None ≡ o
-or_else-None None = refl
-or_else-None (Some n) = refl

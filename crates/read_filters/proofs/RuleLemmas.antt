@@ -1,5 +1,5 @@
 -- Rules read row by row.
-use Rattle.std.proofs.Common.{◌≡◌, ◌∙◌, ◌++◌, ◌∷◌, ◌+◌, ◌<◌, ℕ, suc, List, [], Option, Some, None, Result, Ok, Err, refl, ap, subst, sym, map, drop, drop-cons, get_or, length, add-one, append_assoc, codes}
+use Rattle.std.proofs.Common.{◌≡◌, ◌∙◌, ◌++◌, ◌∷◌, ◌+◌, ◌<◌, ℕ, suc, List, Option, Result, Ok, Err, refl, ap, subst, sym, map, drop, drop-cons, get_or, length, add-one, append_assoc, codes}
 use Rattle.std.specs.Prelude.{IsErrAnd, option_to_list}
 use Rattle.serde_json.specs.Data.{Data}
 use Rattle.json_fields.specs.FieldFault.{Reads, and_then}

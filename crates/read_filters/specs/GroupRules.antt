@@ -1,6 +1,6 @@
 -- What the rows of SecurityGroupRules mean (EC2 API, DescribeSecurityGroupRules): where they tell rules of a group, they
 -- stand in place of the group's permissions.
-use Rattle.std.specs.Prelude.{ℕ, ◌+◌, ◌==◌, ◌∷◌, ◌++◌, ◌||◌, ◌&&◌, Bool, true, false, not, List, [], Option, Some, None, bytes_eq, codes, filter, is_some, length, map, option_to_list, Result, Ok, if◌then◌else◌}
+use Rattle.std.specs.Prelude.{ℕ, ◌+◌, ◌==◌, ◌∷◌, ◌++◌, ◌||◌, ◌&&◌, Bool, not, List, [], Option, Some, None, bytes_eq, codes, filter, is_some, length, map, option_to_list, Result, Ok, if◌then◌else◌}
 use Rattle.std.specs.List.{list_any}
 use Rattle.serde_json.specs.Data.{Data}
 use Rattle.prefix_text.specs.Block.{Block}
@@ -16,7 +16,6 @@ use Rattle.read_filters.specs.declared.group_rules.GroupRule.{GroupRule}
 use Rattle.read_filters.specs.declared.group_rules.RuleBody.{RuleBody}
 use Rattle.read_filters.specs.declared.group_rules.RuleHead.{RuleHead}
 use Rattle.read_filters.specs.declared.permissions.Targets.{Targets}
-use Rattle.read_filters.specs.declared.permissions.Traffic.{Traffic}
 
 -- the number, from n on, of the first group with the id
 abbrev pub number_from : ℕ → List (List ℕ) → List ℕ → Option ℕ

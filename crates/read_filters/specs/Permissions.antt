@@ -1,5 +1,5 @@
 -- What the permissions of security groups mean (EC2 API, IpPermission).
-use Rattle.std.specs.Prelude.{ℕ, List, [], Option, None, codes, Result, Ok}
+use Rattle.std.specs.Prelude.{ℕ, List, Option, None, codes, Result, Ok}
 use Rattle.serde_json.specs.Data.{Data}
 use Rattle.prefix_text.specs.Block.{Block}
 use Rattle.json_fields.specs.FieldFault.{and_then}

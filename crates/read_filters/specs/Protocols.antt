@@ -1,11 +1,6 @@
 -- Protocols as rules name them.
-use Rattle.std.specs.Prelude.{ℕ, List, Option, Some, None, option_map, bytes_eq, codes, Result, if◌then◌else◌}
-use Rattle.serde_json.specs.Data.{Data}
+use Rattle.std.specs.Prelude.{ℕ, List, Option, Some, None, option_map, bytes_eq, codes, if◌then◌else◌}
 use Rattle.prefix_text.specs.Number.{number_of}
-use Rattle.json_fields.specs.FieldFault.{and_then, in_shape}
-use Rattle.json_fields.specs.Fields.{text_in}
-use Rattle.json_fields.specs.Paths.{at_member}
-use Rattle.json_fields.specs.declared.fault.FieldFault.{FieldFault}
 
 -- a protocol by its number, or all of them, which are none of these numbers (EC2 API, NetworkAclEntry)
 abbrev pub numbered_protocol : List ℕ → Option (Option ℕ)

@@ -34,7 +34,6 @@ impl GroupNumbers {
     }
 
     /// The number of the first group with this id.
-    #[tactic(auto, using(crate::proofs::NumberLemmas::number_lookups))]
     pub fn get(&self, id: &[u8]) -> Option<usize>
         ensures { result ≡ number_in self.now id.now }
     {

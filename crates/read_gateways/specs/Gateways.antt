@@ -1,5 +1,5 @@
 -- What the lists of gateways in a bundle mean.
-use Rattle.std.specs.Prelude.{ℕ, List, codes, Result, Ok}
+use Rattle.std.specs.Prelude.{List, codes, Result, Ok}
 use Rattle.serde_json.specs.Data.{Data}
 use Rattle.json_fields.specs.FieldFault.{and_then}
 use Rattle.json_fields.specs.Kept.{each_of, each_kept_of, first_of_each}

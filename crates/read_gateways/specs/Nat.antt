@@ -1,5 +1,5 @@
 -- What the rows of NatGateways mean (EC2 API, DescribeNatGateways).
-use Rattle.std.specs.Prelude.{ℕ, Bool, true, false, List, Option, Some, None, bytes_eq, codes, position, slice_get, unwrap_or, Result, Ok, if◌then◌else◌}
+use Rattle.std.specs.Prelude.{ℕ, Bool, true, false, List, Option, Some, None, codes, position, slice_get, unwrap_or, Result, Ok}
 use Rattle.serde_json.specs.Data.{Data}
 use Rattle.json_fields.specs.FieldFault.{and_then, in_shape}
 use Rattle.json_fields.specs.Fields.{addr_of_field, flag_of, id_if_of, id_of, needed}

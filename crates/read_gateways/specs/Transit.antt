@@ -1,6 +1,6 @@
 -- What the rows of TransitGatewayVpcAttachments, TransitGatewayAttachments and TransitGatewayRoutes mean (EC2 API,
 -- DescribeTransitGatewayVpcAttachments, DescribeTransitGatewayAttachments and SearchTransitGatewayRoutes).
-use Rattle.std.specs.Prelude.{ℕ, ◌||◌, ◌==◌, Bool, List, Option, Some, None, bytes_eq, codes, option_and_then, option_map, slice_get, Result, Ok, if◌then◌else◌}
+use Rattle.std.specs.Prelude.{ℕ, ◌||◌, ◌==◌, Bool, List, Option, Some, None, bytes_eq, codes, option_map, slice_get, Result, Ok, if◌then◌else◌}
 use Rattle.std.specs.List.{list_any}
 use Rattle.serde_json.specs.Data.{Data}
 use Rattle.serde_json.specs.Find.{as_str}

@@ -1,6 +1,5 @@
-use Rattle.std.proofs.Common.{◌∙◌, sym, map}
-use Rattle.read_filters.specs.GroupRules.{number_from}
-use Rattle.read_filters.proofs.NumberLemmas.{number_from-step, or_else-None}
+use Rattle.std.proofs.Common.{◌∙◌}
+use Rattle.read_filters.proofs.NumberLemmas.{number_from-step}
 use Rattle.read_filters.proofs.group_numbers.GroupNumbers.of.Goals as goal
 
 pub loop-number-preserved : goal.loop-number-preserved
