@@ -1,7 +1,7 @@
 -- Cuts that are added one after another.
-use Rattle.std.proofs.Common.{◌≡◌, ◌+◌, ◌<◌, ◌≤◌, ℕ, List, [], ◌∷◌, ◌++◌, Option, Some, None, refl, ap, append_assoc, arith, length, drop, get_or, sym, ◌∙◌, add-one, drop-cons}
+use Rattle.std.proofs.Common.{◌≡◌, ◌+◌, ◌<◌, ◌≤◌, ℕ, List, [], ◌∷◌, ◌++◌, Option, Some, None, refl, ap, append_assoc, arith, length, drop, filter, map, Bool, get_or, sym, ◌∙◌, add-one, drop-cons}
 use Rattle.std.specs.List.{flat_map}
-use Rattle.std.proofs.lemmas.List.{append-nil, drop_all}
+use Rattle.std.proofs.lemmas.List.{append-nil, drop_all, map-append}
 use Rattle.std.proofs.lemmas.List.Elements.{filter-append}
 use Rattle.vpc_base.specs.Cuts.{CutLists, joined_cuts, no_cuts}
 use Rattle.prefix_text.specs.Block.{Block}
@@ -69,6 +69,10 @@ gathered_with-last f old all xs i past known =
 pub gathered_with-first : (a b : CutLists) → gathered_with (gathered_with no_cuts a) b ≡ on_sides (joined_cuts a b)
 unfolding gathered_with
 gathered_with-first a b = simp filter-append
+
+-- two ranges, and then their shifted edges
+pub two_ranges : (p : ℕ → Bool) (f : ℕ → ℕ) (q : ℕ → Bool) (old a b : List ℕ) → old ++ filter p (a ++ b) ++ filter p (map f (filter q a)) ++ filter p (map f (filter q b)) ≡ old ++ filter p (a ++ b ++ map f (filter q (a ++ b)))
+two_ranges p f q old a b = simp (filter-append, map-append, append_assoc)
 
 pub ruleset untouched_sides = append-nil
 

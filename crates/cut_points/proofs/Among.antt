@@ -1,17 +1,14 @@
 -- Cuts that are among others.
-use Rattle.std.proofs.Common.{◌≡◌, ℕ, ◌⊎◌, ◌↔◌, Option, subst, inl, inr, Bool, true, false, List, [], ◌∷◌, ◌++◌, refl, sym, ap, ◌∙◌, arith, cond, zero, suc}
-use Rattle.std.specs.List.{Contains, filter, flat_map, position_or_len}
-use Rattle.std.specs.Prelude.{slice_index_or, nat_le, bytes_eq}
+use Rattle.std.proofs.Common.{◌≡◌, ℕ, ◌⊎◌, ◌↔◌, Option, Some, None, subst, inl, inr, Bool, true, false, List, [], ◌∷◌, ◌++◌, refl, sym, ap, ◌∙◌, arith, cond, zero, suc}
+use Rattle.std.specs.List.{Contains, filter, find, flat_map}
+use Rattle.std.specs.Prelude.{nat_le, bytes_eq}
 use Rattle.std.proofs.lemmas.Grind.{flat_map-append}
 use Rattle.std.proofs.lemmas.List.Elements.{Contains-append_left, Contains-append_right, Contains-append_cases}
 use Rattle.prefix_text.specs.Block.{Block}
 use Rattle.vpc_base.specs.Cuts.{AreAmong, CutLists, joined_cuts, no_cuts}
-use Rattle.vpc_model.specs.declared.rows.Description.{Description}
-use Rattle.vpc_model.specs.declared.rows.Permission.{Permission}
-use Rattle.vpc_model.specs.declared.rows.PrefixList.{PrefixList}
-use Rattle.vpc_model.specs.declared.rows.Reach.{Reach}
-use Rattle.vpc_model.specs.declared.rows.Reach.TheVariants.{Block as ByBlock, List as ByList}
-use Rattle.vpc_model.specs.Cuts.{all_cuts, block_cuts, blocks_of_reach, cuts_of, cuts_of_blocks, cuts_of_group, cuts_of_list, cuts_of_permission, cuts_of_route, cuts_of_rule, cuts_of_table, cuts_of_tgw_table, on_sides, permissions_of, unbounded_asked, unbounded_standing}
+use Rattle.cut_points.specs.Types.{Description, Permission, PrefixList, Reach}
+use Rattle.vpc_model.specs.declared.rows.Reach.TheVariants as reaches
+use Rattle.vpc_model.specs.Cuts.{all_cuts, block_cuts, blocks_of_reach, cuts_of, cuts_of_blocks, cuts_of_group, cuts_of_list, cuts_of_permission, cuts_of_route, cuts_of_rule, cuts_of_table, cuts_of_tgw_table, on_sides, all_permissions, unbounded_asked, unbounded_standing}
 use Rattle.vpc_model.specs.Lookup.{entries_of}
 use Rattle.cut_points.specs.Cuts.{HasCuts}
 use Rattle.cut_points.specs.Gathered.{cuts_of_block, own_asked, own_cuts, own_cuts_of_group, own_cuts_of_permission, own_cuts_of_reach, own_cuts_of_route, own_cuts_of_table}
@@ -121,21 +118,21 @@ all_among f g more each (x ∷ xs) =
 
 -- ---- the entries of prefix lists
 
-no_list : PrefixList
-no_list = record { id = []; entries = [] }
+-- the cuts of the entries that were found
+abbrev found_cuts : Option PrefixList → CutLists
+found_cuts o = cuts_of_blocks (flat_map block_cuts (elim o [ None ↦ [] | Some l ↦ l.entries ]))
 
-list_among : (ls : List PrefixList) (k : ℕ) → AreAmong (cuts_of_list (slice_index_or ls k no_list)) (all_cuts cuts_of_list ls)
-unfolding no_list
-list_among [] k = none_among no_cuts
-list_among (l ∷ ls) zero = left_among (cuts_of_list l) (all_cuts cuts_of_list ls)
-list_among (l ∷ ls) (suc k) =
-    among_through (cuts_of_list (slice_index_or ls k no_list)) (all_cuts cuts_of_list ls) (joined_cuts (cuts_of_list l) (all_cuts cuts_of_list ls))
-    (list_among ls k) (right_among (cuts_of_list l) (all_cuts cuts_of_list ls))
+first_or_later : (l : PrefixList) (rest : CutLists) (b : Bool) (o : Option PrefixList) → AreAmong (found_cuts o) rest → AreAmong (found_cuts (cond b (Some l) o)) (joined_cuts (cuts_of_list l) rest)
+first_or_later l rest true o h = left_among (cuts_of_list l) rest
+first_or_later l rest false o h = among_through (found_cuts o) rest (joined_cuts (cuts_of_list l) rest) h (right_among (cuts_of_list l) rest)
+
+found_among : (p : PrefixList → Bool) (ls : List PrefixList) → AreAmong (found_cuts (find p ls)) (all_cuts cuts_of_list ls)
+found_among p [] = none_among no_cuts
+found_among p (l ∷ ls) = first_or_later l (all_cuts cuts_of_list ls) (p l) (find p ls) (found_among p ls)
 
 -- a named list's entries cut where the described lists do
 pub entries_among : (d : Description) (id : List ℕ) → AreAmong (cuts_of_blocks (flat_map block_cuts (entries_of d id))) (all_cuts cuts_of_list d.lists)
-unfolding no_list
-entries_among d id = list_among d.lists (position_or_len (λ l. bytes_eq l.id id) d.lists)
+entries_among d id = found_among (λ l. bytes_eq l.id id) d.lists
 
 named_among : (d : Description) (ids : List (List ℕ)) → AreAmong (cuts_of_blocks (flat_map block_cuts (flat_map (entries_of d) ids))) (all_cuts cuts_of_list d.lists)
 named_among d [] = none_among (all_cuts cuts_of_list d.lists)
@@ -176,14 +173,14 @@ among_permission d p =
     (left_among (cuts_of_permission d p) (all_cuts cuts_of_list d.lists))
 
 reach_among : (d : Description) (r : Reach) → AreAmong (cuts_of_blocks (flat_map block_cuts (blocks_of_reach d r))) (joined_cuts (own_cuts_of_reach r) (all_cuts cuts_of_list d.lists))
-reach_among d (ByBlock b) = left_among (cuts_of_block b) (all_cuts cuts_of_list d.lists)
-reach_among d (ByList id) =
+reach_among d (reaches.Block b) = left_among (cuts_of_block b) (all_cuts cuts_of_list d.lists)
+reach_among d (reaches.List id) =
     among_through (cuts_of_blocks (flat_map block_cuts (entries_of d id))) (all_cuts cuts_of_list d.lists) (joined_cuts no_cuts (all_cuts cuts_of_list d.lists))
     (entries_among d id) (right_among no_cuts (all_cuts cuts_of_list d.lists))
 
 among_reach : (d : Description) (r : Reach) → AreAmong (own_cuts_of_reach r) (joined_cuts (cuts_of_blocks (flat_map block_cuts (blocks_of_reach d r))) (all_cuts cuts_of_list d.lists))
-among_reach d (ByBlock b) = left_among (cuts_of_block b) (all_cuts cuts_of_list d.lists)
-among_reach d (ByList id) = none_among (joined_cuts (cuts_of_blocks (flat_map block_cuts (entries_of d id))) (all_cuts cuts_of_list d.lists))
+among_reach d (reaches.Block b) = left_among (cuts_of_block b) (all_cuts cuts_of_list d.lists)
+among_reach d (reaches.List id) = none_among (joined_cuts (cuts_of_blocks (flat_map block_cuts (entries_of d id))) (all_cuts cuts_of_list d.lists))
 
 -- ---- the whole
 
@@ -210,7 +207,7 @@ cuts_among d =
     (joined_among (unbounded_standing d) (unbounded_asked d) (unbounded_standing d) (own_asked d) (among_itself (unbounded_standing d))
     (asked_among lists (all_cuts (cuts_of_table d) d.tables) (all_cuts (cuts_of_group d) d.groups) (all_cuts cuts_of_tgw_table d.tgw_tables) (all_cuts own_cuts_of_table d.tables) (all_cuts own_cuts_of_group d.groups)
     (all_among (cuts_of_table d) own_cuts_of_table lists (λ t. all_among (cuts_of_route d) own_cuts_of_route lists (λ r. reach_among d r.reach) t.routes) d.tables)
-    (all_among (cuts_of_group d) own_cuts_of_group lists (λ g. all_among (cuts_of_permission d) own_cuts_of_permission lists (permission_among d) (permissions_of g)) d.groups)))
+    (all_among (cuts_of_group d) own_cuts_of_group lists (λ g. all_among (cuts_of_permission d) own_cuts_of_permission lists (permission_among d) (all_permissions g)) d.groups)))
 
 among_cuts : (d : Description) → AreAmong (on_sides (own_cuts d)) (cuts_of d)
 among_cuts d =
@@ -219,7 +216,7 @@ among_cuts d =
     (joined_among (unbounded_standing d) (own_asked d) (unbounded_standing d) (unbounded_asked d) (among_itself (unbounded_standing d))
     (asked_among lists (all_cuts own_cuts_of_table d.tables) (all_cuts own_cuts_of_group d.groups) (all_cuts cuts_of_tgw_table d.tgw_tables) (all_cuts (cuts_of_table d) d.tables) (all_cuts (cuts_of_group d) d.groups)
     (all_among own_cuts_of_table (cuts_of_table d) lists (λ t. all_among own_cuts_of_route (cuts_of_route d) lists (λ r. among_reach d r.reach) t.routes) d.tables)
-    (all_among own_cuts_of_group (cuts_of_group d) lists (λ g. all_among own_cuts_of_permission (cuts_of_permission d) lists (among_permission d) (permissions_of g)) d.groups)))
+    (all_among own_cuts_of_group (cuts_of_group d) lists (λ g. all_among own_cuts_of_permission (cuts_of_permission d) lists (among_permission d) (all_permissions g)) d.groups)))
 
 -- lists with the members of what was gathered
 pub HasCuts-from_gathered : (d : Description) (gathered cuts : CutLists) → gathered ≡ on_sides (own_cuts d)

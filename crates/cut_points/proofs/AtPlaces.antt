@@ -1,15 +1,9 @@
 -- The cuts at places are cuts of the description.
 use Rattle.std.proofs.Common.{ℕ, List, [], ◌∷◌, Option, Some, None, zero, suc}
-use Rattle.std.specs.Prelude.{slice_index_or}
+use Rattle.std.specs.Prelude.{false, slice_index_or}
 use Rattle.vpc_base.specs.Cuts.{AreAmong, CutLists, joined_cuts, no_cuts}
-use Rattle.vpc_model.specs.declared.numbers.EniNo.{EniNo}
-use Rattle.vpc_model.specs.declared.numbers.GroupNo.{GroupNo}
-use Rattle.vpc_model.specs.declared.numbers.TableNo.{TableNo}
-use Rattle.vpc_model.specs.declared.numbers.TgwTableNo.{TgwTableNo}
-use Rattle.vpc_model.specs.declared.places.Place.{Place}
-use Rattle.vpc_model.specs.declared.places.Place.TheVariants.{OutOf, Router, Enter, Into, IgwOut, Internet, IgwIn, NatOut, NatIn, Peer, Tgw, TgwLeave}
-use Rattle.vpc_model.specs.declared.rows.Description.{Description}
-use Rattle.std.specs.Prelude.{false}
+use Rattle.cut_points.specs.Types.{Description, EniNo, GroupNo, Place, TableNo, TgwTableNo}
+use Rattle.vpc_model.specs.declared.places.Place.TheVariants as places
 use Rattle.vpc_model.specs.Cuts.{all_cuts, asked_at, cuts_at, cuts_at_tgw_table, cuts_of, cuts_of_group, cuts_of_group_id, cuts_of_list, cuts_of_table, cuts_of_tgw_table, unbounded_asked, unbounded_standing}
 use Rattle.vpc_model.specs.Lookup.{group_at, group_of_id, interface_at, no_group, table_at, table_of}
 use Rattle.vpc_model.specs.Transit.{table_of_attachment}
@@ -79,18 +73,18 @@ interface_among : (d : Description) (i : EniNo) → AreAmong (let e = interface_
 interface_among d i = let e = interface_at d i in by_groups d (all_cuts (cuts_of_group_id d) e.groups) (groups_among d e.groups)
 
 asked_among : (d : Description) (p : Place) → AreAmong (asked_at d p) (unbounded_asked d)
-asked_among d (OutOf i) = interface_among d i
-asked_among d (Into i) = interface_among d i
-asked_among d (Router s came) = by_tables d (cuts_of_table d (table_at d (table_of d s))) (table_among d (table_of d s))
-asked_among d (Tgw a entered) = by_transit d (cuts_at_tgw_table d (table_of_attachment d a)) (transit_among d (table_of_attachment d a))
-asked_among d (Enter v by) = none_among (unbounded_asked d)
-asked_among d (IgwOut v) = none_among (unbounded_asked d)
-asked_among d Internet = none_among (unbounded_asked d)
-asked_among d (IgwIn v) = none_among (unbounded_asked d)
-asked_among d (NatOut n) = none_among (unbounded_asked d)
-asked_among d (NatIn n) = none_among (unbounded_asked d)
-asked_among d (Peer x v) = none_among (unbounded_asked d)
-asked_among d (TgwLeave a entered) = none_among (unbounded_asked d)
+asked_among d (places.OutOf i) = interface_among d i
+asked_among d (places.Into i) = interface_among d i
+asked_among d (places.Router s came) = by_tables d (cuts_of_table d (table_at d (table_of d s))) (table_among d (table_of d s))
+asked_among d (places.Tgw a entered) = by_transit d (cuts_at_tgw_table d (table_of_attachment d a)) (transit_among d (table_of_attachment d a))
+asked_among d (places.Enter v by) = none_among (unbounded_asked d)
+asked_among d (places.IgwOut v) = none_among (unbounded_asked d)
+asked_among d places.Internet = none_among (unbounded_asked d)
+asked_among d (places.IgwIn v) = none_among (unbounded_asked d)
+asked_among d (places.NatOut n) = none_among (unbounded_asked d)
+asked_among d (places.NatIn n) = none_among (unbounded_asked d)
+asked_among d (places.Peer x v) = none_among (unbounded_asked d)
+asked_among d (places.TgwLeave a entered) = none_among (unbounded_asked d)
 
 -- the cuts at a place are cuts of the description
 pub cuts_at_among : (d : Description) (p : Place) → AreAmong (cuts_at d p) (cuts_of d)

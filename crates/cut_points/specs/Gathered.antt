@@ -1,16 +1,11 @@
 -- What is gathered: the cuts of each row, without the entries of the prefix lists that it names, since each
 -- list gives its own.
-use Rattle.std.specs.Prelude.{ℕ, Option}
-use Rattle.prefix_text.specs.Block.{Block}
+use Rattle.std.specs.Prelude.{◌∷◌, [], List, Option, ℕ}
+use Rattle.cut_points.specs.Types.{ApplianceKind, Block, Box5, Description, Group, Permission, Reach, Route, RouteTable}
+use Rattle.vpc_model.specs.declared.rows.Reach.TheVariants as reaches
 use Rattle.vpc_base.specs.Cuts.{CutLists, joined_cuts, no_cuts}
-use Rattle.vpc_model.specs.declared.rows.Description.{Description}
-use Rattle.vpc_model.specs.declared.rows.Group.{Group}
-use Rattle.vpc_model.specs.declared.rows.Permission.{Permission}
-use Rattle.vpc_model.specs.declared.rows.Reach.{Reach}
-use Rattle.vpc_model.specs.declared.rows.Reach.TheVariants.{Block as ByBlock, List as ByList}
-use Rattle.vpc_model.specs.declared.rows.Route.{Route}
-use Rattle.vpc_model.specs.declared.rows.RouteTable.{RouteTable}
-use Rattle.vpc_model.specs.Cuts.{all_cuts, block_cuts, cuts_of_blocks, cuts_of_list, cuts_of_rule, cuts_of_tgw_table, on_sides, pair_cuts, permissions_of, unbounded_standing}
+use Rattle.vpc_model.specs.Appliances.{addresses_of, all_headers, boxes_of_kind}
+use Rattle.vpc_model.specs.Cuts.{all_cuts, all_permissions, block_cuts, cuts_of_blocks, cuts_of_box, cuts_of_list, cuts_of_rule, cuts_of_tgw_table, on_sides, pair_cuts, unbounded_standing}
 
 -- the gathered cuts and those of the others that lie on their sides
 unfoldable pub gathered_with : CutLists → CutLists → CutLists
@@ -24,14 +19,22 @@ cuts_of_block b = cuts_of_blocks (block_cuts b)
 abbrev pub cuts_of_pair : ℕ × Option ℕ → CutLists
 cuts_of_pair x = cuts_of_blocks (pair_cuts x)
 
+-- from and to the addresses of a block
+abbrev pub boxes_of_block : Block → List Box5
+boxes_of_block b = record all_headers { src = addresses_of b } ∷ record all_headers { dst = addresses_of b } ∷ []
+
+-- the cuts of what an appliance forwards
+abbrev pub cuts_of_kind : ApplianceKind → CutLists
+cuts_of_kind k = all_cuts cuts_of_box (boxes_of_kind k)
+
 -- the cuts of a permission but for its prefix lists
 abbrev pub own_cuts_of_permission : Permission → CutLists
 own_cuts_of_permission p = cuts_of_rule p.proto p.q_from p.q_to p.blocks
 
 -- a prefix list is left out
 abbrev pub own_cuts_of_reach : Reach → CutLists
-own_cuts_of_reach (ByBlock b) = cuts_of_block b
-own_cuts_of_reach (ByList id) = no_cuts
+own_cuts_of_reach (reaches.Block b) = cuts_of_block b
+own_cuts_of_reach (reaches.List id) = no_cuts
 
 -- the cuts of a route but for its prefix list
 abbrev pub own_cuts_of_route : Route → CutLists
@@ -43,7 +46,7 @@ own_cuts_of_table t = all_cuts own_cuts_of_route t.routes
 
 -- the cuts of a group but for prefix lists
 abbrev pub own_cuts_of_group : Group → CutLists
-own_cuts_of_group g = all_cuts own_cuts_of_permission (permissions_of g)
+own_cuts_of_group g = all_cuts own_cuts_of_permission (all_permissions g)
 
 -- the prefix lists, and what the other rows that only some places ask cut by themselves
 abbrev pub own_asked : Description → CutLists

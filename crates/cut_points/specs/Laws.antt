@@ -1,7 +1,6 @@
 -- Laws of the cuts of a description.
 use Rattle.vpc_base.specs.Cuts.{AreAmong}
-use Rattle.vpc_model.specs.declared.places.Place.{Place}
-use Rattle.vpc_model.specs.declared.rows.Description.{Description}
+use Rattle.cut_points.specs.Types.{Description, Place}
 use Rattle.vpc_model.specs.Cuts.{cuts_at, cuts_of}
 
 -- the cuts on which the step at a place depends are cuts of the description

@@ -74,6 +74,32 @@ fn push_edges(side: &mut Vec<u32>, from: u64, past: u64, last: u32) -> Result<()
     push_shifted(side, past, last)
 }
 
+// Adds the edges of two ranges.
+fn push_ranges(side: &mut Vec<u32>, a: (u16, u16), b: (u16, u16)) -> Result<(), AllocError>
+    ensures { OnOk result (side.new.items ≡ side.old.items ++ filter (λ x. nat_le x 65535) (edges a.0 a.1 ++ edges b.0 b.1)) }
+{
+    push_both(side, u64::from(a.0), u64::from(a.1) + 1, LAST_PORT)?;
+    push_both(side, u64::from(b.0), u64::from(b.1) + 1, LAST_PORT)
+}
+
+// Adds the source ports that a NAT gateway may have translated to the edges of a range.
+fn push_shifted_range(side: &mut Vec<u32>, range: (u16, u16)) -> Result<(), AllocError>
+    ensures { OnOk result (side.new.items ≡ side.old.items ++ filter (λ x. nat_le x 65535) (map (λ e. e - 1024) (filter (nat_le 1024) (edges range.0 range.1)))) }
+{
+    push_shifted(side, u64::from(range.0), LAST_PORT)?;
+    push_shifted(side, u64::from(range.1) + 1, LAST_PORT)
+}
+
+// Adds the edges of two ranges, and the source ports that a NAT gateway may have translated to them.
+#[tactic(auto, using(crate::proofs::Additions::two_ranges))]
+fn push_shifted_ranges(side: &mut Vec<u32>, a: (u16, u16), b: (u16, u16)) -> Result<(), AllocError>
+    ensures { OnOk result (side.new.items ≡ side.old.items ++ filter (λ x. nat_le x 65535) (shifted_edges (edges a.0 a.1 ++ edges b.0 b.1))) }
+{
+    push_ranges(side, a, b)?;
+    push_shifted_range(side, a)?;
+    push_shifted_range(side, b)
+}
+
 impl Gathered {
     /// No cuts.
     pub fn new(alloc: Global) -> Gathered
@@ -102,6 +128,33 @@ impl Gathered {
     {
         let first = u64::from(n);
         push_both(&mut self.proto, first, first + 1, LAST_PROTOCOL)
+    }
+
+    /// Adds the edges of a range of protocols.
+    #[tactic(auto, using(crate::proofs::Additions::untouched_sides), unfolding(crate::specs::Gathered::gathered_with))]
+    pub fn add_protocols(&mut self, range: (u8, u8)) -> Result<(), AllocError>
+        ensures { OnOk result (self.new ≡ gathered_with self.old (record no_cuts { proto = edges range.0 range.1 })) }
+    {
+        let first = u64::from(range.0);
+        let past = u64::from(range.1) + 1;
+        push_both(&mut self.proto, first, past, LAST_PROTOCOL)
+    }
+
+    /// Adds the edges of a range of addresses.
+    pub fn add_address_range(&mut self, range: (u32, u32)) -> Result<(), AllocError>
+        ensures { OnOk result (self.new ≡ gathered_with self.old (cuts_of_blocks (edges range.0 range.1))) }
+    {
+        self.add_addresses(range.0, u64::from(range.1) + 1)
+    }
+
+    /// Adds the edges of ranges of p and of q to both sides, and to p those from which a NAT gateway may
+    /// have translated.
+    #[tactic(auto, using(crate::proofs::Additions::untouched_sides), unfolding(crate::specs::Gathered::gathered_with))]
+    pub fn add_ranges(&mut self, p: (u16, u16), q: (u16, u16)) -> Result<(), AllocError>
+        ensures { OnOk result (self.new ≡ gathered_with self.old (record no_cuts { p = shifted_edges (edges p.0 p.1 ++ edges q.0 q.1); q = edges p.0 p.1 ++ edges q.0 q.1 })) }
+    {
+        push_shifted_ranges(&mut self.p, p, q)?;
+        push_ranges(&mut self.q, p, q)
     }
 
     /// Adds the edges of a rule's range of q, and those from which a NAT gateway may have translated.

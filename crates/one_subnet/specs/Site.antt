@@ -21,7 +21,7 @@ interface_of s h = record { id = h.id; subnet = s.subnet; primary = Some h.addre
 
 -- a rule's permission
 abbrev pub permission_of : Rule → Permission
-permission_of r = record { proto = r.proto; q_from = r.q_from; q_to = r.q_to; blocks = r.blocks; lists = []; groups = [] }
+permission_of r = record { id = None; proto = r.proto; q_from = r.q_from; q_to = r.q_to; blocks = r.blocks; lists = []; groups = [] }
 
 -- a security group of the VPC
 abbrev pub group_of : Site → RuleSet → Group
@@ -51,4 +51,5 @@ description_of s = record {
   attachments = [];
   associations = [];
   tgw_tables = [];
+  appliances = [];
 }

@@ -47,6 +47,7 @@ fn permission_of(alloc: Global, rule: &Rule) -> Result<Permission, NoMemory>
 {
     let blocks = Vec::from_slice(alloc, rule.blocks.as_slice())?;
     Ok(Permission {
+        id: None,
         proto: rule.proto,
         q_from: rule.q_from,
         q_to: rule.q_to,
@@ -183,6 +184,7 @@ impl Site {
             attachments: no_rows(alloc),
             associations: no_rows(alloc),
             tgw_tables: no_rows(alloc),
+            appliances: no_rows(alloc),
         })
     }
 }

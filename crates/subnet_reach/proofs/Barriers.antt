@@ -70,7 +70,7 @@ by_port s i j h = barrier_is s i j h ∙ sym (barrier_is s i j (request_to s i j
 -- ---- verdicts
 
 pub verdict_is : (s : Site) (i j : ℕ) (h : Header) → i < length s.hosts → j < length s.hosts → AddressesDiffer s
-    → verdict_of (description_of s) (end_at i) (end_at j) (asked s i j h) ≡ verdict_by_barrier i j (barrier_of s i j (asked s i j h))
+    → verdict_of (description_of s) [] (end_at i) (end_at j) (asked s i j h) ≡ verdict_by_barrier i j (barrier_of s i j (asked s i j h))
 verdict_is s i j h start goal differ = verdict_by_barrier_is s i j (asked s i j h) start goal differ refl refl refl
 
 -- the word of a request is what stops requests to its port

@@ -11,7 +11,7 @@ use Rattle.subnet_walk.specs.declared.barrier.Barrier.{Barrier}
 use Rattle.subnet_walk.specs.Laws.{AddressesDiffer}
 use Rattle.subnet_walk.specs.Reach.{barrier_in, barrier_of}
 use Rattle.subnet_reach.specs.Ports.{LetPass}
-use Rattle.subnet_reach.specs.Query.{address_at, end_at}
+use Rattle.subnet_reach.specs.Query.{address_at, appliances_in, end_at}
 
 -- the hosts that are asked about, by their places, and the cuts
 pub record Asking : Type 0 where
@@ -30,7 +30,7 @@ asked s start goal h = record (request_to s start goal h.q) { p = h.p }
 
 -- what stops the request or its reply, by the model's verdict
 abbrev pub word_of : Site → ℕ → ℕ → Header → Option Barrier
-word_of s start goal h = barrier_in (verdict_of (description_of s) (end_at start) (end_at goal) (asked s start goal h))
+word_of s start goal h = barrier_in (verdict_of (description_of s) (appliances_in s) (end_at start) (end_at goal) (asked s start goal h))
 
 -- what stops requests to the port, whatever their source port
 abbrev pub barrier_at : Site → ℕ → ℕ → ℕ → Option Barrier

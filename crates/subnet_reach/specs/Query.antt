@@ -1,11 +1,15 @@
 -- What is answered to a query, in the words of the model.
-use Rattle.std.specs.Prelude.{ℕ, ◌<◌, ◌≤◌, ◌++◌, List, length, map, slice_index_or}
+use Rattle.std.specs.Prelude.{◌<◌, ◌≤◌, List, Option, length, map, slice_index_or, ℕ}
 use Rattle.header_boxes.specs.declared.boxes.Box5.{Box5}
-use Rattle.ordered_cover.specs.declared.rows.Row.{Row}
 use Rattle.vpc_model.specs.declared.places.End.{End}
-use Rattle.vpc_model.specs.declared.places.End.TheVariants.{Interface}
-use Rattle.vpc_model.specs.Report.{BoxRow, IsFirstThrough, IsPartReport, IsTrueReport, phase_text}
-use Rattle.vpc_model.specs.Text.{stop_text, word}
+use Rattle.vpc_base.specs.declared.headers.Header.{Header}
+use Rattle.header_boxes.specs.declared.rows.Row.{Row}
+use Rattle.vpc_model.specs.declared.stop_texts.StopText.{StopText}
+use Rattle.vpc_model.specs.declared.places.End.TheVariants as ends
+use Rattle.header_boxes.specs.Rows.{IsFirstThrough}
+use Rattle.vpc_model.specs.Appliances.{Appliances, appliances_of}
+use Rattle.vpc_model.specs.Report.{IsOrderedReport, IsPartReport, meaning_of}
+use Rattle.vpc_model.specs.Text.{told_stop}
 use Rattle.one_subnet.specs.declared.site.Site.{Site}
 use Rattle.one_subnet.specs.Site.{description_of}
 use Rattle.subnet_walk.specs.declared.barrier.Barrier.{Barrier}
@@ -14,7 +18,7 @@ use Rattle.subnet_walk.specs.Reach.{barrier_stop}
 use Rattle.subnet_walk.specs.Trace.{no_host}
 use Rattle.subnet_reach.specs.declared.query.Query.{Query}
 use Rattle.subnet_reach.specs.declared.query.Reached.{Reached}
-use Rattle.subnet_reach.specs.declared.query.Reached.TheVariants.{Through, Blocked, More}
+use Rattle.subnet_reach.specs.declared.query.Reached.TheVariants as answers
 
 -- the hosts are the network's, whose addresses differ; no range is empty, and a report may have a row
 pub record IsQueryIn (s : Site) (query : Query) : Type 0 where
@@ -27,7 +31,7 @@ pub record IsQueryIn (s : Site) (query : Query) : Type 0 where
 
 -- the end at a host
 abbrev pub end_at : ℕ → End
-end_at i = Interface (record { 0 = i })
+end_at i = ends.Interface (record { 0 = i })
 
 -- the address of a host
 abbrev pub address_at : Site → ℕ → ℕ
@@ -43,20 +47,36 @@ box_of s query = record {
   q = query.q;
 }
 
--- the row of a report that a kept row stands for
-abbrev pub row_of : Site → Query → Row Barrier → BoxRow
-row_of s query row =
-    let stop = barrier_stop query.start query.goal row.word in
-    record { text = phase_text stop.0 ++ word (stop_text (description_of s) stop.1); part = row.part }
+-- the appliances of the described network
+abbrev pub appliances_in : Site → Appliances
+appliances_in s = appliances_of (description_of s)
 
-abbrev pub rows_of : Site → Query → List (Row Barrier) → List BoxRow
+-- what stops each request of a query
+abbrev pub meaning_in : Site → Query → Header → Option StopText
+meaning_in s query = meaning_of (description_of s) (appliances_in s) (end_at query.start) (end_at query.goal)
+
+-- what is told of a barrier
+abbrev pub told_barrier : Site → Query → Barrier → StopText
+told_barrier s query b = let stop = barrier_stop query.start query.goal b in told_stop (description_of s) stop.0 stop.1
+
+-- the row of a report that a kept row stands for
+abbrev pub row_of : Site → Query → Row Barrier → Row StopText
+row_of s query row = record { part = row.part; word = told_barrier s query row.word }
+
+abbrev pub rows_of : Site → Query → List (Row Barrier) → List (Row StopText)
 rows_of s query rows = map (row_of s query) rows
 
--- the first header that gets through; or a true report of at most max rows; or max true rows that leave headers out
+-- an ordered true report of the query
+abbrev pub IsReportIn : Site → Query → List (Row StopText) → Type 0
+IsReportIn s query rows = IsOrderedReport (description_of s) (appliances_in s) (end_at query.start) (end_at query.goal) (box_of s query) rows
+
+-- max ordered true rows that leave headers out
+abbrev pub IsPartReportIn : Site → Query → List (Row StopText) → Header → ℕ → Type 0
+IsPartReportIn s query rows next cells =
+    IsPartReport (description_of s) (appliances_in s) (end_at query.start) (end_at query.goal) (box_of s query) query.max rows next cells
+
+-- the first header that gets through; or an ordered true report of at most max rows; or max rows that leave headers out
 abbrev pub IsReached : Site → Query → Reached → Type 0
-IsReached s query (Through h) = IsFirstThrough (description_of s) (end_at query.start) (end_at query.goal) (box_of s query) h
-IsReached s query (Blocked rows) =
-    IsTrueReport (description_of s) (end_at query.start) (end_at query.goal) (box_of s query) (rows_of s query rows.items)
-    × (length rows.items ≤ query.max)
-IsReached s query (More rows next cells) =
-    IsPartReport (description_of s) (end_at query.start) (end_at query.goal) (box_of s query) query.max (rows_of s query rows.items) next cells
+IsReached s query (answers.Through h) = IsFirstThrough (meaning_in s query) (box_of s query) h
+IsReached s query (answers.Blocked rows) = IsReportIn s query (rows_of s query rows.items) × (length rows.items ≤ query.max)
+IsReached s query (answers.More rows next cells) = IsPartReportIn s query (rows_of s query rows.items) next cells

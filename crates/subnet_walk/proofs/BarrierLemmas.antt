@@ -68,7 +68,7 @@ sender_is s i j h (Some out) found e = route_is s i j h out (holds h.dst s.block
 pub verdict_by_barrier_is : (s : Site) (i j : ℕ) (h : Header) → i < length s.hosts → j < length s.hosts → AddressesDiffer s
     → (let host = slice_index_or s.hosts i no_host in host.address ≡ h.src) → (let host = slice_index_or s.hosts j no_host in host.address ≡ h.dst)
     → (h.proto == 1) ≡ false
-    → verdict_of (description_of s) (AtInterface (record { 0 = i })) (AtInterface (record { 0 = j })) h ≡ verdict_by_barrier i j (barrier_of s i j h)
+    → verdict_of (description_of s) [] (AtInterface (record { 0 = i })) (AtInterface (record { 0 = j })) h ≡ verdict_by_barrier i j (barrier_of s i j h)
 verdict_by_barrier_is s i j h lti ltj differ from to proto =
     let new : AllNew [] s.hosts = are_new_from_none nat_eq (map (λ x. x.address) s.hosts) ∙ differ in
     let source = let x = slice_index_or s.hosts i no_host in same_address x.address h.src from in

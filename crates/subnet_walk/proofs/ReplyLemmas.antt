@@ -93,13 +93,13 @@ delivery_is s i h out j by e = met_start s i h out j by (has_source s i h) refl 
 
 -- the walk of a delivered request, with what it leaves
 pub request_is : (s : Site) (i : ℕ) (h : Header) (out : PassedBy) (j : ℕ) (by : PassedBy) → i < length s.hosts → IsDelivered s i h out j by
-    → request_walk (description_of s) (AtInterface (eni i)) h ≡ ended (hops_of i h (Delivered out j by)) (Arrived (AtInterface (eni j)) h) (left_both s i j h) []
+    → request_walk (description_of s) [] (AtInterface (eni i)) h ≡ ended (hops_of i h (Delivered out j by)) (Arrived (AtInterface (eni j)) h) (left_both s i j h) []
 request_is s i h out j by lt met = request_arrives s i h out j by lt met.source met.sent met.routed met.found met.taken
 
 -- the walk of its reply
 pub reply_is : (s : Site) (i j : ℕ) (h r : Header) (out by : PassedBy) → i < length s.hosts → j < length s.hosts → AllNew [] s.hosts
     → IsDelivered s i h out j by → reply_of h ≡ Some r → holds r.dst s.block ≡ true
-    → walk_of (description_of s) Answer (leaving_host j r (left_both s i j h)) ≡ ended (return_hops s j i r) (Arrived (AtInterface (eni i)) r) (left_both s i j h) []
+    → walk_of (description_of s) [] Answer (leaving_host j r (left_both s i j h)) ≡ ended (return_hops s j i r) (Arrived (AtInterface (eni i)) r) (left_both s i j h) []
 reply_is s i j h r out by lti ltj new met replied routed =
     let facts = position-Some (λ x. x.address == h.dst) s.hosts j no_host met.found in
     reply_arrives s i j h r (left_both s i j h) lti ltj new met.source facts.1 replied
@@ -110,12 +110,12 @@ reply_is s i j h r out by lti ltj new met replied routed =
 -- the reply of a delivered request passes as tracked and arrives, where the route has its destination
 pub reply_returns : (s : Site) (i j : ℕ) (h r : Header) (out by : PassedBy) → i < length s.hosts → j < length s.hosts → AddressesDiffer s
     → trace_of s i h ≡ Delivered out j by → reply_of h ≡ Some r → holds r.dst s.block ≡ true
-    → (let w = reply_walk (description_of s) (AtInterface (record { 0 = j })) r (request_walk (description_of s) (AtInterface (record { 0 = i })) h) in
+    → (let w = reply_walk (description_of s) [] (AtInterface (record { 0 = j })) r (request_walk (description_of s) [] (AtInterface (record { 0 = i })) h) in
     (w.hops ≡ return_hops s j i r) × (w.outcome ≡ Arrived (AtInterface (record { 0 = i })) r))
 reply_returns s i j h r out by lti ltj differ way replied routed =
     let new : AllNew [] s.hosts = are_new_from_none nat_eq (map (λ x. x.address) s.hosts) ∙ differ in
     let met = delivery_is s i h out j by way in
-    let whole = ap (reply_walk (description_of s) (AtInterface (eni j)) r) (request_is s i h out j by lti met) ∙ reply_is s i j h r out by lti ltj new met replied routed in
+    let whole = ap (reply_walk (description_of s) [] (AtInterface (eni j)) r) (request_is s i h out j by lti met) ∙ reply_is s i j h r out by lti ltj new met replied routed in
     (ap (λ w. w.hops) whole, ap (λ w. w.outcome) whole)
 
 -- ---- requests that get through
@@ -154,5 +154,5 @@ through_by s i j h (Delivered out k by) way e = through_goal s i j h out k by (k
 
 -- a request that gets through is delivered, has a reply, and the route has where that goes
 pub through_is : (s : Site) (i j : ℕ) (h : Header) → i < length s.hosts → j < length s.hosts → AddressesDiffer s
-    → verdict_of (description_of s) (AtInterface (record { 0 = i })) (AtInterface (record { 0 = j })) h ≡ Through → IsThroughBy s i j h
+    → verdict_of (description_of s) [] (AtInterface (record { 0 = i })) (AtInterface (record { 0 = j })) h ≡ Through → IsThroughBy s i j h
 through_is s i j h lti ltj differ through = through_by s i j h (trace_of s i h) refl (sym (verdict_is s i j h lti ltj differ) ∙ through)

@@ -42,7 +42,8 @@ use Rattle.vpc_model.specs.Verdict.{verdict_of, verdict_of_arrival, verdict_of_r
 use Rattle.subnet_walk.specs.declared.tracing.Trace.{Trace}
 use Rattle.subnet_walk.specs.declared.tracing.Trace.TheVariants.{Delivered, OffRoute, WrongSource}
 use Rattle.subnet_walk.specs.Reach.{answered_at, answered_by, reach_of, return_hops, returns, verdict_by}
-use Rattle.vpc_model.specs.Step.{Moment, Next, go, arrive, plain, step_of}
+use Rattle.vpc_model.specs.Step.{step_of}
+use Rattle.vpc_model.specs.Step.Words.{Moment, Next, arrive, go, plain}
 use Rattle.vpc_model.specs.Walk.{Walk, ended, walk_of}
 use Rattle.subnet_walk.specs.Trace.{after_in, after_out, after_route, by_of, hops_of, host_with, in_hop, no_host, out_hop, outcome_of, router_hop}
 use Rattle.subnet_walk.proofs.WalkLemmas.{eni, groups_by, host_at, in_by, in_moment, in_right, in_start, interface_is, next_host, next_missing, out_by, out_right, out_start, passes_at, router_moment, subnet_0, subnet_is, table_0, vpc_0, walk_at, walk_by, walk_goes, walk_is}
@@ -216,7 +217,7 @@ has_source s i h = let x = host_at s i in x.address == h.src
 
 goes_out : (s : Site) (label : Label) (i : ℕ) (h : Header) (conns : List Connection) (by : By) (after : List Connection) → i < length s.hosts → has_source s i h ≡ true
     → passing_of (description_of s) label (eni i) Outward h conns ≡ passed by after
-    → step_of (description_of s) label (leaving_host i h conns) ≡ record { next = go (Router subnet_0 (FromHost (eni i))) h; by = by; conns = after; nats = [] }
+    → step_of (description_of s) [] label (leaving_host i h conns) ≡ record { next = go (Router subnet_0 (FromHost (eni i))) h; by = by; conns = after; nats = [] }
 goes_out s label i h conns by after lt e passes =
     let d = description_of s in
     let m = leaving_host i h conns in
@@ -229,7 +230,7 @@ goes_out s label i h conns by after lt e passes =
 comes_in : (s : Site) (label : Label) (k : ℕ) (h : Header) (conns : List Connection) (by : By) (after : List Connection) → k < length s.hosts
     → (let x = host_at s k in x.address == h.dst) ≡ true
     → passing_of (description_of s) label (eni k) Inward h conns ≡ passed by after
-    → step_of (description_of s) label (in_moment k h conns) ≡ record { next = arrive (AtInterface (eni k)); by = by; conns = after; nats = [] }
+    → step_of (description_of s) [] label (in_moment k h conns) ≡ record { next = arrive (AtInterface (eni k)); by = by; conns = after; nats = [] }
 comes_in s label k h conns by after lt e passes =
     let d = description_of s in
     let m = in_moment k h conns in
@@ -272,7 +273,7 @@ walk_3 s label n i h out conns k by after lt e passes =
 arrives : (s : Site) (label : Label) (i : ℕ) (h : Header) (conns : List Connection) (out : By) (after_out : List Connection) (k : ℕ) (by : By) (after_in : List Connection)
     → i < length s.hosts → has_source s i h ≡ true → passing_of (description_of s) label (eni i) Outward h conns ≡ passed out after_out
     → holds h.dst s.block ≡ true → host_with s.hosts h.dst ≡ Some k → passing_of (description_of s) label (eni k) Inward h after_out ≡ passed by after_in
-    → walk_of (description_of s) label (leaving_host i h conns) ≡ ended (out_hop i h out ∷ router_hop i h ∷ in_hop k h by ∷ []) (Arrived (AtInterface (eni k)) h) after_in []
+    → walk_of (description_of s) [] label (leaving_host i h conns) ≡ ended (out_hop i h out ∷ router_hop i h ∷ in_hop k h by ∷ []) (Arrived (AtInterface (eni k)) h) after_in []
 arrives s label i h conns out after_out k by after_in lt e passes_out e2 found passes_in =
     let facts = position-Some (λ x. x.address == h.dst) s.hosts k no_host found in
     walk_1 s label 62 i h conns out after_out lt e passes_out
@@ -283,7 +284,7 @@ arrives s label i h conns out after_out k by after_in lt e passes_out e2 found p
 strays : (s : Site) (label : Label) (i : ℕ) (h : Header) (conns : List Connection) (out : By) (after : List Connection)
     → i < length s.hosts → has_source s i h ≡ true → passing_of (description_of s) label (eni i) Outward h conns ≡ passed out after
     → holds h.dst s.block ≡ false
-    → walk_of (description_of s) label (leaving_host i h conns) ≡ ended (out_hop i h out ∷ router_hop i h ∷ []) (Stopped (NoRoute table_0)) after []
+    → walk_of (description_of s) [] label (leaving_host i h conns) ≡ ended (out_hop i h out ∷ router_hop i h ∷ []) (Stopped (NoRoute table_0)) after []
 strays s label i h conns out after lt e passes e2 =
     walk_1 s label 62 i h conns out after lt e passes ∙ walk_2_off s label 62 i h out after e2
 
@@ -296,7 +297,7 @@ groups_at s i = let x = host_at s i in x.groups
 pub reply_arrives : (s : Site) (i k : ℕ) (h r : Header) (conns : List Connection) → i < length s.hosts → k < length s.hosts → AllNew [] s.hosts
     → has_source s i h ≡ true → (let x = host_at s k in x.address == h.dst) ≡ true → reply_of h ≡ Some r
     → Knows conns (eni k) Outward r (groups_at s k) → Knows conns (eni i) Inward r (groups_at s i) → holds r.dst s.block ≡ true
-    → walk_of (description_of s) Answer (leaving_host k r conns) ≡ ended (return_hops s k i r) (Arrived (AtInterface (eni i)) r) conns []
+    → walk_of (description_of s) [] Answer (leaving_host k r conns) ≡ ended (return_hops s k i r) (Arrived (AtInterface (eni i)) r) conns []
 reply_arrives s i k h r conns lti ltk new from to replied knows_k knows_i e =
     let ends = reply_ends h r replied in
     let source = ap (λ n. let x = host_at s k in x.address == n) ends.0 ∙ to in
@@ -307,7 +308,7 @@ reply_arrives s i k h r conns lti ltk new from to replied knows_k knows_i e =
 returned : (s : Site) (i k : ℕ) (h r : Header) (conns : List Connection) (b : Bool) → i < length s.hosts → k < length s.hosts → AllNew [] s.hosts
     → has_source s i h ≡ true → (let x = host_at s k in x.address == h.dst) ≡ true → reply_of h ≡ Some r
     → Knows conns (eni k) Outward r (groups_at s k) → Knows conns (eni i) Inward r (groups_at s i) → holds r.dst s.block ≡ b
-    → verdict_of_reply (AtInterface (eni i)) h (walk_of (description_of s) Answer (leaving_host k r conns)).outcome ≡ (if b then Through else StoppedIn Reply (NoRoute table_0))
+    → verdict_of_reply (AtInterface (eni i)) h (walk_of (description_of s) [] Answer (leaving_host k r conns)).outcome ≡ (if b then Through else StoppedIn Reply (NoRoute table_0))
 returned s i k h r conns true lti ltk new from to replied knows_k knows_i e =
     ap (λ w. verdict_of_reply (AtInterface (eni i)) h w.outcome) (reply_arrives s i k h r conns lti ltk new from to replied knows_k knows_i e)
     ∙ rw (nat_same i, replies h r replied)
@@ -334,7 +335,7 @@ not_inward i k h (id ∷ ids) = neither (k == i)
 
 arrival : (s : Site) (i k : ℕ) (h : Header) (hops : List Hop) (o : Option Header) → i < length s.hosts → k < length s.hosts → AllNew [] s.hosts
     → has_source s i h ≡ true → (let x = host_at s k in x.address == h.dst) ≡ true → reply_of h ≡ o
-    → verdict_of_arrival (description_of s) (AtInterface (eni i)) (AtInterface (eni k)) h (ended hops (Arrived (AtInterface (eni k)) h) (left_both s i k h) []) o ≡ returns s k h o
+    → verdict_of_arrival (description_of s) [] (AtInterface (eni i)) (AtInterface (eni k)) h (ended hops (Arrived (AtInterface (eni k)) h) (left_both s i k h) []) o ≡ returns s k h o
 arrival s i k h hops None lti ltk new from to replied = refl
 arrival s i k h hops (Some r) lti ltk new from to replied =
     returned s i k h r (left_both s i k h) (holds r.dst s.block) lti ltk new from to replied
@@ -346,13 +347,13 @@ arrival s i k h hops (Some r) lti ltk new from to replied =
 
 -- the verdict of a request with this walk is that of the trace
 abbrev Shown : Site → ℕ → ℕ → Header → Walk → Trace → Type 0
-Shown s i j h w t = verdict_of_request (description_of s) (AtInterface (eni i)) (AtInterface (eni j)) h w w.outcome ≡ verdict_by s i j h t
+Shown s i j h w t = verdict_of_request (description_of s) [] (AtInterface (eni i)) (AtInterface (eni j)) h w w.outcome ≡ verdict_by s i j h t
 
 abbrev request : Site → ℕ → Header → Walk
-request s i h = walk_of (description_of s) Opening (leaving_host i h [])
+request s i h = walk_of (description_of s) [] Opening (leaving_host i h [])
 
-stopped : (d : Description) (start goal : End) (h : Header) (w : Walk) (st : Stop) → w.outcome ≡ Stopped st → verdict_of_request d start goal h w w.outcome ≡ StoppedIn Request st
-stopped d start goal h w st e = ap (verdict_of_request d start goal h w) e
+stopped : (d : Description) (start goal : End) (h : Header) (w : Walk) (st : Stop) → w.outcome ≡ Stopped st → verdict_of_request d [] start goal h w w.outcome ≡ StoppedIn Request st
+stopped d start goal h w st e = ap (verdict_of_request d [] start goal h w) e
 
 if_same : {X : Type 0} (b : Bool) (x y z : X) → (b ≡ true → x ≡ y) → (if b then x else z) ≡ (if b then y else z)
 if_same true x y z f = f refl
@@ -377,10 +378,10 @@ delivered s i j h out k by lt new from passes_out e found passes_in =
     let hops = hops_of i h (Delivered out k by) in
     let last = ended hops (Arrived (AtInterface (eni k)) h) (left_both s i k h) [] in
     let whole = request_arrives s i h out k by lt from passes_out e found passes_in in
-    let arrived = verdict_of_arrival d (AtInterface (eni i)) (AtInterface (eni j)) h last (reply_of h) in
-    ap (λ w. verdict_of_request d (AtInterface (eni i)) (AtInterface (eni j)) h w w.outcome) whole
+    let arrived = verdict_of_arrival d [] (AtInterface (eni i)) (AtInterface (eni j)) h last (reply_of h) in
+    ap (λ w. verdict_of_request d [] (AtInterface (eni i)) (AtInterface (eni j)) h w w.outcome) whole
     ∙ if_same (k == j) arrived (returns s j h (reply_of h)) (StoppedIn Request (WrongPlace (AtInterface (eni k))))
-    (λ same. ap (λ g. verdict_of_arrival d (AtInterface (eni i)) (AtInterface (eni g)) h last (reply_of h)) (sym (number_is k j same))
+    (λ same. ap (λ g. verdict_of_arrival d [] (AtInterface (eni i)) (AtInterface (eni g)) h last (reply_of h)) (sym (number_is k j same))
     ∙ (arrival s i k h hops (reply_of h) lt facts.0 new from facts.1 refl
     ∙ ap (λ g. returns s g h (reply_of h)) (number_is k j same)))
 
@@ -418,7 +419,7 @@ shown_start s i j h false lt new from ends = stopped (description_of s) (AtInter
 
 -- in a network of one subnet whose hosts have different addresses, the verdict of a request from one host to another is the one by its trace
 pub verdict_is : (s : Site) (i j : ℕ) (h : Header) → i < length s.hosts → j < length s.hosts → all_differ nat_eq (map (λ x. x.address) s.hosts) ≡ true
-    → verdict_of (description_of s) (AtInterface (record { 0 = i })) (AtInterface (record { 0 = j })) h ≡ reach_of s i j h
+    → verdict_of (description_of s) [] (AtInterface (record { 0 = i })) (AtInterface (record { 0 = j })) h ≡ reach_of s i j h
 verdict_is s i j h lti ltj differ =
     let w = walk_is s Opening i h lti in
     let new : AllNew [] s.hosts = are_new_from_none nat_eq (map (λ x. x.address) s.hosts) ∙ differ in

@@ -28,7 +28,7 @@ use Rattle.vpc_model.specs.declared.places.Place.TheVariants.{OutOf, Router, Int
 use Rattle.vpc_model.specs.declared.rows.Description.{Description}
 use Rattle.vpc_model.specs.declared.rows.Interface.{Interface}
 use Rattle.vpc_model.specs.declared.rows.Route.{Route}
-use Rattle.vpc_model.specs.Choice.{chosen_place, or_else}
+use Rattle.vpc_model.specs.Choice.{chosen_number, or_else}
 use Rattle.vpc_model.specs.Connections.{Connection, Passing, answer_passing, label_passing, open_passing, passing_groups, passing_of}
 use Rattle.vpc_model.specs.Filter.{far_address, is_between, matches_proto}
 use Rattle.vpc_model.specs.Groups.{first_rule_of, first_rule, rule_of_group, permission_allows, permissions_of}
@@ -36,7 +36,11 @@ use Rattle.vpc_model.specs.Lookup.{group_of_id, group_at, no_group, has_address,
 use Rattle.vpc_model.specs.Routes.{beats, chosen_route, is_candidate, kind_of, match_length}
 use Rattle.vpc_model.specs.declared.stops.Stop.TheVariants.{Detached, SourceCheck, DestCheck, GroupsOut, GroupsIn, NoRoute, NoHost, NotAHost}
 use Rattle.vpc_model.specs.Nat.{Translation}
-use Rattle.vpc_model.specs.Step.{Moment, Next, go, arrive, stop, Step, by_route, crossing, deliver, is_gateway, out_passing, in_passing, plain, step_into, step_of, step_out, to_host, unless_stopped}
+use Rattle.vpc_model.specs.Step.{step_of}
+use Rattle.vpc_model.specs.Step.Crossing.{crossing, deliver, is_gateway}
+use Rattle.vpc_model.specs.Step.Interface.{in_passing, out_passing, step_into, step_out}
+use Rattle.vpc_model.specs.Step.Router.{by_route, to_host}
+use Rattle.vpc_model.specs.Step.Words.{Moment, Next, Step, arrive, go, plain, stop, unless_stopped}
 use Rattle.vpc_model.specs.Walk.{Walk, is_visited, walk_of, walk_on}
 use Rattle.one_subnet.proofs.Maps.{position_map}
 use Rattle.one_subnet.specs.declared.site.Host.{Host}
@@ -122,10 +126,10 @@ host_is s a = ap (option_map eni) (position_map (interface_of s) (λ e. has_addr
 
 -- ---- the route
 
-chosen_one : {X : Type 0} (c : X → Bool) (b : X → X → Bool) (x : X) → c x ≡ true → b x x ≡ false → chosen_place c b (x ∷ []) ≡ Some 0
+chosen_one : {X : Type 0} (c : X → Bool) (b : X → X → Bool) (x : X) → c x ≡ true → b x x ≡ false → chosen_number c b (x ∷ []) ≡ Some 0
 chosen_one c b x p q = rw (p, q)
 
-chosen_none : {X : Type 0} (c : X → Bool) (b : X → X → Bool) (x : X) → c x ≡ false → chosen_place c b (x ∷ []) ≡ None
+chosen_none : {X : Type 0} (c : X → Bool) (b : X → X → Bool) (x : X) → c x ≡ false → chosen_number c b (x ∷ []) ≡ None
 chosen_none c b x p = rw p
 
 beats_not : (d : Description) (a : ℕ) (r : Route) → beats d a r r ≡ false
@@ -317,14 +321,14 @@ abbrev out_conns : Site → Label → ℕ → Header → List Connection
 out_conns s label i h = (passing_of (description_of s) label (eni i) Outward h []).conns
 
 out_wrong_step : (s : Site) (label : Label) (i : ℕ) (h : Header) → i < length s.hosts → (let x = host_at s i in x.address == h.src) ≡ false
-    → step_of (description_of s) label (departure i h) ≡ plain (departure i h) (stop (SourceCheck (eni i)))
+    → step_of (description_of s) [] label (departure i h) ≡ plain (departure i h) (stop (SourceCheck (eni i)))
 out_wrong_step s label i h lt e =
     let m = departure i h in
     let p = passing_of (description_of s) label (eni i) Outward h [] in
     out_start s label i m lt ∙ out_wrong (description_of s) (eni i) m p s (host_at s i) e
 
 out_step : (s : Site) (label : Label) (i : ℕ) (h : Header) (o : Option PassedBy) → i < length s.hosts → (let x = host_at s i in x.address == h.src) ≡ true → passes_at s Outward h i ≡ o
-    → step_of (description_of s) label (departure i h) ≡ out_by (description_of s) (eni i) (departure i h) (out_conns s label i h) (option_map (by_of Outward) o)
+    → step_of (description_of s) [] label (departure i h) ≡ out_by (description_of s) (eni i) (departure i h) (out_conns s label i h) (option_map (by_of Outward) o)
 out_step s label i h o lt e passed =
     let m = departure i h in
     let p = passing_of (description_of s) label (eni i) Outward h [] in
@@ -332,7 +336,7 @@ out_step s label i h o lt e passed =
     out_start s label i m lt ∙ (out_right (description_of s) (eni i) m p s (host_at s i) e ∙ ap (out_by (description_of s) (eni i) m p.conns) by)
 
 out_go_step : (s : Site) (label : Label) (i : ℕ) (h : Header) (out : PassedBy) → i < length s.hosts → (let x = host_at s i in x.address == h.src) ≡ true → passes_at s Outward h i ≡ Some out
-    → step_of (description_of s) label (departure i h) ≡ record { next = go (Router subnet_0 (FromHost (eni i))) h; by = by_of Outward out; conns = out_conns s label i h; nats = [] }
+    → step_of (description_of s) [] label (departure i h) ≡ record { next = go (Router subnet_0 (FromHost (eni i))) h; by = by_of Outward out; conns = out_conns s label i h; nats = [] }
 out_go_step s label i h out lt e passed =
     let same = subnet_is s i lt in
     out_step s label i h (Some out) lt e passed
@@ -343,10 +347,10 @@ out_go_step s label i h out lt e passed =
 abbrev pub in_moment : ℕ → Header → List Connection → Moment
 in_moment j h conns = record { place = Into (eni j); header = h; conns = conns; nats = [] }
 
-abbrev in_at : EniNo → Moment → Passing → Interface → Step
-in_at j m p e =
+abbrev in_at : Description → EniNo → Moment → Passing → Interface → Step
+in_at d j m p e =
     if e.idle then plain m (stop (Detached j))
-    else (if e.checked && not (has_address e m.header.dst) then plain m (stop (DestCheck j)) else in_passing j m p)
+    else (if e.checked && not (has_address e m.header.dst) then plain m (stop (DestCheck j)) else in_passing d [] j m p)
 
 abbrev pub in_by : EniNo → Moment → List Connection → Option By → Step
 in_by j m conns o =
@@ -356,12 +360,12 @@ in_by j m conns o =
     ]
 
 pub in_right : (j : EniNo) (m : Moment) (p : Passing) (s : Site) (x : Host) → (x.address == m.header.dst) ≡ true
-    → in_at j m p (interface_of s x) ≡ in_by j m p.conns p.by
+    → in_at (description_of s) j m p (interface_of s x) ≡ in_by j m p.conns p.by
 in_right j m p s x e = rw e
 
 pub in_start : (s : Site) (label : Label) (j : ℕ) (m : Moment) → j < length s.hosts
-    → step_into (description_of s) label (eni j) m ≡ in_at (eni j) m (passing_of (description_of s) label (eni j) Inward m.header m.conns) (interface_of s (host_at s j))
-in_start s label j m lt = ap (in_at (eni j) m (passing_of (description_of s) label (eni j) Inward m.header m.conns)) (interface_is s j lt)
+    → step_into (description_of s) [] label (eni j) m ≡ in_at (description_of s) (eni j) m (passing_of (description_of s) label (eni j) Inward m.header m.conns) (interface_of s (host_at s j))
+in_start s label j m lt = ap (in_at (description_of s) (eni j) m (passing_of (description_of s) label (eni j) Inward m.header m.conns)) (interface_is s j lt)
 
 -- the connections after the step into
 abbrev in_conns : Site → Label → ℕ → Header → List Connection → List Connection
@@ -369,7 +373,7 @@ in_conns s label j h conns = (passing_of (description_of s) label (eni j) Inward
 
 in_step : (s : Site) (label : Label) (j : ℕ) (h : Header) (conns : List Connection) (o : Option PassedBy) → j < length s.hosts → Fresh label conns
     → (let x = host_at s j in x.address == h.dst) ≡ true → passes_at s Inward h j ≡ o
-    → step_of (description_of s) label (in_moment j h conns) ≡ in_by (eni j) (in_moment j h conns) (in_conns s label j h conns) (option_map (by_of Inward) o)
+    → step_of (description_of s) [] label (in_moment j h conns) ≡ in_by (eni j) (in_moment j h conns) (in_conns s label j h conns) (option_map (by_of Inward) o)
 in_step s label j h conns o lt fresh e passed =
     let m = in_moment j h conns in
     let p = passing_of (description_of s) label (eni j) Inward h conns in
@@ -425,13 +429,13 @@ hop_at m by = record { place = m.place; header = m.header; by = by }
 
 -- the walk that goes on by this step
 abbrev pub walk_by : Description → Label → ℕ → List Hop → Moment → Step → Walk
-walk_by d label n hops m s = walk_on d label n (hops ++ hop_at m s.by ∷ []) m.header s.next s.conns s.nats
+walk_by d label n hops m s = walk_on d [] label n (hops ++ hop_at m s.by ∷ []) m.header s.next s.conns s.nats
 
 abbrev pub walk_at : Description → Label → ℕ → List Hop → Moment → Walk
-walk_at d label n hops m = walk_by d label n hops m (step_of d label m)
+walk_at d label n hops m = walk_by d label n hops m (step_of d [] label m)
 
 pub walk_goes : (d : Description) (label : Label) (n : ℕ) (hops : List Hop) (h : Header) (p : Place) (k : Header) (conns : List Connection) (nats : List Translation) → is_visited hops p ≡ false
-    → walk_on d label (suc n) hops h (go p k) conns nats ≡ walk_at d label n hops (record { place = p; header = k; conns = conns; nats = nats })
+    → walk_on d [] label (suc n) hops h (go p k) conns nats ≡ walk_at d label n hops (record { place = p; header = k; conns = conns; nats = nats })
 walk_goes d label n hops h p k conns nats e = rw e
 
 -- the walk has the hops and the outcome of the trace
@@ -516,5 +520,5 @@ walk_start s label n i h false lt e =
 
 -- in a network of one subnet, the walk of a packet from a host, with nothing remembered, is the trace
 pub walk_is : (s : Site) (label : Label) (i : ℕ) (h : Header) → i < length s.hosts
-    → ((walk_of (description_of s) label (departure i h)).hops ≡ hops_of i h (trace_of s i h)) × ((walk_of (description_of s) label (departure i h)).outcome ≡ outcome_of i h (trace_of s i h))
+    → ((walk_of (description_of s) [] label (departure i h)).hops ≡ hops_of i h (trace_of s i h)) × ((walk_of (description_of s) [] label (departure i h)).outcome ≡ outcome_of i h (trace_of s i h))
 walk_is s label i h lt = walk_start s label 61 i h (let x = host_at s i in x.address == h.src) lt refl

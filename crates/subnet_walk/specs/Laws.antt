@@ -1,4 +1,4 @@
--- What the six ways of a walk say of the walks and verdicts of the model.
+-- What the six ways of a walk say of the walks and verdicts of the model. A network of one subnet has no appliances.
 use Rattle.std.specs.Prelude.{ℕ, ◌≡◌, ◌<◌, ◌==◌, ◌&&◌, false, true, [], Option, Some, length, map, nat_eq, slice_index_or}
 use Rattle.prefix_text.specs.Block.{holds}
 use Rattle.vpc_base.specs.Header.{reply_of}
@@ -29,21 +29,21 @@ AddressesDiffer s = all_differ nat_eq (map (λ x. x.address) s.hosts) ≡ true
 abbrev pub WalksAreWays : Type 0
 WalksAreWays =
     (s : Site) (label : Label) (i : ℕ) (h : Header) → i < length s.hosts
-    → (let w = walk_of (description_of s) label (record { place = OutOf (record { 0 = i }); header = h; conns = []; nats = [] }) in
+    → (let w = walk_of (description_of s) [] label (record { place = OutOf (record { 0 = i }); header = h; conns = []; nats = [] }) in
     (w.hops ≡ hops_of i h (trace_of s i h)) × (w.outcome ≡ outcome_of i h (trace_of s i h)))
 
 -- the verdict of a request from one host to another is that of its way
 abbrev pub VerdictsAreWays : Type 0
 VerdictsAreWays =
     (s : Site) (i j : ℕ) (h : Header) → i < length s.hosts → j < length s.hosts → AddressesDiffer s
-    → verdict_of (description_of s) (Interface (record { 0 = i })) (Interface (record { 0 = j })) h ≡ reach_of s i j h
+    → verdict_of (description_of s) [] (Interface (record { 0 = i })) (Interface (record { 0 = j })) h ≡ reach_of s i j h
 
 -- the reply of a delivered request passes as tracked and arrives, where the route has its destination
 abbrev pub RepliesReturn : Type 0
 RepliesReturn =
     (s : Site) (i j : ℕ) (h r : Header) (out by : PassedBy) → i < length s.hosts → j < length s.hosts → AddressesDiffer s
     → trace_of s i h ≡ Delivered out j by → reply_of h ≡ Some r → holds r.dst s.block ≡ true
-    → (let w = reply_walk (description_of s) (Interface (record { 0 = j })) r (request_walk (description_of s) (Interface (record { 0 = i })) h) in
+    → (let w = reply_walk (description_of s) [] (Interface (record { 0 = j })) r (request_walk (description_of s) [] (Interface (record { 0 = i })) h) in
     (w.hops ≡ return_hops s j i r) × (w.outcome ≡ Arrived (Interface (record { 0 = i })) r))
 
 -- the verdict of a request from one host's own address to another's, which isn't ICMP, is that of its barrier
@@ -52,7 +52,7 @@ VerdictsAreBarriers =
     (s : Site) (i j : ℕ) (h : Header) → i < length s.hosts → j < length s.hosts → AddressesDiffer s
     → (let host = slice_index_or s.hosts i no_host in host.address ≡ h.src) → (let host = slice_index_or s.hosts j no_host in host.address ≡ h.dst)
     → (h.proto == 1) ≡ false
-    → verdict_of (description_of s) (Interface (record { 0 = i })) (Interface (record { 0 = j })) h ≡ verdict_by_barrier i j (barrier_of s i j h)
+    → verdict_of (description_of s) [] (Interface (record { 0 = i })) (Interface (record { 0 = j })) h ≡ verdict_by_barrier i j (barrier_of s i j h)
 
 -- a verdict by a barrier names that barrier
 abbrev pub VerdictsNameBarriers : Type 0

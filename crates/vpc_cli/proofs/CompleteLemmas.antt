@@ -5,18 +5,18 @@ use Rattle.std.proofs.lemmas.List.Kept.{AllPairs-from_increasing}
 use Rattle.serde_json.specs.Data.{Data}
 use Rattle.serde_json.specs.Read.{read}
 use Rattle.vpc_base.specs.Cuts.{CutLists}
-use Rattle.vpc_base.specs.declared.headers.Header.{Header}
 use Rattle.header_boxes.specs.Boxes.{holds}
 use Rattle.header_boxes.specs.Cells.{cells_of}
+use Rattle.header_boxes.specs.Rows.{HasWord, is_covered}
+use Rattle.vpc_model.specs.Report.{IsCellCount, ending_of}
 use Rattle.header_boxes.specs.declared.boxes.Box5.{Box5}
-use Rattle.vpc_model.specs.Report.{BoxRow, HasText, IsCellCount, ending_text, is_reported}
-use Rattle.vpc_model.specs.Verdict.{verdict_of}
-use Rattle.vpc_model.specs.declared.outcomes.Verdict.TheVariants.{Through}
-use Rattle.vpc_model.specs.declared.places.End.{End}
 use Rattle.vpc_model.specs.declared.rows.Description.{Description}
+use Rattle.vpc_base.specs.declared.headers.Header.{Header}
+use Rattle.header_boxes.specs.declared.rows.Row.{Row}
+use Rattle.vpc_model.specs.declared.stop_texts.StopText.{StopText}
 use Rattle.one_subnet.specs.Form.{site_of}
 use Rattle.one_subnet.specs.Site.{description_of}
-use Rattle.subnet_reach.specs.Query.{box_of, end_at}
+use Rattle.subnet_reach.specs.Query.{box_of, meaning_in}
 use Rattle.one_subnet.specs.declared.site.Site.{Site}
 use Rattle.subnet_reach.specs.declared.query.Query.{Query as Asked}
 use Rattle.vpc_cli.specs.Asked.{IsAskAnswer, IsDecided, IsQueryAnswer, IsReachable, IsReported, IsReportedInPart}
@@ -98,19 +98,19 @@ cells_are d whole m n a b =
 
 -- ---- a report holds no header that gets through
 
-no_text : (d : Description) (start goal : End) (row : BoxRow) (h : Header) → ending_text d (verdict_of d start goal h) ≡ Some row.text → verdict_of d start goal h ≡ Through → ⊥
-no_text d start goal row h told through = let none : None ≡ Some row.text = ap (ending_text d) (sym through) ∙ told in cc
+no_word : (o : Option StopText) (w : StopText) → o ≡ Some w → o ≡ None → ⊥
+no_word o w told none = let same : None ≡ Some w = sym none ∙ told in cc
 
-by_first : (d : Description) (start goal : End) (row : BoxRow) (rows : List BoxRow) (h : Header) (b : Bool) → holds h row.part ≡ b → HasText d start goal row
-    → is_reported (row ∷ rows) h ≡ true → verdict_of d start goal h ≡ Through → (is_reported rows h ≡ true → ⊥) → ⊥
-by_first d start goal row rows h true inside text reported through rest = no_text d start goal row h (text h inside) through
-by_first d start goal row rows h false outside text reported through rest = rest (ap (λ (c : Bool). c || is_reported rows h) (sym outside) ∙ reported)
+by_first : (meaning : Header → Option StopText) (row : Row StopText) (rows : List (Row StopText)) (h : Header) (b : Bool) → holds h row.part ≡ b → HasWord meaning row
+    → is_covered (row ∷ rows) h ≡ true → meaning h ≡ None → (is_covered rows h ≡ true → ⊥) → ⊥
+by_first meaning row rows h true inside word covered through rest = no_word (meaning h) row.word (word h inside) through
+by_first meaning row rows h false outside word covered through rest = rest (ap (λ (c : Bool). c || is_covered rows h) (sym outside) ∙ covered)
 
-not_through : (d : Description) (start goal : End) (rows : List BoxRow) (h : Header) → All (HasText d start goal) rows → is_reported rows h ≡ true → verdict_of d start goal h ≡ Through → ⊥
-not_through d start goal [] h texts reported through = cc
-not_through d start goal (row ∷ rows) h texts reported through =
-    by_first d start goal row rows h (holds h row.part) refl (texts 0 row (omega arith)) reported through
-    (λ in_rest. not_through d start goal rows h (λ k e below. texts (suc k) e (omega arith)) in_rest through)
+not_through : (meaning : Header → Option StopText) (rows : List (Row StopText)) (h : Header) → All (HasWord meaning) rows → is_covered rows h ≡ true → meaning h ≡ None → ⊥
+not_through meaning [] h words covered through = cc
+not_through meaning (row ∷ rows) h words covered through =
+    by_first meaning row rows h (holds h row.part) refl (words 0 row (omega arith)) covered through
+    (λ in_rest. not_through meaning rows h (λ k e below. words (suc k) e (omega arith)) in_rest through)
 
 -- ---- bytes describe one network
 
@@ -146,13 +146,13 @@ yes_decides site query text x = record { yes = λ some. refl; no = λ few. absur
 
 no_decides : (site : Site) (query : Asked) (text : List ℕ) → IsReported site query text → IsDecided site query No
 no_decides site query text x = record {
-  yes = λ some. absurd (not_through (description_of site) (end_at query.start) (end_at query.goal) x.rows some.header x.report.are_true.text (x.report.holds_all some.header some.inside) some.through);
+  yes = λ some. absurd (not_through (meaning_in site query) x.rows some.header x.report.report.are_true.word (x.report.report.holds_all some.header some.inside) (ap (ending_of (description_of site)) some.through));
   no = λ few. refl;
 }
 
 more_decides : (site : Site) (query : Asked) (text : List ℕ) → IsReportedInPart site query text → IsDecided site query More
 more_decides site query text x = record {
-  yes = λ some. absurd (x.report.none some.header some.inside some.through);
+  yes = λ some. absurd (x.report.none some.header some.inside (ap (ending_of (description_of site)) some.through));
   no = λ few. absurd (too_few query.max x.cells few.cells x.report.many few.few (cells_are (description_of site) (box_of site query) few.cells x.cells few.cells_are x.report.cells_are));
 }
   where

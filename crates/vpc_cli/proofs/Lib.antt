@@ -2,3 +2,4 @@ pub mod Lists
 pub mod AnswerLemmas
 pub mod CompleteLemmas
 pub mod ReachableLemmas
+pub mod RuleNames

@@ -2,7 +2,7 @@
 use Rattle.std.proofs.Common.{◌≡◌, ◌++◌, ℕ, Bool, Result, Ok, Err, OnOk, List, [], ◌∷◌, refl, map, not, position, append_assoc, append-nil, length, ◌<◌, slice_index_or, ap, sym, ◌∙◌}
 use Rattle.std.specs.List.{prefix_len}
 use Rattle.std.proofs.lemmas.List.{length-map, get_or-map}
-use Rattle.ordered_cover.specs.declared.rows.Row.{Row}
+use Rattle.header_boxes.specs.declared.rows.Row.{Row}
 use Rattle.one_subnet.specs.declared.site.Site.{Site}
 use Rattle.subnet_walk.specs.declared.barrier.Barrier.{Barrier}
 use Rattle.subnet_reach.specs.declared.query.Query.{Query}

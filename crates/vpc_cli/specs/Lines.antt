@@ -1,13 +1,11 @@
 -- The parts of printed lines.
-use Rattle.std.specs.Prelude.{ℕ, ◌++◌, List, codes, decimal}
+use Rattle.std.specs.Prelude.{◌++◌, List, codes, decimal, ℕ}
 use Rattle.vpc_base.specs.declared.headers.Header.{Header}
-use Rattle.vpc_model.specs.Report.{phase_text}
-use Rattle.vpc_model.specs.Text.{word, header_text, line_end, stop_text}
+use Rattle.vpc_model.specs.Text.{header_text, line_end, told_text, word}
 use Rattle.one_subnet.specs.declared.site.Site.{Site}
-use Rattle.one_subnet.specs.Site.{description_of}
 use Rattle.subnet_walk.specs.declared.barrier.Barrier.{Barrier}
-use Rattle.subnet_walk.specs.Reach.{barrier_stop}
 use Rattle.subnet_reach.specs.declared.query.Query.{Query}
+use Rattle.subnet_reach.specs.Query.{told_barrier}
 
 -- a text with its newline
 abbrev pub line : List ℕ → List ℕ
@@ -30,4 +28,4 @@ stopped_text phase name id = phase ++ word (name ++ word id ++ word (codes "-"))
 
 -- what stops the requests of a row, or their replies
 abbrev pub barrier_text : Site → Query → Barrier → List ℕ
-barrier_text s query b = let stop = barrier_stop query.start query.goal b in phase_text stop.0 ++ word (stop_text (description_of s) stop.1)
+barrier_text s query b = told_text (told_barrier s query b)

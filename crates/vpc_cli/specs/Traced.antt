@@ -1,9 +1,10 @@
 -- What `trace` answers in a described network.
 use Rattle.std.specs.Prelude.{ℕ, ◌≡◌, List, [], Option, Some, None, codes}
 use Rattle.vpc_model.specs.declared.outcomes.Outcome.{Outcome}
-use Rattle.vpc_model.specs.declared.outcomes.Outcome.TheVariants.{Arrived, Stopped}
+use Rattle.vpc_model.specs.declared.outcomes.Outcome.TheVariants as outcomes
+use Rattle.vpc_model.specs.declared.places.Place.TheVariants as places
+use Rattle.vpc_model.specs.Appliances.{appliances_of}
 use Rattle.vpc_model.specs.Text.{walk_text}
-use Rattle.vpc_model.specs.declared.places.Place.TheVariants.{OutOf}
 use Rattle.vpc_model.specs.Walk.{Walk, walk_of}
 use Rattle.one_subnet.specs.declared.site.Site.{Site}
 use Rattle.one_subnet.specs.Site.{description_of}
@@ -19,12 +20,14 @@ packet_text = line (codes "refused packet NotYet")
 
 -- what a walk answers
 abbrev pub status_of : Outcome → Status
-status_of (Arrived end h) = Yes
-status_of (Stopped s) = No
+status_of (outcomes.Arrived end h) = Yes
+status_of (outcomes.Stopped s) = No
 
 -- the walk of a packet in the described network, with nothing remembered before it
 abbrev pub walk_in : Site → Packet → Walk
-walk_in site packet = walk_of (description_of site) packet.label (record { place = OutOf (record { 0 = packet.start }); header = packet.header; conns = []; nats = [] })
+walk_in site packet =
+    let d = description_of site in
+    walk_of d (appliances_of d) packet.label (record { place = places.OutOf (record { 0 = packet.start }); header = packet.header; conns = []; nats = [] })
 
 abbrev pub traced_status : Site → Packet → Status
 traced_status site packet = let walk = walk_in site packet in status_of walk.outcome

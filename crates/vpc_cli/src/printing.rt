@@ -1,6 +1,6 @@
 // Prints walks.
 ghost use Rattle.std.specs.Prelude.{◌≡◌, ◌<◌, ◌++◌, ◌∷◌, [], OnOk, length, decimal, codes};
-ghost use Rattle.vpc_model.specs.Text.{word, line_end, proto_text, header_text, by_text, dir_text, hop_line, hop_lines, outcome_line, walk_text};
+ghost use Rattle.vpc_model.specs.Text.{word, line_end, proto_text, header_text, by_text, dir_text, hop_line, hop_lines, outcome_line, rule_name, walk_text};
 ghost use Rattle.std.specs.Option.{ForSome};
 ghost use Rattle.vpc_base.specs.declared.headers.Dir.TheVariants.{Inward, Outward};
 ghost use Rattle.subnet_walk.specs.Trace.{by_of, by_if, out_hop, router_hop, in_hop, hops_of, outcome_of};
@@ -131,6 +131,19 @@ fn dir_text(dir: Dir) -> &'static [u8]
     }
 }
 
+// The number of a rule, which has no id of its own.
+fn put_rule_word(
+    out: &mut Vec<u8>,
+    site: &Site,
+    dir: Dir,
+    group: usize,
+    number: usize,
+) -> Result<(), NoMemory>
+    ensures { OnOk result (out.new.items ≡ out.old.items ++ word (rule_name (description_of site.now) (record { group = record { 0 = group }; dir = dir; number = number }))) }
+{
+    put_number_word(out, number as u128)
+}
+
 fn put_by(out: &mut Vec<u8>, site: &Site, dir: Dir, by: PassedBy) -> Result<(), NoMemory>
     requires { IsGroupOf site.now.groups by }
     ensures { OnOk result (out.new.items ≡ out.old.items ++ by_text (description_of site.now) (by_of dir by)) }
@@ -141,7 +154,7 @@ fn put_by(out: &mut Vec<u8>, site: &Site, dir: Dir, by: PassedBy) -> Result<(), 
             put(out, b" by")?;
             put_word(out, group_id(site, group))?;
             put_word(out, dir_text(dir))?;
-            put_number_word(out, number as u128)
+            put_rule_word(out, site, dir, group, number)
         }
     }
 }

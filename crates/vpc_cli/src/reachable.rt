@@ -1,12 +1,10 @@
 // Prints a request that gets through, with its reply.
-ghost use Rattle.std.specs.Prelude.{◌≡◌, ◌<◌, ◌++◌, OnOk, Some, codes, length};
+ghost use Rattle.std.specs.Prelude.{◌≡◌, ◌<◌, ◌++◌, OnOk, None, Some, codes, length};
 ghost use Rattle.vpc_base.specs.Header.{reply_of};
 ghost use Rattle.vpc_model.specs.ReportText.{reachable_text};
 ghost use Rattle.vpc_model.specs.Text.{by_text, hop_line, hop_lines, line_end};
-ghost use Rattle.vpc_model.specs.Verdict.{verdict_of};
-ghost use Rattle.vpc_model.specs.declared.outcomes.Verdict.TheVariants.{Through};
 ghost use Rattle.one_subnet.specs.Site.{description_of};
-ghost use Rattle.subnet_reach.specs.Query.{IsQueryIn, end_at};
+ghost use Rattle.subnet_reach.specs.Query.{IsQueryIn, appliances_in, end_at, meaning_in};
 ghost use Rattle.subnet_walk.specs.Known.{IsKnown};
 ghost use Rattle.subnet_walk.specs.Reach.{answered_at, return_hops};
 ghost use Rattle.subnet_walk.specs.Trace.{in_hop, out_hop, trace_of};
@@ -160,7 +158,7 @@ fn put_through(
 #[tactic(auto, using(crate::proofs::ReachableLemmas::has_reply))]
 fn reply_of(site: &Site, query: &Query, h: &Header) -> Header
     requires query { IsQueryIn site.now query.now }
-    requires through { verdict_of (description_of site.now) (end_at query.now.start) (end_at query.now.goal) h.now ≡ Through }
+    requires through { meaning_in site.now query.now h.now ≡ None }
     ensures { reply_of h.now ≡ Some result }
 {
     match h.reply() {
@@ -177,8 +175,8 @@ pub fn put_reachable(
     h: &Header,
 ) -> Result<(), NoMemory>
     requires query { IsQueryIn site.now query.now }
-    requires through { verdict_of (description_of site.now) (end_at query.now.start) (end_at query.now.goal) h.now ≡ Through }
-    ensures { OnOk result (out.new.items ≡ out.old.items ++ reachable_text (description_of site.now) (end_at query.now.start) (end_at query.now.goal) h.now) }
+    requires through { meaning_in site.now query.now h.now ≡ None }
+    ensures { OnOk result (out.new.items ≡ out.old.items ++ reachable_text (description_of site.now) (appliances_in site.now) (end_at query.now.start) (end_at query.now.goal) h.now) }
 {
     put_through(out, site, query, h, &reply_of(site, query, h))
 }

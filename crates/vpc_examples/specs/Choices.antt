@@ -2,14 +2,18 @@
 use Rattle.std.specs.Prelude.{◌∷◌, ◌≡◌, [], List, None, Option, Some, codes, false, true}
 use Rattle.vpc_examples.specs.Types.{Block, Description, Header, Permission, RuleRef}
 use Rattle.vpc_base.specs.declared.headers.Dir.TheVariants as dirs
+use Rattle.vpc_base.specs.declared.headers.Label.TheVariants as labels
+use Rattle.vpc_model.specs.declared.places.Place.TheVariants as places
 use Rattle.vpc_model.specs.declared.rows.Target.TheVariants as targets
-use Rattle.vpc_examples.specs.Examples.{a_to_server, eni, subnet, tcp}
+use Rattle.vpc_examples.specs.Examples.{a_to_server, connection, eni, first_walk, subnet, tcp}
 use Rattle.vpc_examples.specs.Networks.{allow_all, allow_row, anywhere, block, group, https_from, learnt_route, list_route, main_table, one_list, subnet_table, v4}
 use Rattle.vpc_examples.specs.Stops.{plain_vpc}
 use Rattle.vpc_model.specs.Acls.{acl_verdict}
+use Rattle.vpc_model.specs.Connections.{Connection}
 use Rattle.vpc_model.specs.Groups.{first_rule}
 use Rattle.vpc_model.specs.Lookup.{interface_at, table_of}
 use Rattle.vpc_model.specs.Routes.{chosen_route}
+use Rattle.vpc_model.specs.Walk.{Walk}
 
 abbrev pub out_rule : Description → Header → Option RuleRef
 out_rule d h = first_rule d (interface_at d (eni 0)) dirs.Outward h
@@ -57,3 +61,14 @@ abbrev pub PropagatedRouteCounts : Type 0
 PropagatedRouteCounts =
     (chosen_route one_list (learnt_route anywhere (targets.Other (codes "vgw-1")) ∷ []) (v4 10 1 2 20) ≡ Some 0)
     × (chosen_route one_list (learnt_route (block (v4 10 0 0 0) 8) (targets.Other (codes "vgw-1")) ∷ list_route (codes "pl-1") (targets.Other (codes "vgw-2")) ∷ []) (v4 10 1 2 20) ≡ Some 1)
+
+abbrev pub conns_after : Walk → List Connection
+conns_after w = w.conns
+
+-- an open that the sender's groups refuse leaves nothing behind, and one that the receiver's refuse only what it left at the sender
+abbrev pub RefusedOpenIsForgotten : Type 0
+RefusedOpenIsForgotten =
+    let b_to_a : Header = tcp (v4 10 0 2 20) (v4 10 0 1 10) 0 443 in
+    let a_to_b : Header = tcp (v4 10 0 1 10) (v4 10 0 2 20) 0 80 in
+    (conns_after (first_walk plain_vpc labels.Opening (places.OutOf (eni 1)) b_to_a) ≡ [])
+    × (conns_after (first_walk plain_vpc labels.Opening (places.OutOf (eni 0)) a_to_b) ≡ connection 0 dirs.Outward a_to_b ∷ [])

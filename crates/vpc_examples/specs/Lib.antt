@@ -10,3 +10,4 @@ pub mod Middleboxes
 pub mod Told
 pub mod CutRows
 pub mod Refused
+pub mod Replayed

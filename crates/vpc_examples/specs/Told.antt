@@ -7,13 +7,15 @@ use Rattle.vpc_model.specs.declared.places.End.TheVariants as ends
 use Rattle.vpc_model.specs.declared.stops.Foreign.TheVariants as foreign
 use Rattle.vpc_model.specs.declared.places.Came.TheVariants as from
 use Rattle.vpc_model.specs.declared.rows.NatLife.TheVariants as lives
+use Rattle.vpc_model.specs.declared.refusals.ListName.TheVariants as named
 use Rattle.vpc_model.specs.declared.places.Place.TheVariants as places
+use Rattle.vpc_model.specs.declared.refusals.Refusal.TheVariants as refusals
 use Rattle.vpc_model.specs.declared.stops.Stop.TheVariants as stops
 use Rattle.vpc_model.specs.declared.rows.Target.TheVariants as targets
 use Rattle.vpc_model.specs.declared.places.EnterBy.TheVariants as through
 use Rattle.vpc_examples.specs.Examples.{att, eni, nat, rule, subnet, tcp, vpc}
 use Rattle.vpc_examples.specs.Networks.{acl_1, allow_all, anywhere, bare, block, gone_route, group, host, https_from, list_route, main_table, route, site_attachment, subnet_row, tgw_blackhole, tgw_route, v4}
-use Rattle.vpc_model.specs.Text.{by_text, header_text, stop_text}
+use Rattle.vpc_model.specs.Text.{by_text, header_text, refusal_text, stop_text}
 
 -- one row of each kind
 abbrev pub one_of_each : Description
@@ -127,3 +129,17 @@ PrintsProtocols =
     × ((header_text (record h { proto = 17 }) ≡ codes "udp 10.0.1.10 10.0.2.20 7 53")
     × ((header_text (record h { proto = 1 }) ≡ codes "icmp 10.0.1.10 10.0.2.20 7 53")
     × (header_text (record h { proto = 50 }) ≡ codes "50 10.0.1.10 10.0.2.20 7 53")))
+
+-- each refusal of a description with its arguments
+abbrev pub PrintsRefusals : Type 0
+PrintsRefusals =
+    (refusal_text (refusals.DuplicateId (codes "vpc-1")) ≡ codes "DuplicateId vpc-1")
+    × ((refusal_text (refusals.MissingReference (codes "eni-a") (codes "sg-x")) ≡ codes "MissingReference eni-a sg-x")
+    × ((refusal_text (refusals.DuplicateAddress (codes "vpc-1") (v4 10 0 1 10)) ≡ codes "DuplicateAddress vpc-1 10.0.1.10")
+    × ((refusal_text (refusals.DuplicatePublic (v4 203 0 113 1)) ≡ codes "DuplicatePublic 203.0.113.1")
+    × ((refusal_text (refusals.NoRouteTable (codes "subnet-a")) ≡ codes "NoRouteTable subnet-a")
+    × ((refusal_text (refusals.NoAcl (codes "subnet-a")) ≡ codes "NoAcl subnet-a")
+    × ((refusal_text (refusals.TwoInternetGateways (codes "vpc-1")) ≡ codes "TwoInternetGateways vpc-1")
+    × ((refusal_text (refusals.TwoTables (codes "vpc-1")) ≡ codes "TwoTables vpc-1")
+    × ((refusal_text (refusals.TwoAcls (codes "subnet-a")) ≡ codes "TwoAcls subnet-a")
+    × (refusal_text (refusals.TooManyRows named.SecurityGroups) ≡ codes "TooManyRows SecurityGroups")))))))))

@@ -1,5 +1,5 @@
 // Choices among rows.
-ghost use Rattle.vpc_examples.specs.Choices.{FarAddressIsOutside, FirstRuleCounts, MainTableServesTheRest, PropagatedRouteCounts};
+ghost use Rattle.vpc_examples.specs.Choices.{FarAddressIsOutside, FirstRuleCounts, MainTableServesTheRest, PropagatedRouteCounts, RefusedOpenIsForgotten};
 
 /// Outbound rules look at the destination, inbound ones at the source.
 pub fn looks_at_the_far_address()
@@ -19,4 +19,9 @@ pub fn asks_the_main_table()
 /// Propagated routes count where no local one matches, after those to prefix lists.
 pub fn counts_propagated_routes()
     ensures { PropagatedRouteCounts }
+{}
+
+/// An open that groups refuse is not remembered there.
+pub fn forgets_refused_opens()
+    ensures { RefusedOpenIsForgotten }
 {}

@@ -8,6 +8,7 @@ pub mod gateways;
 pub mod middleboxes;
 pub mod refusals;
 pub mod refused;
+pub mod replayed;
 pub mod subnets;
 pub mod texts;
 pub mod told;

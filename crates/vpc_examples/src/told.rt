@@ -1,5 +1,5 @@
 // Texts of stops, rules and protocols.
-ghost use Rattle.vpc_examples.specs.Told.{PrintsInterfaceStops, PrintsGatewayStops, PrintsTransitStops, PrintsWalkStops, PrintsRules, PrintsProtocols};
+ghost use Rattle.vpc_examples.specs.Told.{PrintsInterfaceStops, PrintsGatewayStops, PrintsTransitStops, PrintsWalkStops, PrintsRules, PrintsProtocols, PrintsRefusals};
 
 /// Stops at interfaces, route tables and ACLs.
 pub fn prints_stops_at_interfaces()
@@ -29,4 +29,9 @@ pub fn prints_rules()
 /// Protocols by name and by number.
 pub fn prints_protocols()
     ensures { PrintsProtocols }
+{}
+
+/// Refusals of a description.
+pub fn prints_refusals()
+    ensures { PrintsRefusals }
 {}

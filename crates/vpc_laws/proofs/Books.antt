@@ -3,18 +3,17 @@ use Rattle.std.proofs.Common.{◌≡◌, ℕ, ◌+◌, ◌≤◌, ◌<◌, ◌^�
 use Rattle.std.specs.List.{list_any, count_by, find, AllByRecursion, IsDistinct}
 use Rattle.std.proofs.lemmas.Bool.{cond_both, and_parts, and_from, eqb-true, eq-eqb, or_parts, or_from, leb-false, cases_Bool}
 use Rattle.std.proofs.lemmas.List.Sums.{sum_by-cons}
-use Rattle.vpc_base.specs.declared.headers.Header.{Header}
-use Rattle.vpc_base.specs.declared.headers.Label.{Label}
 use Rattle.vpc_base.specs.declared.headers.Label.TheVariants.{Opening, Answer}
-use Rattle.vpc_model.specs.declared.numbers.NatNo.{NatNo}
-use Rattle.vpc_model.specs.declared.places.Place.{Place}
 use Rattle.vpc_model.specs.declared.places.Place.TheVariants.{OutOf, Router, Enter, Into, IgwOut, Internet, IgwIn, NatOut, NatIn, Peer, Tgw, TgwLeave}
-use Rattle.vpc_model.specs.declared.rows.Description.{Description}
+use Rattle.vpc_laws.specs.Types.{Description, Header, Label, NatNo, Place}
+use Rattle.vpc_laws.specs.Translations.{IsBook, IsTranslation, collide, same_before}
+use Rattle.vpc_model.specs.Appliances.{Appliances}
 use Rattle.vpc_model.specs.Connections.{same_header}
 use Rattle.vpc_model.specs.Lookup.{nat_at}
 use Rattle.vpc_model.specs.Nat.{Translation, is_full, is_translatable, new_translation, shares, translation_of}
-use Rattle.vpc_model.specs.Step.{Moment, Step, own_address, step_at, step_nat_out, step_of, translate}
-use Rattle.vpc_laws.specs.Laws.{IsBook, IsTranslation, collide, same_before}
+use Rattle.vpc_model.specs.Step.{step_at, step_of}
+use Rattle.vpc_model.specs.Step.Nat.{own_address, step_nat_out, translate}
+use Rattle.vpc_model.specs.Step.Words.{Moment, Step}
 use Rattle.vpc_laws.proofs.Growth.{step_out-nats, step_into-nats, step_internet-nats, step_nat_in-nats}
 use Rattle.vpc_laws.proofs.Ports.{count_by-le, free_port_is_free, new_translation-fits}
 
@@ -39,7 +38,7 @@ count_by-push p (y ∷ ys) x =
     let rest = count_by-push p ys x in
     omega arith
 
-find-none : {X : Type 0} (test : X → Bool) (xs : List X) → find test xs ≡ None → list_any test xs ≡ false
+pub find-none : {X : Type 0} (test : X → Bool) (xs : List X) → find test xs ≡ None → list_any test xs ≡ false
 find-none test [] e = refl
 find-none test (x ∷ xs) e =
     elim (cases_Bool (test x)) [
@@ -114,22 +113,22 @@ step_nat_out-book d Opening n m fits book =
 same-book : (before after : List Translation) → after ≡ before → IsBook before → IsBook after
 same-book before after e book = subst IsBook (sym e) book
 
-pub step_at-book : (d : Description) (label : Label) (p : Place) (m : Moment) → m.header.p < 2 ^ 16 → IsBook m.nats → IsBook (step_at d label p m).nats
-step_at-book d label (OutOf i) m fits book = same-book m.nats _ (step_out-nats d label i m) book
-step_at-book d label (Into i) m fits book = same-book m.nats _ (step_into-nats d label i m) book
-step_at-book d label (Router s came) m fits book = book
-step_at-book d label (Enter v by) m fits book = book
-step_at-book d label (IgwOut v) m fits book = book
-step_at-book d label Internet m fits book = same-book m.nats _ (step_internet-nats d m) book
-step_at-book d label (IgwIn v) m fits book = book
-step_at-book d label (NatOut n) m fits book = step_nat_out-book d label n m fits book
-step_at-book d label (NatIn n) m fits book = same-book m.nats _ (step_nat_in-nats d label n m) book
-step_at-book d label (Peer x v) m fits book = book
-step_at-book d label (Tgw a s) m fits book = book
-step_at-book d label (TgwLeave a s) m fits book = book
+pub step_at-book : (d : Description) (appliances : Appliances) (label : Label) (p : Place) (m : Moment) → m.header.p < 2 ^ 16 → IsBook m.nats → IsBook (step_at d appliances label p m).nats
+step_at-book d appliances label (OutOf i) m fits book = same-book m.nats _ (step_out-nats d label i m) book
+step_at-book d appliances label (Into i) m fits book = same-book m.nats _ (step_into-nats d appliances label i m) book
+step_at-book d appliances label (Router s came) m fits book = book
+step_at-book d appliances label (Enter v by) m fits book = book
+step_at-book d appliances label (IgwOut v) m fits book = book
+step_at-book d appliances label Internet m fits book = same-book m.nats _ (step_internet-nats d m) book
+step_at-book d appliances label (IgwIn v) m fits book = book
+step_at-book d appliances label (NatOut n) m fits book = step_nat_out-book d label n m fits book
+step_at-book d appliances label (NatIn n) m fits book = same-book m.nats _ (step_nat_in-nats d label n m) book
+step_at-book d appliances label (Peer x v) m fits book = book
+step_at-book d appliances label (Tgw a s) m fits book = book
+step_at-book d appliances label (TgwLeave a s) m fits book = book
 
-pub step_keeps_book : (d : Description) (label : Label) (m : Moment) → m.header.p < 2 ^ 16 → IsBook m.nats → IsBook (step_of d label m).nats
-step_keeps_book d label m fits book = step_at-book d label m.place m fits book
+pub step_keeps_book : (d : Description) (appliances : Appliances) (label : Label) (m : Moment) → m.header.p < 2 ^ 16 → IsBook m.nats → IsBook (step_of d appliances label m).nats
+step_keeps_book d appliances label m fits book = step_at-book d appliances label m.place m fits book
 
 pub IsBook-nil : IsBook []
 unfolding IsDistinct

@@ -1,40 +1,38 @@
 -- An open keeps its protocol and q.
-use Rattle.std.proofs.Common.{◌≡◌, ℕ, ◌<◌, ◌^◌, ◌==◌, ◌&&◌, ◌||◌, not, Bool, true, false, List, [], ◌∷◌, Option, Some, None, refl, ◌∙◌, is_none}
+use Rattle.std.proofs.Common.{◌≡◌, ℕ, ◌<◌, ◌^◌, ◌==◌, ◌&&◌, ◌||◌, not, Bool, true, false, List, [], ◌∷◌, Option, Some, None, refl, cond, ◌∙◌, is_none}
 use Rattle.std.specs.List.{AllByRecursion, find, slice_index_or}
 use Rattle.std.proofs.lemmas.Bool.{cond_both, and_parts, eqb-true, true≢false}
-use Rattle.vpc_base.specs.declared.headers.Header.{Header}
 use Rattle.vpc_base.specs.declared.headers.Dir.TheVariants.{Inward, Outward}
-use Rattle.vpc_base.specs.declared.headers.Label.{Label}
-use Rattle.vpc_base.specs.declared.headers.Label.TheVariants.{Opening}
-use Rattle.vpc_model.specs.declared.numbers.VpcNo.{VpcNo}
-use Rattle.vpc_model.specs.declared.numbers.SubnetNo.{SubnetNo}
-use Rattle.vpc_model.specs.declared.numbers.EniNo.{EniNo}
-use Rattle.vpc_model.specs.declared.numbers.TableNo.{TableNo}
-use Rattle.vpc_model.specs.declared.numbers.IgwNo.{IgwNo}
-use Rattle.vpc_model.specs.declared.numbers.NatNo.{NatNo}
-use Rattle.vpc_model.specs.declared.numbers.PeerNo.{PeerNo}
-use Rattle.vpc_model.specs.declared.numbers.AttNo.{AttNo}
-use Rattle.vpc_model.specs.declared.numbers.TgwTableNo.{TgwTableNo}
-use Rattle.vpc_model.specs.declared.outcomes.By.{By}
-use Rattle.vpc_model.specs.declared.places.Place.{Place}
+use Rattle.vpc_base.specs.declared.headers.Label.TheVariants.{Answer, Opening}
 use Rattle.vpc_model.specs.declared.places.Place.TheVariants.{OutOf, Router, Enter, Into, IgwOut, Internet, IgwIn, NatOut, NatIn, Peer, Tgw, TgwLeave}
-use Rattle.vpc_model.specs.declared.rows.Description.{Description}
-use Rattle.vpc_model.specs.declared.rows.NatLife.{NatLife}
 use Rattle.vpc_model.specs.declared.rows.NatLife.TheVariants.{Gone, Unmodelled as WithoutSubnet, Live}
-use Rattle.vpc_model.specs.declared.rows.Target.{Target}
 use Rattle.vpc_model.specs.declared.rows.Target.TheVariants.{Local, Internet as ToInternet, Nat as ToNat, Transit as ToTransit, Peer as ToPeer, Interface as ToInterface, Other}
-use Rattle.vpc_model.specs.declared.stops.Stop.{Stop}
-use Rattle.vpc_model.specs.declared.stops.Stop.TheVariants.{NotAHost}
+use Rattle.vpc_model.specs.declared.stops.Stop.TheVariants.{AclIn, AclOut, ApplianceDrop, NotAHost}
+use Rattle.vpc_model.specs.declared.places.End.TheVariants.{Interface}
+use Rattle.vpc_laws.specs.Types.{AttNo, Box5, By, Description, EniNo, Header, IgwNo, Label, NatLife, NatNo, PeerNo, Place, Stop, SubnetNo, TableNo, Target, TgwTableNo, VpcNo}
+use Rattle.vpc_laws.specs.Step.{KeepsFlow, SendsSame, StopsItself, is_of_step, is_rewriting}
+use Rattle.vpc_laws.specs.Translations.{IsTranslation}
+use Rattle.vpc_model.specs.Appliances.{Appliances, boxes_at, passes}
+use Rattle.vpc_model.specs.Acls.{acl_verdict}
+use Rattle.vpc_model.specs.Choice.{or_else}
 use Rattle.vpc_model.specs.Connections.{Connection, passing_of, same_header}
 use Rattle.vpc_model.specs.Internet.{is_unroutable, owner_of, public_of}
-use Rattle.vpc_model.specs.Lookup.{attachment_of_id, eni_no, gateway_of, has_address, has_vpc, host_of, igw_no, interface_at, nat_at, nat_no, peer_no, peering_at, subnet_no, subnet_of, table_at, table_of, tgw_table_at, vpc_at, vpc_no, vpc_of_subnet}
-use Rattle.vpc_model.specs.Nat.{Translation, is_full, is_translatable, translation_of}
+use Rattle.vpc_model.specs.Lookup.{acl_at, acl_of, attachment_of_id, eni_no, gateway_of, has_address, has_vpc, host_of, igw_no, interface_at, nat_at, nat_no, peer_no, peering_at, subnet_no, subnet_of, table_at, table_of, tgw_table_at, vpc_at, vpc_no, vpc_of_subnet}
+use Rattle.vpc_model.specs.Nat.{Translation, inward, is_full, is_translatable, translation_of}
 use Rattle.vpc_model.specs.Peerings.{has_block, other_side}
 use Rattle.vpc_model.specs.Routes.{chosen_route}
-use Rattle.vpc_model.specs.Step.{Moment, Next, Step, go, arrive, stop, by_attachment, by_pair, by_route, by_tgw_route, by_tgw_table, crossing, deliver, deliver_by, enter_host, entering, go_public, in_passing, is_attached, is_gateway, leave_by, leaving, nat_of, no_route, no_tgw_route, out_passing, over_peering, own_address, step_at, step_internet, step_into, step_nat_out, step_of, step_out, step_router, to_attachment, to_host, to_interface, to_internet, to_nat, to_owner, to_peer, to_target, to_transit, to_zone, translate, unless_stopped}
-use Rattle.vpc_model.specs.Transit.{attachment_for, zone_subnet, table_of_attachment, chosen_tgw_route, leave_subnet}
+use Rattle.vpc_model.specs.Step.{step_at, step_of}
+use Rattle.vpc_model.specs.Step.Crossing.{crossing, deliver, deliver_by, entering, is_gateway, leaving, nat_of}
+use Rattle.vpc_model.specs.Step.Enter.{enter_host}
+use Rattle.vpc_model.specs.Step.Interface.{forwarded, in_passing, out_passing, step_into, step_out}
+use Rattle.vpc_model.specs.Step.Internet.{go_public, step_internet, to_owner}
+use Rattle.vpc_model.specs.Step.Nat.{from_inward, own_address, step_nat_out, translate}
+use Rattle.vpc_model.specs.Step.Peering.{by_pair, over_peering}
+use Rattle.vpc_model.specs.Step.Router.{by_route, is_attached, no_route, step_router, to_host, to_interface, to_internet, to_nat, to_peer, to_target, to_transit, to_zone}
+use Rattle.vpc_model.specs.Step.Transit.{by_attachment, by_tgw_route, by_tgw_table, leave_by, no_tgw_route, to_attachment}
+use Rattle.vpc_model.specs.Step.Words.{Moment, Next, Step, arrive, go, stop, unless_stopped}
+use Rattle.vpc_model.specs.Transit.{attachment_for, chosen_tgw_route, leave_subnet, table_of_attachment, zone_subnet}
 use Rattle.vpc_laws.proofs.Ports.{new_translation-fits}
-use Rattle.vpc_laws.specs.Laws.{KeepsFlow, SendsSame, IsTranslation, is_rewriting}
 
 -- a header of the same protocol and q, whose p fits its field where the first's does; it is the first where nothing is rewritten
 pub record IsFlow (rewritten : Bool) (h k : Header) : Type 0 where
@@ -46,77 +44,114 @@ pub record IsFlow (rewritten : Bool) (h k : Header) : Type 0 where
 abbrev pub Flows : Bool → Header → Next → Type 0
 Flows rewritten h (go p k) = IsFlow rewritten h k
 Flows rewritten h (arrive end) = Unit {0}
-Flows rewritten h (stop s) = Unit {0}
+Flows rewritten h (stop s) = is_of_step s ≡ true
 
-unless_stopped-flow : (h : Header) (s : Option Stop) (x : Next) → Flows false h x → Flows false h (unless_stopped s x)
-unless_stopped-flow h None x keeps = keeps
-unless_stopped-flow h (Some s) x keeps = tt
+-- a stop of a step, if there is one
+abbrev pub IsOwn : Option Stop → Type 0
+IsOwn None = Unit {0}
+IsOwn (Some s) = is_of_step s ≡ true
+
+leaving-own : (d : Description) (s : SubnetNo) (h : Header) → IsOwn (leaving d s h)
+leaving-own d s h =
+    let a = acl_at d (acl_of d s) in
+    let verdict = acl_verdict a.rows Outward h in
+    cond_both verdict.0 None (Some (AclOut (acl_of d s) verdict.1)) IsOwn (λ _. tt) (λ _. refl)
+
+entering-own : (d : Description) (s : SubnetNo) (h : Header) → IsOwn (entering d s h)
+entering-own d s h =
+    let a = acl_at d (acl_of d s) in
+    let verdict = acl_verdict a.rows Inward h in
+    cond_both verdict.0 None (Some (AclIn (acl_of d s) verdict.1)) IsOwn (λ _. tt) (λ _. refl)
+
+or_else-own : (s t : Option Stop) → IsOwn s → IsOwn t → IsOwn (or_else s t)
+or_else-own None t a b = b
+or_else-own (Some s) t a b = a
+
+crossing-own : (d : Description) (s t : SubnetNo) (h : Header) → IsOwn (crossing d s t h)
+crossing-own d s t h =
+    cond_both (s.0 == t.0) None (or_else (leaving d s h) (entering d t h)) IsOwn (λ _. tt)
+    (λ _. or_else-own (leaving d s h) (entering d t h) (leaving-own d s h) (entering-own d t h))
+
+unless_stopped-flow : (h : Header) (s : Option Stop) (x : Next) → IsOwn s → Flows false h x → Flows false h (unless_stopped s x)
+unless_stopped-flow h None x own keeps = keeps
+unless_stopped-flow h (Some s) x own keeps = own
 
 -- ---- interfaces
 
 out_passing-flow : (d : Description) (i : EniNo) (m : Moment) (by : Option By) (conns : List Connection) → Flows false m.header (out_passing d i m (record { by = by; conns = conns })).next
-out_passing-flow d i m None conns = tt
+out_passing-flow d i m None conns = refl
 out_passing-flow d i m (Some by) conns = record { proto = refl; q = refl; p = λ fits. fits; same = λ _. refl }
 
-in_passing-flow : (i : EniNo) (m : Moment) (by : Option By) (conns : List Connection) → Flows false m.header (in_passing i m (record { by = by; conns = conns })).next
-in_passing-flow i m None conns = tt
-in_passing-flow i m (Some by) conns = tt
+-- arrived or sent on, by the boxes of the appliance there
+abbrev pub taken_by : Description → EniNo → Header → Option (List Box5) → Next
+taken_by d i h None = arrive (Interface i)
+taken_by d i h (Some boxes) = cond (has_address (interface_at d i) h.dst) (arrive (Interface i)) (forwarded i h boxes)
+
+taken_by-flow : (d : Description) (i : EniNo) (h : Header) (boxes : Option (List Box5)) → Flows false h (taken_by d i h boxes)
+taken_by-flow d i h None = tt
+taken_by-flow d i h (Some boxes) =
+    cond_both (has_address (interface_at d i) h.dst) (arrive (Interface i)) (forwarded i h boxes) (λ (x : Next). Flows false h x) (λ _. tt)
+    (λ _. cond_both (passes boxes h) (go (OutOf i) h) (stop (ApplianceDrop i)) (λ (x : Next). Flows false h x) (λ _. record { proto = refl; q = refl; p = λ fits. fits; same = λ _. refl }) (λ _. refl))
+
+in_passing-flow : (d : Description) (appliances : Appliances) (i : EniNo) (m : Moment) (by : Option By) (conns : List Connection) → Flows false m.header (in_passing d appliances i m (record { by = by; conns = conns })).next
+in_passing-flow d appliances i m None conns = refl
+in_passing-flow d appliances i m (Some by) conns = taken_by-flow d i m.header (boxes_at appliances i)
 
 step_out-flow : (d : Description) (label : Label) (i : EniNo) (m : Moment) → Flows false m.header (step_out d label i m).next
 step_out-flow d label i m =
     let e = interface_at d i in
     let passing = passing_of d label i Outward m.header m.conns in
-    cond_both e.idle _ _ (λ (s : Step). Flows false m.header s.next) (λ _. tt)
-    (λ _. cond_both (e.checked && not (has_address e m.header.src)) _ _ (λ (s : Step). Flows false m.header s.next) (λ _. tt)
+    cond_both e.idle _ _ (λ (s : Step). Flows false m.header s.next) (λ _. refl)
+    (λ _. cond_both (e.checked && not (has_address e m.header.src)) _ _ (λ (s : Step). Flows false m.header s.next) (λ _. refl)
     (λ _. out_passing-flow d i m passing.by passing.conns))
 
-step_into-flow : (d : Description) (label : Label) (i : EniNo) (m : Moment) → Flows false m.header (step_into d label i m).next
-step_into-flow d label i m =
+step_into-flow : (d : Description) (appliances : Appliances) (label : Label) (i : EniNo) (m : Moment) → Flows false m.header (step_into d appliances label i m).next
+step_into-flow d appliances label i m =
     let e = interface_at d i in
     let passing = passing_of d label i Inward m.header m.conns in
-    cond_both e.idle _ _ (λ (s : Step). Flows false m.header s.next) (λ _. tt)
-    (λ _. cond_both (e.checked && not (has_address e m.header.dst)) _ _ (λ (s : Step). Flows false m.header s.next) (λ _. tt)
-    (λ _. in_passing-flow i m passing.by passing.conns))
+    cond_both e.idle _ _ (λ (s : Step). Flows false m.header s.next) (λ _. refl)
+    (λ _. cond_both (e.checked && not (has_address e m.header.dst)) _ _ (λ (s : Step). Flows false m.header s.next) (λ _. refl)
+    (λ _. in_passing-flow d appliances i m passing.by passing.conns))
 
 deliver_by-flow : (d : Description) (i : EniNo) (h : Header) (n : Option NatNo) → Flows false h (deliver_by d i h n)
 deliver_by-flow d i h (Some n) = record { proto = refl; q = refl; p = λ fits. fits; same = λ _. refl }
-deliver_by-flow d i h None = let e = interface_at d i in cond_both (is_gateway e.kind) _ _ (λ (x : Next). Flows false h x) (λ _. tt) (λ _. record { proto = refl; q = refl; p = λ fits. fits; same = λ _. refl })
+deliver_by-flow d i h None = let e = interface_at d i in cond_both (is_gateway e.kind) _ _ (λ (x : Next). Flows false h x) (λ _. refl) (λ _. record { proto = refl; q = refl; p = λ fits. fits; same = λ _. refl })
 
 -- ---- routers
 
 to_host-flow : (d : Description) (s : SubnetNo) (h : Header) (i : Option EniNo) → Flows false h (to_host d s h i)
-to_host-flow d s h None = tt
-to_host-flow d s h (Some i) = unless_stopped-flow h (crossing d s (subnet_of d i) h) (deliver d i h) (deliver_by-flow d i h (nat_of d i))
+to_host-flow d s h None = refl
+to_host-flow d s h (Some i) = unless_stopped-flow h (crossing d s (subnet_of d i) h) (deliver d i h) (crossing-own d s (subnet_of d i) h) (deliver_by-flow d i h (nat_of d i))
 
 to_internet-flow : (d : Description) (s : SubnetNo) (h : Header) → (g : IgwNo) → Flows false h (to_internet d s h g)
 to_internet-flow d s h g =
     let v = vpc_of_subnet d s in
-    cond_both (is_attached g (gateway_of d v)) _ _ (λ (x : Next). Flows false h x) (λ _. unless_stopped-flow h (leaving d s h) (go (IgwOut v) h) record { proto = refl; q = refl; p = λ fits. fits; same = λ _. refl }) (λ _. tt)
+    cond_both (is_attached g (gateway_of d v)) _ _ (λ (x : Next). Flows false h x) (λ _. unless_stopped-flow h (leaving d s h) (go (IgwOut v) h) (leaving-own d s h) record { proto = refl; q = refl; p = λ fits. fits; same = λ _. refl }) (λ _. refl)
 
 to_nat-flow : (d : Description) (s : SubnetNo) (h : Header) (n : NatNo) (life : NatLife) → Flows false h (to_nat d s h n life)
-to_nat-flow d s h n Gone = tt
-to_nat-flow d s h n WithoutSubnet = tt
-to_nat-flow d s h n (Live subnet eni address) = unless_stopped-flow h (crossing d s (subnet_no d subnet) h) (go (NatOut n) h) record { proto = refl; q = refl; p = λ fits. fits; same = λ _. refl }
+to_nat-flow d s h n Gone = refl
+to_nat-flow d s h n WithoutSubnet = refl
+to_nat-flow d s h n (Live subnet eni address) = unless_stopped-flow h (crossing d s (subnet_no d subnet) h) (go (NatOut n) h) (crossing-own d s (subnet_no d subnet) h) record { proto = refl; q = refl; p = λ fits. fits; same = λ _. refl }
 
 to_peer-flow : (d : Description) (s : SubnetNo) (h : Header) (x : PeerNo) (pair : Option (List ℕ × List ℕ)) → Flows false h (to_peer d s h x pair)
-to_peer-flow d s h x None = tt
+to_peer-flow d s h x None = refl
 to_peer-flow d s h x (Some pair) =
     let v = vpc_of_subnet d s in
     let row = vpc_at d v in
-    cond_both (has_vpc d (other_side row.id pair)) _ _ (λ (y : Next). Flows false h y) (λ _. unless_stopped-flow h (leaving d s h) (go (Peer x v) h) record { proto = refl; q = refl; p = λ fits. fits; same = λ _. refl }) (λ _. tt)
+    cond_both (has_vpc d (other_side row.id pair)) _ _ (λ (y : Next). Flows false h y) (λ _. unless_stopped-flow h (leaving d s h) (go (Peer x v) h) (leaving-own d s h) record { proto = refl; q = refl; p = λ fits. fits; same = λ _. refl }) (λ _. refl)
 
 to_zone-flow : (d : Description) (s : SubnetNo) (h : Header) (a : AttNo) (t : Option SubnetNo) → Flows false h (to_zone d s h a t)
-to_zone-flow d s h a None = tt
-to_zone-flow d s h a (Some t) = unless_stopped-flow h _ (go (Tgw a t) h) record { proto = refl; q = refl; p = λ fits. fits; same = λ _. refl }
+to_zone-flow d s h a None = refl
+to_zone-flow d s h a (Some t) = unless_stopped-flow h (or_else (leaving d s h) (entering d t h)) (go (Tgw a t) h) (or_else-own (leaving d s h) (entering d t h) (leaving-own d s h) (entering-own d t h)) record { proto = refl; q = refl; p = λ fits. fits; same = λ _. refl }
 
 to_transit-flow : (d : Description) (s : SubnetNo) (h : Header) (t : TableNo) (k : ℕ) (a : Option AttNo) → Flows false h (to_transit d s h t k a)
-to_transit-flow d s h t k None = tt
+to_transit-flow d s h t k None = refl
 to_transit-flow d s h t k (Some a) = to_zone-flow d s h a (zone_subnet d a s)
 
 to_interface-flow : (d : Description) (s : SubnetNo) (h : Header) (j : EniNo) → Flows false h (to_interface d s h j)
 to_interface-flow d s h j =
     let e = interface_at d j in
-    unless_stopped-flow h (crossing d s (subnet_of d j) h) _ (cond_both (is_gateway e.kind) (stop (NotAHost j)) (go (Into j) h) (λ (x : Next). Flows false h x) (λ _. tt) (λ _. record { proto = refl; q = refl; p = λ fits. fits; same = λ _. refl }))
+    unless_stopped-flow h (crossing d s (subnet_of d j) h) _ (crossing-own d s (subnet_of d j) h) (cond_both (is_gateway e.kind) (stop (NotAHost j)) (go (Into j) h) (λ (x : Next). Flows false h x) (λ _. refl) (λ _. record { proto = refl; q = refl; p = λ fits. fits; same = λ _. refl }))
 
 to_target-flow : (d : Description) (s : SubnetNo) (h : Header) (t : TableNo) (k : ℕ) (target : Target) → Flows false h (to_target d s h t k target)
 to_target-flow d s h t k Local = to_host-flow d s h (host_of d (vpc_of_subnet d s) h.dst)
@@ -125,14 +160,14 @@ to_target-flow d s h t k (ToNat id) = let row = nat_at d (nat_no d id) in to_nat
 to_target-flow d s h t k (ToPeer id) = let row = peering_at d (peer_no d id) in to_peer-flow d s h (peer_no d id) row.pair
 to_target-flow d s h t k (ToTransit id) = to_transit-flow d s h t k (attachment_for d id s)
 to_target-flow d s h t k (ToInterface id) = to_interface-flow d s h (eni_no d id)
-to_target-flow d s h t k (Other id) = tt
+to_target-flow d s h t k (Other id) = refl
 
 by_route-flow : (d : Description) (s : SubnetNo) (h : Header) (t : TableNo) (k : Option ℕ) → Flows false h (by_route d s h t k)
-by_route-flow d s h t None = tt
+by_route-flow d s h t None = refl
 by_route-flow d s h t (Some k) =
     let table = table_at d t in
     let r = slice_index_or table.routes k no_route in
-    cond_both r.blackhole _ (to_target d s h t k r.target) (λ (x : Next). Flows false h x) (λ _. tt) (λ _. to_target-flow d s h t k r.target)
+    cond_both r.blackhole _ (to_target d s h t k r.target) (λ (x : Next). Flows false h x) (λ _. refl) (λ _. to_target-flow d s h t k r.target)
 
 step_router-flow : (d : Description) (s : SubnetNo) (m : Moment) → Flows false m.header (step_router d s m).next
 step_router-flow d s m =
@@ -143,21 +178,21 @@ step_router-flow d s m =
 -- ---- gateways
 
 enter_host-flow : (d : Description) (v : VpcNo) (h : Header) (i : Option EniNo) → Flows false h (enter_host d v h i)
-enter_host-flow d v h None = tt
-enter_host-flow d v h (Some i) = unless_stopped-flow h (entering d (subnet_of d i) h) (deliver d i h) (deliver_by-flow d i h (nat_of d i))
+enter_host-flow d v h None = refl
+enter_host-flow d v h (Some i) = unless_stopped-flow h (entering d (subnet_of d i) h) (deliver d i h) (entering-own d (subnet_of d i) h) (deliver_by-flow d i h (nat_of d i))
 
 go_public-flow : (d : Description) (v : VpcNo) (h : Header) (a : Option ℕ) → Flows true h (go_public d v h a)
-go_public-flow d v h None = tt
+go_public-flow d v h None = refl
 go_public-flow d v h (Some a) = record { proto = refl; q = refl; p = λ fits. fits; same = λ e. absurd (true≢false e) }
 
 to_owner-flow : (d : Description) (h : Header) (v : Option VpcNo) → Flows false h (to_owner d h v)
 to_owner-flow d h None = tt
-to_owner-flow d h (Some v) = cond_both (is_none (gateway_of d v)) _ _ (λ (x : Next). Flows false h x) (λ _. tt) (λ _. record { proto = refl; q = refl; p = λ fits. fits; same = λ _. refl })
+to_owner-flow d h (Some v) = cond_both (is_none (gateway_of d v)) _ _ (λ (x : Next). Flows false h x) (λ _. refl) (λ _. record { proto = refl; q = refl; p = λ fits. fits; same = λ _. refl })
 
 step_internet-flow : (d : Description) (m : Moment) → Flows false m.header (step_internet d m).next
 step_internet-flow d m =
     cond_both (is_unroutable m.header.src || is_unroutable m.header.dst) _ _ (λ (s : Step). Flows false m.header s.next)
-    (λ _. tt) (λ _. to_owner-flow d m.header (owner_of d m.header.dst))
+    (λ _. refl) (λ _. to_owner-flow d m.header (owner_of d m.header.dst))
 
 -- what a look-up finds passes the test, and is as all are
 abbrev pub Found : {X : Type 0} → (X → Type 0) → (X → Bool) → Option X → Type 0
@@ -199,7 +234,7 @@ same_header-fields a b e =
 translate-flow : (d : Description) (n : NatNo) (m : Moment) (t : Option Translation) → Found IsTranslation (is_of n m.header) t → Flows true m.header (translate d n m t).next
 translate-flow d n m None found =
     let row = nat_at d n in
-    cond_both (is_full m.nats n m.header) _ _ (λ (s : Step). Flows true m.header s.next) (λ _. tt)
+    cond_both (is_full m.nats n m.header) _ _ (λ (s : Step). Flows true m.header s.next) (λ _. refl)
     (λ _. record { proto = refl; q = refl; p = λ fits. (new_translation-fits m.nats n (own_address row.life) m.header fits).1; same = λ e. absurd (true≢false e) })
 translate-flow d n m (Some t) (here, is) =
     let same = same_header-fields t.before m.header (and_parts (t.nat.0 == n.0) (same_header t.before m.header) here).1 in
@@ -208,82 +243,121 @@ translate-flow d n m (Some t) (here, is) =
 step_nat_out-flow : (d : Description) (n : NatNo) (m : Moment) → AllByRecursion IsTranslation m.nats → Flows true m.header (step_nat_out d Opening n m).next
 step_nat_out-flow d n m all =
     cond_both (is_translatable m.header.proto) (translate d n m (translation_of m.nats n m.header)) _ (λ (s : Step). Flows true m.header s.next)
-    (λ _. translate-flow d n m (translation_of m.nats n m.header) (find-found IsTranslation (is_of n m.header) m.nats all)) (λ _. tt)
+    (λ _. translate-flow d n m (translation_of m.nats n m.header) (find-found IsTranslation (is_of n m.header) m.nats all)) (λ _. refl)
 
 over_peering-flow : (d : Description) (x : PeerNo) (v w : VpcNo) (h : Header) → Flows false h (over_peering d x v w h)
 over_peering-flow d x v w h =
-    cond_both (not (has_block d v h.src)) _ _ (λ (y : Next). Flows false h y) (λ _. tt)
-    (λ _. cond_both (not (has_block d w h.dst)) _ _ (λ (y : Next). Flows false h y) (λ _. tt) (λ _. record { proto = refl; q = refl; p = λ fits. fits; same = λ _. refl }))
+    cond_both (not (has_block d v h.src)) _ _ (λ (y : Next). Flows false h y) (λ _. refl)
+    (λ _. cond_both (not (has_block d w h.dst)) _ _ (λ (y : Next). Flows false h y) (λ _. refl) (λ _. record { proto = refl; q = refl; p = λ fits. fits; same = λ _. refl }))
 
 by_pair-flow : (d : Description) (x : PeerNo) (v : VpcNo) (h : Header) (pair : Option (List ℕ × List ℕ)) → Flows false h (by_pair d x v h pair)
-by_pair-flow d x v h None = tt
+by_pair-flow d x v h None = refl
 by_pair-flow d x v h (Some pair) = let row = vpc_at d v in over_peering-flow d x v (vpc_no d (other_side row.id pair)) h
 
 to_attachment-flow : (s : SubnetNo) (h : Header) (t : TgwTableNo) (k : ℕ) (a : Option AttNo) → Flows false h (to_attachment s h t k a)
-to_attachment-flow s h t k None = tt
+to_attachment-flow s h t k None = refl
 to_attachment-flow s h t k (Some a) = record { proto = refl; q = refl; p = λ fits. fits; same = λ _. refl }
 
 by_attachment-flow : (d : Description) (s : SubnetNo) (h : Header) (t : TgwTableNo) (k : ℕ) (id : Option (List ℕ)) → Flows false h (by_attachment d s h t k id)
-by_attachment-flow d s h t k None = tt
+by_attachment-flow d s h t k None = refl
 by_attachment-flow d s h t k (Some id) = to_attachment-flow s h t k (attachment_of_id d id)
 
 by_tgw_route-flow : (d : Description) (s : SubnetNo) (h : Header) (t : TgwTableNo) (k : Option ℕ) → Flows false h (by_tgw_route d s h t k)
-by_tgw_route-flow d s h t None = tt
+by_tgw_route-flow d s h t None = refl
 by_tgw_route-flow d s h t (Some k) =
     let table = tgw_table_at d t in
     let r = slice_index_or table.routes k no_tgw_route in
-    cond_both r.blackhole _ (by_attachment d s h t k r.attachment) (λ (x : Next). Flows false h x) (λ _. tt) (λ _. by_attachment-flow d s h t k r.attachment)
+    cond_both r.blackhole _ (by_attachment d s h t k r.attachment) (λ (x : Next). Flows false h x) (λ _. refl) (λ _. by_attachment-flow d s h t k r.attachment)
 
 by_tgw_table-flow : (d : Description) (a : AttNo) (s : SubnetNo) (h : Header) (t : Option TgwTableNo) → Flows false h (by_tgw_table d a s h t)
-by_tgw_table-flow d a s h None = tt
+by_tgw_table-flow d a s h None = refl
 by_tgw_table-flow d a s h (Some t) = let table = tgw_table_at d t in by_tgw_route-flow d s h t (chosen_tgw_route table.routes h.dst)
 
 leave_by-flow : (a : AttNo) (h : Header) (s : Option SubnetNo) → Flows false h (leave_by a h s)
-leave_by-flow a h None = tt
+leave_by-flow a h None = refl
 leave_by-flow a h (Some s) = record { proto = refl; q = refl; p = λ fits. fits; same = λ _. refl }
 
 -- ---- all places
 
-pub step_at-flow : (d : Description) (p : Place) (m : Moment) → AllByRecursion IsTranslation m.nats → Flows (is_rewriting p) m.header (step_at d Opening p m).next
-step_at-flow d (OutOf i) m all = step_out-flow d Opening i m
-step_at-flow d (Router s came) m all = step_router-flow d s m
-step_at-flow d (Enter v by) m all = enter_host-flow d v m.header (host_of d v m.header.dst)
-step_at-flow d (Into i) m all = step_into-flow d Opening i m
-step_at-flow d (IgwOut v) m all = go_public-flow d v m.header (public_of d v m.header.src)
-step_at-flow d Internet m all = step_internet-flow d m
-step_at-flow d (IgwIn v) m all = record { proto = refl; q = refl; p = λ fits. fits; same = λ e. absurd (true≢false e) }
-step_at-flow d (NatOut n) m all = step_nat_out-flow d n m all
-step_at-flow d (NatIn n) m all = tt
-step_at-flow d (Peer x v) m all = let row = peering_at d x in by_pair-flow d x v m.header row.pair
-step_at-flow d (Tgw a s) m all = by_tgw_table-flow d a s m.header (table_of_attachment d a)
-step_at-flow d (TgwLeave a s) m all = leave_by-flow a m.header (leave_subnet d a s)
+pub step_at-flow : (d : Description) (appliances : Appliances) (p : Place) (m : Moment) → AllByRecursion IsTranslation m.nats → Flows (is_rewriting p) m.header (step_at d appliances Opening p m).next
+step_at-flow d appliances (OutOf i) m all = step_out-flow d Opening i m
+step_at-flow d appliances (Router s came) m all = step_router-flow d s m
+step_at-flow d appliances (Enter v by) m all = enter_host-flow d v m.header (host_of d v m.header.dst)
+step_at-flow d appliances (Into i) m all = step_into-flow d appliances Opening i m
+step_at-flow d appliances (IgwOut v) m all = go_public-flow d v m.header (public_of d v m.header.src)
+step_at-flow d appliances Internet m all = step_internet-flow d m
+step_at-flow d appliances (IgwIn v) m all = record { proto = refl; q = refl; p = λ fits. fits; same = λ e. absurd (true≢false e) }
+step_at-flow d appliances (NatOut n) m all = step_nat_out-flow d n m all
+step_at-flow d appliances (NatIn n) m all = refl
+step_at-flow d appliances (Peer x v) m all = let row = peering_at d x in by_pair-flow d x v m.header row.pair
+step_at-flow d appliances (Tgw a s) m all = by_tgw_table-flow d a s m.header (table_of_attachment d a)
+step_at-flow d appliances (TgwLeave a s) m all = leave_by-flow a m.header (leave_subnet d a s)
 
 pub Flows-keeps : (rewritten : Bool) (h : Header) (x : Next) → Flows rewritten h x → KeepsFlow h x
 Flows-keeps rewritten h (go p k) flow = (flow.proto, flow.q)
 Flows-keeps rewritten h (arrive end) flow = tt
 Flows-keeps rewritten h (stop s) flow = tt
 
-pub open_keeps_flow : (d : Description) (m : Moment) → AllByRecursion IsTranslation m.nats → KeepsFlow m.header (step_of d Opening m).next
-open_keeps_flow d m all = Flows-keeps (is_rewriting m.place) m.header (step_of d Opening m).next (step_at-flow d m.place m all)
+pub open_keeps_flow : (d : Description) (appliances : Appliances) (m : Moment) → AllByRecursion IsTranslation m.nats → KeepsFlow m.header (step_of d appliances Opening m).next
+open_keeps_flow d appliances m all = Flows-keeps (is_rewriting m.place) m.header (step_of d appliances Opening m).next (step_at-flow d appliances m.place m all)
 
 Flows-same : (h : Header) (x : Next) → Flows false h x → SendsSame h x
 Flows-same h (go p k) flow = flow.same refl
 Flows-same h (arrive end) flow = tt
 Flows-same h (stop s) flow = tt
 
-step_at-same : (d : Description) (label : Label) (p : Place) (m : Moment) → is_rewriting p ≡ false → SendsSame m.header (step_at d label p m).next
-step_at-same d label (OutOf i) m e = Flows-same m.header (step_out d label i m).next (step_out-flow d label i m)
-step_at-same d label (Router s came) m e = Flows-same m.header (step_router d s m).next (step_router-flow d s m)
-step_at-same d label (Enter v by) m e = Flows-same m.header (enter_host d v m.header (host_of d v m.header.dst)) (enter_host-flow d v m.header (host_of d v m.header.dst))
-step_at-same d label (Into i) m e = Flows-same m.header (step_into d label i m).next (step_into-flow d label i m)
-step_at-same d label (IgwOut v) m e = absurd (true≢false e)
-step_at-same d label Internet m e = Flows-same m.header (step_internet d m).next (step_internet-flow d m)
-step_at-same d label (IgwIn v) m e = absurd (true≢false e)
-step_at-same d label (NatOut n) m e = absurd (true≢false e)
-step_at-same d label (NatIn n) m e = absurd (true≢false e)
-step_at-same d label (Peer x v) m e = let row = peering_at d x in Flows-same m.header (by_pair d x v m.header row.pair) (by_pair-flow d x v m.header row.pair)
-step_at-same d label (Tgw a s) m e = Flows-same m.header (by_tgw_table d a s m.header (table_of_attachment d a)) (by_tgw_table-flow d a s m.header (table_of_attachment d a))
-step_at-same d label (TgwLeave a s) m e = Flows-same m.header (leave_by a m.header (leave_subnet d a s)) (leave_by-flow a m.header (leave_subnet d a s))
+step_at-same : (d : Description) (appliances : Appliances) (label : Label) (p : Place) (m : Moment) → is_rewriting p ≡ false → SendsSame m.header (step_at d appliances label p m).next
+step_at-same d appliances label (OutOf i) m e = Flows-same m.header (step_out d label i m).next (step_out-flow d label i m)
+step_at-same d appliances label (Router s came) m e = Flows-same m.header (step_router d s m).next (step_router-flow d s m)
+step_at-same d appliances label (Enter v by) m e = Flows-same m.header (enter_host d v m.header (host_of d v m.header.dst)) (enter_host-flow d v m.header (host_of d v m.header.dst))
+step_at-same d appliances label (Into i) m e = Flows-same m.header (step_into d appliances label i m).next (step_into-flow d appliances label i m)
+step_at-same d appliances label (IgwOut v) m e = absurd (true≢false e)
+step_at-same d appliances label Internet m e = Flows-same m.header (step_internet d m).next (step_internet-flow d m)
+step_at-same d appliances label (IgwIn v) m e = absurd (true≢false e)
+step_at-same d appliances label (NatOut n) m e = absurd (true≢false e)
+step_at-same d appliances label (NatIn n) m e = absurd (true≢false e)
+step_at-same d appliances label (Peer x v) m e = let row = peering_at d x in Flows-same m.header (by_pair d x v m.header row.pair) (by_pair-flow d x v m.header row.pair)
+step_at-same d appliances label (Tgw a s) m e = Flows-same m.header (by_tgw_table d a s m.header (table_of_attachment d a)) (by_tgw_table-flow d a s m.header (table_of_attachment d a))
+step_at-same d appliances label (TgwLeave a s) m e = Flows-same m.header (leave_by a m.header (leave_subnet d a s)) (leave_by-flow a m.header (leave_subnet d a s))
 
-pub header_stays : (d : Description) (label : Label) (m : Moment) → is_rewriting m.place ≡ false → SendsSame m.header (step_of d label m).next
-header_stays d label m e = step_at-same d label m.place m e
+pub header_stays : (d : Description) (appliances : Appliances) (label : Label) (m : Moment) → is_rewriting m.place ≡ false → SendsSame m.header (step_of d appliances label m).next
+header_stays d appliances label m e = step_at-same d appliances label m.place m e
+
+-- ---- stops
+
+Flows-stops : (rewritten : Bool) (h : Header) (x : Next) → Flows rewritten h x → StopsItself x
+Flows-stops rewritten h (go p k) flow = tt
+Flows-stops rewritten h (arrive end) flow = tt
+Flows-stops rewritten h (stop s) flow = flow
+
+translate-stops : (d : Description) (n : NatNo) (m : Moment) (t : Option Translation) → StopsItself (translate d n m t).next
+translate-stops d n m (Some t) = tt
+translate-stops d n m None = cond_both (is_full m.nats n m.header) _ _ (λ (s : Step). StopsItself s.next) (λ _. refl) (λ _. tt)
+
+step_nat_out-stops : (d : Description) (label : Label) (n : NatNo) (m : Moment) → StopsItself (step_nat_out d label n m).next
+step_nat_out-stops d Answer n m = refl
+step_nat_out-stops d Opening n m =
+    cond_both (is_translatable m.header.proto) (translate d n m (translation_of m.nats n m.header)) _ (λ (s : Step). StopsItself s.next)
+    (λ _. translate-stops d n m (translation_of m.nats n m.header)) (λ _. refl)
+
+from_inward-stops : (d : Description) (n : NatNo) (h : Option Header) → StopsItself (from_inward d n h)
+from_inward-stops d n None = refl
+from_inward-stops d n (Some h) = tt
+
+step_at-stops : (d : Description) (appliances : Appliances) (label : Label) (p : Place) (m : Moment) → StopsItself (step_at d appliances label p m).next
+step_at-stops d appliances label (OutOf i) m = Flows-stops false m.header (step_out d label i m).next (step_out-flow d label i m)
+step_at-stops d appliances label (Router s came) m = Flows-stops false m.header (step_router d s m).next (step_router-flow d s m)
+step_at-stops d appliances label (Enter v by) m = Flows-stops false m.header (enter_host d v m.header (host_of d v m.header.dst)) (enter_host-flow d v m.header (host_of d v m.header.dst))
+step_at-stops d appliances label (Into i) m = Flows-stops false m.header (step_into d appliances label i m).next (step_into-flow d appliances label i m)
+step_at-stops d appliances label (IgwOut v) m = Flows-stops true m.header (go_public d v m.header (public_of d v m.header.src)) (go_public-flow d v m.header (public_of d v m.header.src))
+step_at-stops d appliances label Internet m = Flows-stops false m.header (step_internet d m).next (step_internet-flow d m)
+step_at-stops d appliances label (IgwIn v) m = tt
+step_at-stops d appliances label (NatOut n) m = step_nat_out-stops d label n m
+step_at-stops d appliances Opening (NatIn n) m = refl
+step_at-stops d appliances Answer (NatIn n) m = from_inward-stops d n (inward m.nats n m.header)
+step_at-stops d appliances label (Peer x v) m = let row = peering_at d x in Flows-stops false m.header (by_pair d x v m.header row.pair) (by_pair-flow d x v m.header row.pair)
+step_at-stops d appliances label (Tgw a s) m = Flows-stops false m.header (by_tgw_table d a s m.header (table_of_attachment d a)) (by_tgw_table-flow d a s m.header (table_of_attachment d a))
+step_at-stops d appliances label (TgwLeave a s) m = Flows-stops false m.header (leave_by a m.header (leave_subnet d a s)) (leave_by-flow a m.header (leave_subnet d a s))
+
+pub steps_stop_themselves : (d : Description) (appliances : Appliances) (label : Label) (m : Moment) → StopsItself (step_of d appliances label m).next
+steps_stop_themselves d appliances label m = step_at-stops d appliances label m.place m

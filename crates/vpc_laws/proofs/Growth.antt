@@ -3,25 +3,22 @@ use Rattle.std.proofs.Common.{◌≡◌, ℕ, ◌&&◌, ◌||◌, not, List, [],
 use Rattle.std.specs.List.{list_any}
 use Rattle.std.proofs.lemmas.Bool.{cond_both}
 use Rattle.std.proofs.lemmas.List.{append-nil}
-use Rattle.vpc_base.specs.declared.headers.Header.{Header}
-use Rattle.vpc_base.specs.declared.headers.Dir.{Dir}
 use Rattle.vpc_base.specs.declared.headers.Dir.TheVariants.{Inward, Outward}
-use Rattle.vpc_base.specs.declared.headers.Label.{Label}
 use Rattle.vpc_base.specs.declared.headers.Label.TheVariants.{Opening, Answer}
-use Rattle.vpc_model.specs.declared.numbers.EniNo.{EniNo}
-use Rattle.vpc_model.specs.declared.numbers.NatNo.{NatNo}
-use Rattle.vpc_model.specs.declared.outcomes.By.{By}
-use Rattle.vpc_model.specs.declared.outcomes.RuleRef.{RuleRef}
-use Rattle.vpc_model.specs.declared.places.Place.{Place}
 use Rattle.vpc_model.specs.declared.places.Place.TheVariants.{OutOf, Router, Enter, Into, IgwOut, Internet, IgwIn, NatOut, NatIn, Peer, Tgw, TgwLeave}
-use Rattle.vpc_model.specs.declared.rows.Description.{Description}
-use Rattle.vpc_model.specs.Connections.{Connection, Passing, added, same_connection, open_passing, answer_passing, label_passing, passing_groups, passing_of, is_tracked}
+use Rattle.vpc_laws.specs.Types.{By, Description, Dir, EniNo, Header, Label, NatNo, Place, RuleRef}
+use Rattle.vpc_laws.specs.Step.{AddsOwn, AddsTranslation, Begins, own_connection}
+use Rattle.vpc_model.specs.Appliances.{Appliances}
+use Rattle.vpc_model.specs.Connections.{Connection, Passing, added, answer_passing, is_tracked, label_passing, open_passing, passing_groups, passing_of, same_connection}
 use Rattle.vpc_model.specs.Groups.{first_rule}
 use Rattle.vpc_model.specs.Internet.{is_unroutable}
-use Rattle.vpc_model.specs.Lookup.{interface_at, has_address}
-use Rattle.vpc_model.specs.Nat.{Translation, is_translatable, is_full, translation_of}
-use Rattle.vpc_model.specs.Step.{Moment, Step, step_at, step_of, step_out, step_into, step_internet, step_nat_out, step_nat_in, out_passing, in_passing, translate}
-use Rattle.vpc_laws.specs.Laws.{AddsOwn, AddsTranslation, own_connection, Begins}
+use Rattle.vpc_model.specs.Lookup.{has_address, interface_at}
+use Rattle.vpc_model.specs.Nat.{Translation, is_full, is_translatable, translation_of}
+use Rattle.vpc_model.specs.Step.{step_at, step_of}
+use Rattle.vpc_model.specs.Step.Interface.{in_passing, out_passing, step_into, step_out}
+use Rattle.vpc_model.specs.Step.Internet.{step_internet}
+use Rattle.vpc_model.specs.Step.Nat.{step_nat_in, step_nat_out, translate}
+use Rattle.vpc_model.specs.Step.Words.{Moment, Step}
 
 -- ---- connections
 
@@ -52,9 +49,9 @@ out_passing-adds : (d : Description) (label : Label) (i : EniNo) (p : Place) (m 
 out_passing-adds d label i p m None conns adds = inl refl
 out_passing-adds d label i p m (Some by) conns adds = adds
 
-in_passing-adds : (label : Label) (i : EniNo) (p : Place) (m : Moment) (by : Option By) (conns : List Connection) → AddsOwn label p m.header m.conns conns → AddsOwn label p m.header m.conns (in_passing i m (record { by = by; conns = conns })).conns
-in_passing-adds label i p m None conns adds = inl refl
-in_passing-adds label i p m (Some by) conns adds = adds
+in_passing-adds : (d : Description) (appliances : Appliances) (label : Label) (i : EniNo) (p : Place) (m : Moment) (by : Option By) (conns : List Connection) → AddsOwn label p m.header m.conns conns → AddsOwn label p m.header m.conns (in_passing d appliances i m (record { by = by; conns = conns })).conns
+in_passing-adds d appliances label i p m None conns adds = inl refl
+in_passing-adds d appliances label i p m (Some by) conns adds = adds
 
 step_out-adds : (d : Description) (label : Label) (i : EniNo) (m : Moment) → AddsOwn label (OutOf i) m.header m.conns (step_out d label i m).conns
 step_out-adds d label i m =
@@ -64,44 +61,44 @@ step_out-adds d label i m =
     (λ _. cond_both (e.checked && not (has_address e m.header.src)) _ _ (λ (s : Step). AddsOwn label (OutOf i) m.header m.conns s.conns) (λ _. inl refl)
     (λ _. out_passing-adds d label i (OutOf i) m passing.by passing.conns (passing_groups-adds d label i Outward (OutOf i) m.header m.conns e.groups refl)))
 
-step_into-adds : (d : Description) (label : Label) (i : EniNo) (m : Moment) → AddsOwn label (Into i) m.header m.conns (step_into d label i m).conns
-step_into-adds d label i m =
+step_into-adds : (d : Description) (appliances : Appliances) (label : Label) (i : EniNo) (m : Moment) → AddsOwn label (Into i) m.header m.conns (step_into d appliances label i m).conns
+step_into-adds d appliances label i m =
     let e = interface_at d i in
     let passing = passing_of d label i Inward m.header m.conns in
     cond_both e.idle _ _ (λ (s : Step). AddsOwn label (Into i) m.header m.conns s.conns) (λ _. inl refl)
     (λ _. cond_both (e.checked && not (has_address e m.header.dst)) _ _ (λ (s : Step). AddsOwn label (Into i) m.header m.conns s.conns) (λ _. inl refl)
-    (λ _. in_passing-adds label i (Into i) m passing.by passing.conns (passing_groups-adds d label i Inward (Into i) m.header m.conns e.groups refl)))
+    (λ _. in_passing-adds d appliances label i (Into i) m passing.by passing.conns (passing_groups-adds d label i Inward (Into i) m.header m.conns e.groups refl)))
 
-step_internet-conns : (d : Description) (m : Moment) → (step_internet d m).conns ≡ m.conns
+pub step_internet-conns : (d : Description) (m : Moment) → (step_internet d m).conns ≡ m.conns
 step_internet-conns d m = cond_both (is_unroutable m.header.src || is_unroutable m.header.dst) _ _ (λ (s : Step). s.conns ≡ m.conns) (λ _. refl) (λ _. refl)
 
 translate-conns : (d : Description) (n : NatNo) (m : Moment) (t : Option Translation) → (translate d n m t).conns ≡ m.conns
 translate-conns d n m (Some t) = refl
 translate-conns d n m None = cond_both (is_full m.nats n m.header) _ _ (λ (s : Step). s.conns ≡ m.conns) (λ _. refl) (λ _. refl)
 
-step_nat_out-conns : (d : Description) (label : Label) (n : NatNo) (m : Moment) → (step_nat_out d label n m).conns ≡ m.conns
+pub step_nat_out-conns : (d : Description) (label : Label) (n : NatNo) (m : Moment) → (step_nat_out d label n m).conns ≡ m.conns
 step_nat_out-conns d Answer n m = refl
 step_nat_out-conns d Opening n m =
     cond_both (is_translatable m.header.proto) (translate d n m (translation_of m.nats n m.header)) _ (λ (s : Step). s.conns ≡ m.conns)
     (λ _. translate-conns d n m (translation_of m.nats n m.header)) (λ _. refl)
 
-step_nat_in-conns : (d : Description) (label : Label) (n : NatNo) (m : Moment) → (step_nat_in d label n m).conns ≡ m.conns
+pub step_nat_in-conns : (d : Description) (label : Label) (n : NatNo) (m : Moment) → (step_nat_in d label n m).conns ≡ m.conns
 step_nat_in-conns d Opening n m = refl
 step_nat_in-conns d Answer n m = refl
 
-pub step_at-adds : (d : Description) (label : Label) (p : Place) (m : Moment) → AddsOwn label p m.header m.conns (step_at d label p m).conns
-step_at-adds d label (OutOf i) m = step_out-adds d label i m
-step_at-adds d label (Into i) m = step_into-adds d label i m
-step_at-adds d label (Router s came) m = inl refl
-step_at-adds d label (Enter v by) m = inl refl
-step_at-adds d label (IgwOut v) m = inl refl
-step_at-adds d label Internet m = inl (step_internet-conns d m)
-step_at-adds d label (IgwIn v) m = inl refl
-step_at-adds d label (NatOut n) m = inl (step_nat_out-conns d label n m)
-step_at-adds d label (NatIn n) m = inl (step_nat_in-conns d label n m)
-step_at-adds d label (Peer x v) m = inl refl
-step_at-adds d label (Tgw a s) m = inl refl
-step_at-adds d label (TgwLeave a s) m = inl refl
+pub step_at-adds : (d : Description) (appliances : Appliances) (label : Label) (p : Place) (m : Moment) → AddsOwn label p m.header m.conns (step_at d appliances label p m).conns
+step_at-adds d appliances label (OutOf i) m = step_out-adds d label i m
+step_at-adds d appliances label (Into i) m = step_into-adds d appliances label i m
+step_at-adds d appliances label (Router s came) m = inl refl
+step_at-adds d appliances label (Enter v by) m = inl refl
+step_at-adds d appliances label (IgwOut v) m = inl refl
+step_at-adds d appliances label Internet m = inl (step_internet-conns d m)
+step_at-adds d appliances label (IgwIn v) m = inl refl
+step_at-adds d appliances label (NatOut n) m = inl (step_nat_out-conns d label n m)
+step_at-adds d appliances label (NatIn n) m = inl (step_nat_in-conns d label n m)
+step_at-adds d appliances label (Peer x v) m = inl refl
+step_at-adds d appliances label (Tgw a s) m = inl refl
+step_at-adds d appliances label (TgwLeave a s) m = inl refl
 
 -- ---- translations
 
@@ -109,9 +106,9 @@ out_passing-nats : (d : Description) (i : EniNo) (m : Moment) (by : Option By) (
 out_passing-nats d i m None conns = refl
 out_passing-nats d i m (Some by) conns = refl
 
-in_passing-nats : (i : EniNo) (m : Moment) (by : Option By) (conns : List Connection) → (in_passing i m (record { by = by; conns = conns })).nats ≡ m.nats
-in_passing-nats i m None conns = refl
-in_passing-nats i m (Some by) conns = refl
+in_passing-nats : (d : Description) (appliances : Appliances) (i : EniNo) (m : Moment) (by : Option By) (conns : List Connection) → (in_passing d appliances i m (record { by = by; conns = conns })).nats ≡ m.nats
+in_passing-nats d appliances i m None conns = refl
+in_passing-nats d appliances i m (Some by) conns = refl
 
 pub step_out-nats : (d : Description) (label : Label) (i : EniNo) (m : Moment) → (step_out d label i m).nats ≡ m.nats
 step_out-nats d label i m =
@@ -121,13 +118,13 @@ step_out-nats d label i m =
     (λ _. cond_both (e.checked && not (has_address e m.header.src)) _ _ (λ (s : Step). s.nats ≡ m.nats) (λ _. refl)
     (λ _. out_passing-nats d i m passing.by passing.conns))
 
-pub step_into-nats : (d : Description) (label : Label) (i : EniNo) (m : Moment) → (step_into d label i m).nats ≡ m.nats
-step_into-nats d label i m =
+pub step_into-nats : (d : Description) (appliances : Appliances) (label : Label) (i : EniNo) (m : Moment) → (step_into d appliances label i m).nats ≡ m.nats
+step_into-nats d appliances label i m =
     let e = interface_at d i in
     let passing = passing_of d label i Inward m.header m.conns in
     cond_both e.idle _ _ (λ (s : Step). s.nats ≡ m.nats) (λ _. refl)
     (λ _. cond_both (e.checked && not (has_address e m.header.dst)) _ _ (λ (s : Step). s.nats ≡ m.nats) (λ _. refl)
-    (λ _. in_passing-nats i m passing.by passing.conns))
+    (λ _. in_passing-nats d appliances i m passing.by passing.conns))
 
 pub step_internet-nats : (d : Description) (m : Moment) → (step_internet d m).nats ≡ m.nats
 step_internet-nats d m = cond_both (is_unroutable m.header.src || is_unroutable m.header.dst) _ _ (λ (s : Step). s.nats ≡ m.nats) (λ _. refl) (λ _. refl)
@@ -148,19 +145,19 @@ step_nat_out-adds d Opening n m =
     cond_both (is_translatable m.header.proto) (translate d n m (translation_of m.nats n m.header)) _ (λ (s : Step). AddsTranslation Opening (NatOut n) m.header m.nats s.nats)
     (λ _. translate-adds d n m (translation_of m.nats n m.header)) (λ _. inl refl)
 
-pub step_at-translates : (d : Description) (label : Label) (p : Place) (m : Moment) → AddsTranslation label p m.header m.nats (step_at d label p m).nats
-step_at-translates d label (OutOf i) m = inl (step_out-nats d label i m)
-step_at-translates d label (Into i) m = inl (step_into-nats d label i m)
-step_at-translates d label (Router s came) m = inl refl
-step_at-translates d label (Enter v by) m = inl refl
-step_at-translates d label (IgwOut v) m = inl refl
-step_at-translates d label Internet m = inl (step_internet-nats d m)
-step_at-translates d label (IgwIn v) m = inl refl
-step_at-translates d label (NatOut n) m = step_nat_out-adds d label n m
-step_at-translates d label (NatIn n) m = inl (step_nat_in-nats d label n m)
-step_at-translates d label (Peer x v) m = inl refl
-step_at-translates d label (Tgw a s) m = inl refl
-step_at-translates d label (TgwLeave a s) m = inl refl
+pub step_at-translates : (d : Description) (appliances : Appliances) (label : Label) (p : Place) (m : Moment) → AddsTranslation label p m.header m.nats (step_at d appliances label p m).nats
+step_at-translates d appliances label (OutOf i) m = inl (step_out-nats d label i m)
+step_at-translates d appliances label (Into i) m = inl (step_into-nats d appliances label i m)
+step_at-translates d appliances label (Router s came) m = inl refl
+step_at-translates d appliances label (Enter v by) m = inl refl
+step_at-translates d appliances label (IgwOut v) m = inl refl
+step_at-translates d appliances label Internet m = inl (step_internet-nats d m)
+step_at-translates d appliances label (IgwIn v) m = inl refl
+step_at-translates d appliances label (NatOut n) m = step_nat_out-adds d label n m
+step_at-translates d appliances label (NatIn n) m = inl (step_nat_in-nats d label n m)
+step_at-translates d appliances label (Peer x v) m = inl refl
+step_at-translates d appliances label (Tgw a s) m = inl refl
+step_at-translates d appliances label (TgwLeave a s) m = inl refl
 
 -- ---- what follows
 
@@ -186,17 +183,17 @@ AddsTranslation-answer p h before after (inr (t, (opens, (here, (whole, e))))) =
 
 -- ---- the laws
 
-pub step_adds_own : (d : Description) (label : Label) (m : Moment) → AddsOwn label m.place m.header m.conns (step_of d label m).conns
-step_adds_own d label m = step_at-adds d label m.place m
+pub step_adds_own : (d : Description) (appliances : Appliances) (label : Label) (m : Moment) → AddsOwn label m.place m.header m.conns (step_of d appliances label m).conns
+step_adds_own d appliances label m = step_at-adds d appliances label m.place m
 
-pub step_adds_translation : (d : Description) (label : Label) (m : Moment) → AddsTranslation label m.place m.header m.nats (step_of d label m).nats
-step_adds_translation d label m = step_at-translates d label m.place m
+pub step_adds_translation : (d : Description) (appliances : Appliances) (label : Label) (m : Moment) → AddsTranslation label m.place m.header m.nats (step_of d appliances label m).nats
+step_adds_translation d appliances label m = step_at-translates d appliances label m.place m
 
-pub step_keeps : (d : Description) (label : Label) (m : Moment) → Begins m.conns (step_of d label m).conns × Begins m.nats (step_of d label m).nats
-step_keeps d label m = (AddsOwn-begins label m.place m.header _ _ (step_adds_own d label m), AddsTranslation-begins label m.place m.header _ _ (step_adds_translation d label m))
+pub step_keeps : (d : Description) (appliances : Appliances) (label : Label) (m : Moment) → Begins m.conns (step_of d appliances label m).conns × Begins m.nats (step_of d appliances label m).nats
+step_keeps d appliances label m = (AddsOwn-begins label m.place m.header _ _ (step_adds_own d appliances label m), AddsTranslation-begins label m.place m.header _ _ (step_adds_translation d appliances label m))
 
-pub connections_change_at_interfaces : (d : Description) (label : Label) (m : Moment) → own_connection m.place m.header ≡ None → (step_of d label m).conns ≡ m.conns
-connections_change_at_interfaces d label m none = AddsOwn-elsewhere label m.place m.header _ _ none (step_adds_own d label m)
+pub connections_change_at_interfaces : (d : Description) (appliances : Appliances) (label : Label) (m : Moment) → own_connection m.place m.header ≡ None → (step_of d appliances label m).conns ≡ m.conns
+connections_change_at_interfaces d appliances label m none = AddsOwn-elsewhere label m.place m.header _ _ none (step_adds_own d appliances label m)
 
-pub answer_adds_nothing : (d : Description) (m : Moment) → ((step_of d Answer m).conns ≡ m.conns) × ((step_of d Answer m).nats ≡ m.nats)
-answer_adds_nothing d m = (AddsOwn-answer m.place m.header _ _ (step_adds_own d Answer m), AddsTranslation-answer m.place m.header _ _ (step_adds_translation d Answer m))
+pub answer_adds_nothing : (d : Description) (appliances : Appliances) (m : Moment) → ((step_of d appliances Answer m).conns ≡ m.conns) × ((step_of d appliances Answer m).nats ≡ m.nats)
+answer_adds_nothing d appliances m = (AddsOwn-answer m.place m.header _ _ (step_adds_own d appliances Answer m), AddsTranslation-answer m.place m.header _ _ (step_adds_translation d appliances Answer m))

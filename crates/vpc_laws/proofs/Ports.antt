@@ -1,12 +1,12 @@
--- A port that isn't taken is found: among c + 1 ports one isn't, where c translations share them.
-use Rattle.std.proofs.Common.{◌≡◌, ℕ, suc, ◌+◌, ◌-◌, ◌≤◌, ◌<◌, ◌^◌, ◌==◌, ◌&&◌, Bool, true, false, List, [], ◌∷◌, refl, cond, ◌∙◌, ap, arith, length, ltb, leb, inl, inr}
+-- A port that isn't taken is found: where all 64,512 ports are taken, as many translations have them.
+use Rattle.std.proofs.Common.{◌≡◌, ℕ, zero, suc, Option, Some, None, unwrap_or, subst, ◌+◌, ◌-◌, ◌≤◌, ◌<◌, ◌^◌, ◌==◌, ◌&&◌, Bool, true, false, List, [], ◌∷◌, refl, cond, arith, ltb, inl, inr}
 use Rattle.std.specs.List.{list_any, count_by}
-use Rattle.std.proofs.lemmas.Bool.{cond_both, and_parts, and_from, and_right, eqb-true, or_cases, both_ways, false_from_ne_true, false≢true, ltb-true, lt-ltb, le-ltb}
+use Rattle.std.proofs.lemmas.Bool.{cases_Bool, cond_both, and_parts, and_from, and_right, ltb-false, eqb-true, or_cases, false≢true, ltb-true, lt-ltb, le-ltb}
 use Rattle.std.proofs.lemmas.Bool.Decides.{nat_tests}
-use Rattle.std.proofs.lemmas.List.Sums.{sum_by-cons, count_by-le-length}
-use Rattle.vpc_base.specs.declared.headers.Header.{Header}
-use Rattle.vpc_model.specs.declared.numbers.NatNo.{NatNo}
-use Rattle.vpc_model.specs.Nat.{Translation, first_port, free_port, is_taken, new_translation, next_port, shares}
+use Rattle.std.proofs.lemmas.List.Sums.{sum_by-cons}
+use Rattle.vpc_laws.specs.Types.{Header, NatNo}
+use Rattle.vpc_model.specs.Choice.{or_else}
+use Rattle.vpc_model.specs.Nat.{Translation, first_free, first_port, free_port, is_taken, new_translation, shares}
 
 -- ---- counts
 
@@ -45,85 +45,105 @@ count_by-less p q hit f apart (x ∷ xs) e =
           omega arith
     ]
 
--- ---- ports in the order in which they are tried
+-- ---- searches
 
--- how many ports are tried before this one
-abbrev rank : ℕ → ℕ → ℕ
-rank first port = cond (leb first port) (port - first) (port + 64512 - first)
+-- what a search finds, if it does
+abbrev Hit : (ℕ → Type 0) → Option ℕ → Type 0
+Hit P None = Unit {0}
+Hit P (Some x) = P x
 
-rank-first : (first : ℕ) → rank first first ≡ 0
-rank-first first = grind (arith, nat_tests)
+-- what two searches and a last resort give
+unwrap_or-hit : (P : ℕ → Type 0) (a b : Option ℕ) (port : ℕ) → Hit P a → Hit P b → (a ≡ None → b ≡ None → P port) → P (unwrap_or (or_else a b) port)
+unwrap_or-hit P (Some x) b port at_a at_b else = at_a
+unwrap_or-hit P None (Some y) port at_a at_b else = at_b
+unwrap_or-hit P None None port at_a at_b else = else refl refl
 
-rank-next : (first port : ℕ) → 1024 ≤ first → first < 65536 → 1024 ≤ port → port < 65536 → rank first port + 1 < 64512 → rank first (next_port port) ≡ rank first port + 1
-rank-next first port a b c d e = grind (arith, nat_tests)
+first_free-fits : (taken : ℕ → Bool) (n port : ℕ) → 1024 ≤ port → port + n ≤ 65536 → Hit (λ x. (1024 ≤ x) × (x < 65536)) (first_free taken n port)
+first_free-fits taken zero port a b = tt
+first_free-fits taken (suc n) port a b =
+    cond_both (taken port) (first_free taken n (port + 1)) (Some port) (λ o. Hit (λ x. (1024 ≤ x) × (x < 65536)) o)
+    (λ _. first_free-fits taken n (port + 1) (omega arith) (omega arith)) (λ _. (a, omega arith))
 
-next_port-fits : (port : ℕ) → 1024 ≤ port → port < 65536 → (1024 ≤ next_port port) × (next_port port < 65536)
-next_port-fits port a b = grind (arith, nat_tests)
+first_free-free : (taken : ℕ → Bool) (n port : ℕ) → Hit (λ x. taken x ≡ false) (first_free taken n port)
+first_free-free taken zero port = tt
+first_free-free taken (suc n) port =
+    cond_both (taken port) (first_free taken n (port + 1)) (Some port) (λ o. Hit (λ x. taken x ≡ false) o)
+    (λ _. first_free-free taken n (port + 1)) (λ free. free)
+
+first_free-none : (taken : ℕ → Bool) (n port : ℕ) → first_free taken n port ≡ None → (x : ℕ) → port ≤ x → x < port + n → taken x ≡ true
+first_free-none taken zero port e x a b = absurd (omega arith)
+first_free-none taken (suc n) port e x a b =
+    elim (cases_Bool (taken port)) [
+      | inl here ↦ elim (cases_Bool (ltb port x)) [
+        | inl above ↦ let less = ltb-true port x above in first_free-none taken n (port + 1) (rw here at e) x (omega arith) (omega arith)
+        | inr not_above ↦
+            let most = ltb-false port x not_above in
+            let same : port ≡ x = omega arith in
+            subst (λ y. taken y ≡ true) same here
+      ]
+      | inr free ↦ let found = (rw free at e) in cc
+    ]
 
 pub first_port-fits : (p : ℕ) → p < 65536 → (1024 ≤ first_port p) × (first_port p < 65536)
 first_port-fits p a = grind (arith, nat_tests)
 
-pub free_port-fits : {X : Type 0} (steps : List X) (taken : ℕ → Bool) (port : ℕ) → 1024 ≤ port → port < 65536 → (1024 ≤ free_port steps taken port) × (free_port steps taken port < 65536)
-free_port-fits [] taken port a b = (a, b)
-free_port-fits (_ ∷ steps) taken port a b =
-    cond_both (taken port) (free_port steps taken (next_port port)) port (λ x. (1024 ≤ x) × (x < 65536))
-    (λ _. free_port-fits steps taken (next_port port) (next_port-fits port a b).0 (next_port-fits port a b).1) (λ _. (a, b))
+pub free_port-fits : (taken : ℕ → Bool) (port : ℕ) → 1024 ≤ port → port < 65536 → (1024 ≤ free_port taken port) × (free_port taken port < 65536)
+free_port-fits taken port a b =
+    unwrap_or-hit (λ x. (1024 ≤ x) × (x < 65536)) (first_free taken (65536 - port) port) (first_free taken (port - 1024) 1024) port
+    (first_free-fits taken (65536 - port) port a (omega arith)) (first_free-fits taken (port - 1024) 1024 (omega arith) (omega arith)) (λ _ _. (a, b))
 
 pub new_translation-fits : (ts : List Translation) (n : NatNo) (own : ℕ) (h : Header) → h.p < 2 ^ 16 → let t = new_translation ts n own h in (1024 ≤ t.after.p) × (t.after.p < 2 ^ 16)
-new_translation-fits ts n own h fits = let good = first_port-fits h.p fits in free_port-fits ts (is_taken ts n h) (first_port h.p) good.0 good.1
+new_translation-fits ts n own h fits = let good = first_port-fits h.p fits in free_port-fits (is_taken ts n h) (first_port h.p) good.0 good.1
 
--- the translation shares the four and has one of the first k ports
-abbrev is_below : NatNo → Header → ℕ → ℕ → Translation → Bool
-is_below n h first k t = shares n h t && ltb (rank first t.after.p) k
+-- ---- taken ports are translations
 
-is_below-more : (n : NatNo) (h : Header) (first k : ℕ) (t : Translation) → is_below n h first k t ≡ true → is_below n h first (k + 1) t ≡ true
-is_below-more n h first k t e =
-    let parts = and_parts (shares n h t) (ltb (rank first t.after.p) k) e in
-    let below = ltb-true (rank first t.after.p) k parts.1 in
-    and_from (shares n h t) (ltb (rank first t.after.p) (k + 1)) parts.0 (lt-ltb (rank first t.after.p) (k + 1) (omega arith))
+-- the translation shares the four, and has a port below this one
+abbrev is_below : NatNo → Header → ℕ → Translation → Bool
+is_below n h port t = shares n h t && ltb t.after.p port
 
-is_below-shares : (n : NatNo) (h : Header) (first k : ℕ) (t : Translation) → is_below n h first k t ≡ true → shares n h t ≡ true
-is_below-shares n h first k t e = (and_parts (shares n h t) (ltb (rank first t.after.p) k) e).0
+is_below-more : (n : NatNo) (h : Header) (port : ℕ) (t : Translation) → is_below n h port t ≡ true → is_below n h (port + 1) t ≡ true
+is_below-more n h port t e =
+    let parts = and_parts (shares n h t) (ltb t.after.p port) e in
+    let below = ltb-true t.after.p port parts.1 in
+    and_from (shares n h t) (ltb t.after.p (port + 1)) parts.0 (lt-ltb t.after.p (port + 1) (omega arith))
 
-is_below-hit : (n : NatNo) (h : Header) (first port k : ℕ) → rank first port ≡ k → (t : Translation) → (shares n h t && (t.after.p == port)) ≡ true → (is_below n h first k t ≡ false) × (is_below n h first (k + 1) t ≡ true)
-is_below-hit n h first port k is t e =
+is_below-shares : (n : NatNo) (h : Header) (port : ℕ) (t : Translation) → is_below n h port t ≡ true → shares n h t ≡ true
+is_below-shares n h port t e = (and_parts (shares n h t) (ltb t.after.p port) e).0
+
+is_below-hit : (n : NatNo) (h : Header) (port : ℕ) (t : Translation) → (shares n h t && (t.after.p == port)) ≡ true → (is_below n h port t ≡ false) × (is_below n h (port + 1) t ≡ true)
+is_below-hit n h port t e =
     let parts = and_parts (shares n h t) (t.after.p == port) e in
-    let same : rank first t.after.p ≡ k = ap (rank first) (eqb-true t.after.p port parts.1) ∙ is in (
-      and_right (shares n h t) (ltb (rank first t.after.p) k) (le-ltb (rank first t.after.p) k (omega arith)),
-      and_from (shares n h t) (ltb (rank first t.after.p) (k + 1)) parts.0 (lt-ltb (rank first t.after.p) (k + 1) (omega arith)),
+    let same = eqb-true t.after.p port parts.1 in (
+      and_right (shares n h t) (ltb t.after.p port) (le-ltb t.after.p port (omega arith)),
+      and_from (shares n h t) (ltb t.after.p (port + 1)) parts.0 (lt-ltb t.after.p (port + 1) (omega arith)),
     )
 
 -- one more taken port is one more translation
-taken-counts : (ts : List Translation) (n : NatNo) (h : Header) (first port k : ℕ) → rank first port ≡ k → is_taken ts n h port ≡ true → count_by (is_below n h first k) ts + 1 ≤ count_by (is_below n h first (k + 1)) ts
-taken-counts ts n h first port k is taken =
-    count_by-less (is_below n h first k) (is_below n h first (k + 1)) (λ t. shares n h t && (t.after.p == port)) (is_below-more n h first k) (is_below-hit n h first port k is) ts taken
+taken-counts : (ts : List Translation) (n : NatNo) (h : Header) (k : ℕ) → ((x : ℕ) → 1024 ≤ x → x < 1024 + k → is_taken ts n h x ≡ true) → k ≤ count_by (is_below n h (1024 + k)) ts
+taken-counts ts n h zero taken = omega arith
+taken-counts ts n h (suc k) taken =
+    let rest = taken-counts ts n h k (λ x a b. taken x a (omega arith)) in
+    let one = count_by-less (is_below n h (1024 + k)) (is_below n h (1024 + k + 1)) (λ t. shares n h t && (t.after.p == 1024 + k)) (is_below-more n h (1024 + k)) (is_below-hit n h (1024 + k)) ts (taken (1024 + k) (omega arith) (omega arith)) in
+    let next : 1024 + suc k ≡ 1024 + k + 1 = omega arith in
+    rw next (omega arith)
 
--- a search that ends at a taken port has met more translations than steps
-search_exhausts : {X : Type 0} (steps : List X) (ts : List Translation) (n : NatNo) (h : Header) (first port k : ℕ) → 1024 ≤ first → first < 65536 → 1024 ≤ port → port < 65536
-    → rank first port ≡ k → k ≤ count_by (is_below n h first k) ts → count_by (shares n h) ts < 64512
-    → is_taken ts n h (free_port steps (is_taken ts n h) port) ≡ true → k + length steps + 1 ≤ count_by (shares n h) ts
-search_exhausts [] ts n h first port k a b c d is met few taken =
-    let more = taken-counts ts n h first port k is taken in
-    let all = count_by-le (is_below n h first (k + 1)) (shares n h) (is_below-shares n h first (k + 1)) ts in
-    omega arith
-search_exhausts (x ∷ steps) ts n h first port k a b c d is met few taken =
-    cond_both (is_taken ts n h port) (free_port steps (is_taken ts n h) (next_port port)) port (λ y. is_taken ts n h y ≡ true → k + suc (length steps) + 1 ≤ count_by (shares n h) ts)
-    (λ here at_next.
-    let more = taken-counts ts n h first port k is here in
-    let all = count_by-le (is_below n h first (k + 1)) (shares n h) (is_below-shares n h first (k + 1)) ts in
-    let next = rank-next first port a b c d (omega arith) in
-    let fits = next_port-fits port c d in
-    let later = search_exhausts steps ts n h first (next_port port) (k + 1) a b fits.0 fits.1 (next ∙ ap (λ r. r + 1) is) (omega arith) few at_next in
-    omega arith)
-    (λ free here. absurd (both_ways (is_taken ts n h port) free here))
-    taken
+-- where the two searches find nothing, all ports are taken
+all-taken : (taken : ℕ → Bool) (port : ℕ) → 1024 ≤ port → port < 65536 → first_free taken (65536 - port) port ≡ None → first_free taken (port - 1024) 1024 ≡ None
+    → (x : ℕ) → 1024 ≤ x → x < 1024 + 64512 → taken x ≡ true
+all-taken taken port a b late early x c d =
+    elim (cases_Bool (ltb x port)) [
+      | inl below ↦ let less = ltb-true x port below in first_free-none taken (port - 1024) 1024 early x c (omega arith)
+      | inr above ↦ let most = ltb-false x port above in first_free-none taken (65536 - port) port late x most (omega arith)
+    ]
 
-pub free_port_is_free : (ts : List Translation) (n : NatNo) (h : Header) → h.p < 2 ^ 16 → count_by (shares n h) ts < 64512 → is_taken ts n h (free_port ts (is_taken ts n h) (first_port h.p)) ≡ false
+pub free_port_is_free : (ts : List Translation) (n : NatNo) (h : Header) → h.p < 2 ^ 16 → count_by (shares n h) ts < 64512 → is_taken ts n h (free_port (is_taken ts n h) (first_port h.p)) ≡ false
 free_port_is_free ts n h fits few =
-    false_from_ne_true (is_taken ts n h (free_port ts (is_taken ts n h) (first_port h.p)))
-    (λ taken.
-    let first = first_port h.p in
+    let taken = is_taken ts n h in
+    let port = first_port h.p in
     let good = first_port-fits h.p fits in
-    let none = search_exhausts ts ts n h first first 0 good.0 good.1 good.0 good.1 (rank-first first) (omega arith) few taken in
-    let most = count_by-le-length (shares n h) ts in
-    omega arith)
+    unwrap_or-hit (λ x. taken x ≡ false) (first_free taken (65536 - port) port) (first_free taken (port - 1024) 1024) port
+    (first_free-free taken (65536 - port) port) (first_free-free taken (port - 1024) 1024)
+    (λ late early.
+    let many = taken-counts ts n h 64512 (all-taken taken port good.0 good.1 late early) in
+    let all = count_by-le (is_below n h (1024 + 64512)) (shares n h) (is_below-shares n h (1024 + 64512)) ts in
+    absurd (omega arith))

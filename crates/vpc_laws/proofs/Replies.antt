@@ -1,21 +1,22 @@
 -- Answers at a NAT gateway.
-use Rattle.std.proofs.Common.{◌≡◌, ◌≤◌, ◌<◌, ◌==◌, ◌&&◌, Bool, true, false, List, [], ◌∷◌, ◌++◌, Option, Some, None, refl, ◌∙◌, sym, ap, arith, subst, inl, inr, ◌⊎◌, option_and_then}
-use Rattle.std.specs.List.{count_by, find, AllByRecursion, IsDistinct, Contains}
+use Rattle.std.proofs.Common.{◌≡◌, ◌≤◌, ◌<◌, ◌==◌, ◌&&◌, Bool, true, false, List, [], ◌∷◌, ◌++◌, Option, Some, None, refl, ◌∙◌, sym, ap, arith, inl, inr, option_and_then}
+use Rattle.std.specs.List.{count_by, find, IsDistinct, Contains}
 use Rattle.std.proofs.lemmas.Bool.{and_parts, and_from, eqb-true, eq-eqb, cases_Bool, both_ways, le-leb, lt-leb, true≢false}
-use Rattle.std.proofs.lemmas.List.Elements.{Contains-append_cases, Contains-push_cases}
 use Rattle.std.proofs.lemmas.Map.Keys.{IsDistinct-head, IsDistinct-tail}
 use Rattle.vpc_base.specs.Header.{reply_of, echo_reply, exchanged}
-use Rattle.vpc_base.specs.declared.headers.Header.{Header}
 use Rattle.vpc_base.specs.declared.headers.Label.TheVariants.{Opening}
-use Rattle.vpc_model.specs.declared.numbers.NatNo.{NatNo}
 use Rattle.vpc_model.specs.declared.places.Place.TheVariants.{NatOut}
-use Rattle.vpc_model.specs.declared.rows.Description.{Description}
 use Rattle.vpc_model.specs.declared.stops.Stop.TheVariants.{NatFull}
+use Rattle.vpc_laws.specs.Types.{Description, Header, NatNo}
+use Rattle.vpc_laws.specs.Translations.{IsBook, collide}
+use Rattle.vpc_model.specs.Appliances.{Appliances}
 use Rattle.vpc_model.specs.Connections.{Connection, is_header, same_header}
 use Rattle.vpc_model.specs.Lookup.{nat_at}
 use Rattle.vpc_model.specs.Nat.{Translation, inward, is_translatable, new_translation, shares, translation_of}
-use Rattle.vpc_model.specs.Step.{from_nat, own_address, step_of, stop}
-use Rattle.vpc_laws.specs.Laws.{IsBook, collide}
+use Rattle.vpc_model.specs.Step.{step_of}
+use Rattle.vpc_model.specs.Step.Nat.{from_nat, own_address}
+use Rattle.vpc_model.specs.Step.Words.{stop}
+use Rattle.vpc_laws.proofs.Members.{AllByRecursion-at, Contains-cases}
 use Rattle.vpc_laws.proofs.Flow.{IsSame, same_header-fields}
 
 -- ---- replies
@@ -25,7 +26,7 @@ data IsReply (a r : Header) : Type 0 where
   echo : a.proto ≡ 1 → a.q ≡ 2048 → r.proto ≡ a.proto → r.src ≡ a.dst → r.p ≡ a.p → IsReply a r
   other : a.proto == 1 ≡ false → r.proto ≡ a.proto → r.src ≡ a.dst → r.p ≡ a.q → r.q ≡ a.p → IsReply a r
 
-Some-same : {X : Type 0} (x y : X) → Some x ≡ Some y → x ≡ y
+pub Some-same : {X : Type 0} (x y : X) → Some x ≡ Some y → x ≡ y
 Some-same x y e = cc
 
 reply_of-tells : (a r : Header) → reply_of a ≡ Some r → IsReply a r
@@ -66,20 +67,6 @@ same_header-refl h =
     (and_from (h.dst == h.dst) ((h.p == h.p) && (h.q == h.q)) (eq-eqb h.dst h.dst refl)
     (and_from (h.p == h.p) (h.q == h.q) (eq-eqb h.p h.p refl) (eq-eqb h.q h.q refl))))
 
--- ---- a list's items
-
-Contains-cases : {X : Type 0} (x y : X) (xs : List X) → Contains (x ∷ xs) y → (x ≡ y) ⊎ Contains xs y
-Contains-cases x y xs has =
-    elim (Contains-append_cases (x ∷ []) xs y has) [
-      | inl one ↦ elim (Contains-push_cases [] x y one) [ inl (k, below, at) ↦ absurd (omega arith) | inr same ↦ inl same ]
-      | inr later ↦ inr later
-    ]
-
-AllByRecursion-at : {X : Type 0} (P : X → Type 0) (xs : List X) (y : X) → AllByRecursion P xs → Contains xs y → P y
-AllByRecursion-at P [] y all (k, below, at) = absurd (omega arith)
-AllByRecursion-at P (x ∷ xs) y all has =
-    elim (Contains-cases x y xs has) [ inl same ↦ subst P same all.0 | inr later ↦ AllByRecursion-at P xs y all.1 later ]
-
 -- ---- answers
 
 abbrev is_answered : NatNo → Header → Translation → Bool
@@ -88,7 +75,7 @@ is_answered n h t = (t.nat.0 == n.0) && is_header h (reply_of t.after)
 answers-own : (t : Translation) (r : Header) → reply_of t.after ≡ Some r → is_answered t.nat r t ≡ true
 answers-own t r e = and_from (t.nat.0 == t.nat.0) (is_header r (reply_of t.after)) (eq-eqb t.nat.0 t.nat.0 refl) (rw e (same_header-refl r))
 
-is_header-some : (h : Header) (o : Option Header) → is_header h o ≡ true → (k : Header) × ((o ≡ Some k) × (same_header k h ≡ true))
+pub is_header-some : (h : Header) (o : Option Header) → is_header h o ≡ true → (k : Header) × ((o ≡ Some k) × (same_header k h ≡ true))
 is_header-some h None e = absurd (true≢false (sym e))
 is_header-some h (Some k) e = (k, (refl, e))
 
@@ -120,22 +107,22 @@ answer_finds_its_open ts t r book has e = ap (option_and_then (λ (u : Translati
 
 -- ---- opens
 
-pub known_open_is_reused : (d : Description) (n : NatNo) (h : Header) (conns : List Connection) (nats : List Translation) (t : Translation)
+pub known_open_is_reused : (d : Description) (appliances : Appliances) (n : NatNo) (h : Header) (conns : List Connection) (nats : List Translation) (t : Translation)
     → is_translatable h.proto ≡ true → translation_of nats n h ≡ Some t
-    → let s = step_of d Opening (record { place = NatOut n; header = h; conns = conns; nats = nats }) in (s.next ≡ from_nat d n t.after) × (s.nats ≡ nats)
-known_open_is_reused d n h conns nats t translatable known = (rw (translatable, known) refl, rw (translatable, known) refl)
+    → let s = step_of d appliances Opening (record { place = NatOut n; header = h; conns = conns; nats = nats }) in (s.next ≡ from_nat d n t.after) × (s.nats ≡ nats)
+known_open_is_reused d appliances n h conns nats t translatable known = (rw (translatable, known) refl, rw (translatable, known) refl)
 
-pub full_gateway_stops : (d : Description) (n : NatNo) (h : Header) (conns : List Connection) (nats : List Translation)
+pub full_gateway_stops : (d : Description) (appliances : Appliances) (n : NatNo) (h : Header) (conns : List Connection) (nats : List Translation)
     → is_translatable h.proto ≡ true → translation_of nats n h ≡ None → 55000 ≤ count_by (shares n h) nats
-    → let s = step_of d Opening (record { place = NatOut n; header = h; conns = conns; nats = nats }) in s.next ≡ stop (NatFull n)
-full_gateway_stops d n h conns nats translatable new full = rw (translatable, new, le-leb 55000 (count_by (shares n h) nats) full) refl
+    → let s = step_of d appliances Opening (record { place = NatOut n; header = h; conns = conns; nats = nats }) in s.next ≡ stop (NatFull n)
+full_gateway_stops d appliances n h conns nats translatable new full = rw (translatable, new, le-leb 55000 (count_by (shares n h) nats) full) refl
 
-pub roomy_gateway_translates : (d : Description) (n : NatNo) (h : Header) (conns : List Connection) (nats : List Translation)
+pub roomy_gateway_translates : (d : Description) (appliances : Appliances) (n : NatNo) (h : Header) (conns : List Connection) (nats : List Translation)
     → is_translatable h.proto ≡ true → translation_of nats n h ≡ None → count_by (shares n h) nats < 55000
-    → let s = step_of d Opening (record { place = NatOut n; header = h; conns = conns; nats = nats }) in
+    → let s = step_of d appliances Opening (record { place = NatOut n; header = h; conns = conns; nats = nats }) in
     let row = nat_at d n in
     let t = new_translation nats n (own_address row.life) h in
     (s.next ≡ from_nat d n t.after) × (s.nats ≡ nats ++ t ∷ [])
-roomy_gateway_translates d n h conns nats translatable new room =
+roomy_gateway_translates d appliances n h conns nats translatable new room =
     let few = lt-leb 55000 (count_by (shares n h) nats) room in
     (rw (translatable, new, few) refl, rw (translatable, new, few) refl)

@@ -3,23 +3,12 @@ use Rattle.std.proofs.Common.{◌≡◌, ℕ, ◌==◌, ◌&&◌, Bool, true, re
 use Rattle.std.specs.Bool.{Decides}
 use Rattle.std.proofs.lemmas.Bool.{and_parts, and_from, eqb-true, eq-eqb, false≢true}
 use Rattle.vpc_base.specs.Dir.{same_dir}
-use Rattle.vpc_base.specs.declared.headers.Header.{Header}
-use Rattle.vpc_base.specs.declared.headers.Dir.{Dir}
 use Rattle.vpc_base.specs.declared.headers.Dir.TheVariants.{Inward, Outward}
-use Rattle.vpc_model.specs.declared.numbers.VpcNo.{VpcNo}
-use Rattle.vpc_model.specs.declared.numbers.SubnetNo.{SubnetNo}
-use Rattle.vpc_model.specs.declared.numbers.EniNo.{EniNo}
-use Rattle.vpc_model.specs.declared.numbers.NatNo.{NatNo}
-use Rattle.vpc_model.specs.declared.numbers.PeerNo.{PeerNo}
-use Rattle.vpc_model.specs.declared.numbers.AttNo.{AttNo}
-use Rattle.vpc_model.specs.declared.places.Came.{Came}
 use Rattle.vpc_model.specs.declared.places.Came.TheVariants.{Host, Nat, Transit}
-use Rattle.vpc_model.specs.declared.places.End.{End}
 use Rattle.vpc_model.specs.declared.places.End.TheVariants.{Interface, Internet as AtInternet}
-use Rattle.vpc_model.specs.declared.places.EnterBy.{EnterBy}
 use Rattle.vpc_model.specs.declared.places.EnterBy.TheVariants.{Gateway, Peering}
-use Rattle.vpc_model.specs.declared.places.Place.{Place}
 use Rattle.vpc_model.specs.declared.places.Place.TheVariants.{OutOf, Router, Enter, Into, IgwOut, Internet, IgwIn, NatOut, NatIn, Peer, Tgw, TgwLeave}
+use Rattle.vpc_laws.specs.Types.{AttNo, Came, Dir, End, EniNo, EnterBy, Header, NatNo, PeerNo, Place, SubnetNo, VpcNo}
 use Rattle.vpc_model.specs.Connections.{Connection, same_connection, same_header}
 use Rattle.vpc_model.specs.Verdict.{same_end}
 use Rattle.vpc_model.specs.Walk.{same_came, same_enter, same_place}
@@ -28,16 +17,16 @@ use Rattle.vpc_laws.proofs.Replies.{same_header-refl}
 
 -- ---- numbers
 
-VpcNo-same : (a b : VpcNo) → (a.0 == b.0) ≡ true → a ≡ b
+pub VpcNo-same : (a b : VpcNo) → (a.0 == b.0) ≡ true → a ≡ b
 VpcNo-same a b e = let make : ℕ → VpcNo = λ k. record { 0 = k } in ap make (eqb-true a.0 b.0 e)
 
-SubnetNo-same : (a b : SubnetNo) → (a.0 == b.0) ≡ true → a ≡ b
+pub SubnetNo-same : (a b : SubnetNo) → (a.0 == b.0) ≡ true → a ≡ b
 SubnetNo-same a b e = let make : ℕ → SubnetNo = λ k. record { 0 = k } in ap make (eqb-true a.0 b.0 e)
 
-EniNo-same : (a b : EniNo) → (a.0 == b.0) ≡ true → a ≡ b
+pub EniNo-same : (a b : EniNo) → (a.0 == b.0) ≡ true → a ≡ b
 EniNo-same a b e = let make : ℕ → EniNo = λ k. record { 0 = k } in ap make (eqb-true a.0 b.0 e)
 
-NatNo-same : (a b : NatNo) → (a.0 == b.0) ≡ true → a ≡ b
+pub NatNo-same : (a b : NatNo) → (a.0 == b.0) ≡ true → a ≡ b
 NatNo-same a b e = let make : ℕ → NatNo = λ k. record { 0 = k } in ap make (eqb-true a.0 b.0 e)
 
 PeerNo-same : (a b : PeerNo) → (a.0 == b.0) ≡ true → a ≡ b
@@ -46,7 +35,7 @@ PeerNo-same a b e = let make : ℕ → PeerNo = λ k. record { 0 = k } in ap mak
 AttNo-same : (a b : AttNo) → (a.0 == b.0) ≡ true → a ≡ b
 AttNo-same a b e = let make : ℕ → AttNo = λ k. record { 0 = k } in ap make (eqb-true a.0 b.0 e)
 
-itself : (n : ℕ) → (n == n) ≡ true
+pub itself : (n : ℕ) → (n == n) ≡ true
 itself n = eq-eqb n n refl
 
 both : (x y : Bool) → x ≡ true → y ≡ true → (x && y) ≡ true
@@ -130,17 +119,17 @@ ends_are_told_apart AtInternet AtInternet = (λ e. refl, λ e. refl)
 ends_are_told_apart (Interface i) AtInternet = (λ e. absurd (false≢true e), λ e. cc)
 ends_are_told_apart AtInternet (Interface j) = (λ e. absurd (false≢true e), λ e. cc)
 
-same_dir-true : (a b : Dir) → same_dir a b ≡ true → a ≡ b
+pub same_dir-true : (a b : Dir) → same_dir a b ≡ true → a ≡ b
 same_dir-true Inward Inward e = refl
 same_dir-true Outward Outward e = refl
 same_dir-true Inward Outward e = absurd (false≢true e)
 same_dir-true Outward Inward e = absurd (false≢true e)
 
-same_dir-refl : (a : Dir) → same_dir a a ≡ true
+pub same_dir-refl : (a : Dir) → same_dir a a ≡ true
 same_dir-refl Inward = refl
 same_dir-refl Outward = refl
 
-three : {A B C D : Type 0} (make : A → B → C → D) (a d : A) (b e : B) (c f : C) → a ≡ d → b ≡ e → c ≡ f → make a b c ≡ make d e f
+pub three : {A B C D : Type 0} (make : A → B → C → D) (a d : A) (b e : B) (c f : C) → a ≡ d → b ≡ e → c ≡ f → make a b c ≡ make d e f
 three make a d b e c f p q r = cc
 
 same_connection-true : (a b : Connection) → same_connection a b ≡ true → a ≡ b

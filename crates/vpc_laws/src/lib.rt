@@ -2,6 +2,11 @@
 //! step, walk and translation keeps. A crate that cites one takes the function, and no other pays for it.
 #![tactic(auto)]
 
+pub mod accepted;
+pub mod choice;
+pub mod equality;
 pub mod nats;
+pub mod rewriting;
+pub mod sound;
 pub mod steps;
 pub mod walks;

@@ -1,5 +1,5 @@
 // Laws of NAT gateways.
-ghost use Rattle.vpc_laws.specs.Laws.{AnswerFindsItsOpen, FreePortIsFree, FullGatewayStops, KnownOpenIsReused, NothingIsInOrder, RoomyGatewayTranslates, StepKeepsBook};
+ghost use Rattle.vpc_laws.specs.Translations.{AnswerFindsItsOpen, FreePortIsFree, FullGatewayStops, InwardAnswersOpens, KnownOpenIsReused, NothingIsInOrder, RoomyGatewayTranslates, StepKeepsBook};
 
 /// A gateway finds a port while its translations towards a destination are fewer than the ports.
 pub fn finds_a_free_port()
@@ -35,4 +35,9 @@ pub fn stops_at_a_full_gateway()
 /// Below that it translates each new open.
 pub fn translates_while_there_is_room()
     ensures { RoomyGatewayTranslates }
+{}
+
+/// And it lets in nothing else.
+pub fn answers_opens_alone()
+    ensures { InwardAnswersOpens }
 {}

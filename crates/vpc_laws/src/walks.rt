@@ -1,5 +1,5 @@
 // Laws of whole walks.
-ghost use Rattle.vpc_laws.specs.Laws.{PlacesAreToldApart, HeadersAreToldApart, ConnectionsAreToldApart, EndsAreToldApart, WalkIsShort, NoPlaceTwice, WalkKeeps, AnswerLeavesAll, LeftConnectionsAreOwn, LeftTranslationsAreOwn, WalkKeepsBook};
+ghost use Rattle.vpc_laws.specs.Walk.{FarWalksAreLong, LoopsAreReturns, WalksAddFew, WalksAreOfSteps, WalkIsShort, NoPlaceTwice, WalkKeeps, AnswerLeavesAll, LeftConnectionsAreOwn, LeftTranslationsAreOwn, WalkKeepsBook};
 
 /// A walk has 1 to 64 places.
 pub fn has_few_places()
@@ -38,22 +38,24 @@ pub fn keeps_translations()
     ensures { WalkKeepsBook }
 {}
 
-/// Two places are one only where all of them is.
-pub fn tells_places_apart()
-    ensures { PlacesAreToldApart }
+/// A walk begins at its moment and goes on by its steps: each hop shows the header that came there and
+/// by what it passed, and the last step says how the walk ends and what it leaves.
+pub fn goes_by_steps()
+    ensures { WalksAreOfSteps }
 {}
 
-/// Two headers are one only where all of them is.
-pub fn tells_headers_apart()
-    ensures { HeadersAreToldApart }
+/// A walk loops exactly where it would come to a place for the second time.
+pub fn loops_where_it_was()
+    ensures { LoopsAreReturns }
 {}
 
-/// Two ends are one only where all of them is.
-pub fn tells_ends_apart()
-    ensures { EndsAreToldApart }
+/// A walk is too far exactly where it would come to a 65th place.
+pub fn ends_after_64_places()
+    ensures { FarWalksAreLong }
 {}
 
-/// Two connections are one only where all of them is.
-pub fn tells_connections_apart()
-    ensures { ConnectionsAreToldApart }
+/// A walk adds at most 64 connections and 64 translations: one for each interface and direction, and one
+/// for each NAT gateway.
+pub fn adds_few()
+    ensures { WalksAddFew }
 {}

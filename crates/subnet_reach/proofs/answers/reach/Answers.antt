@@ -1,6 +1,7 @@
 -- What the search answers is an answer to the query.
 use Rattle.std.proofs.Common.{subst}
-use Rattle.ordered_cover.specs.Cover.{IsCover, IsFirst}
+use Rattle.header_boxes.specs.Rows.{IsFirst}
+use Rattle.ordered_cover.specs.Cover.{IsCover}
 use Rattle.subnet_reach.specs.Probe.{word_of}
 use Rattle.subnet_reach.proofs.Reports.{blocked_is, more_is, through_is}
 use Rattle.subnet_reach.proofs.answers.reach.Goals as goal

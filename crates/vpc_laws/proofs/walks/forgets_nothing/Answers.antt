@@ -1,4 +1,4 @@
-use Rattle.vpc_laws.proofs.Walks.{walk_keeps}
+use Rattle.vpc_laws.proofs.Walking.{walk_keeps}
 use Rattle.vpc_laws.proofs.walks.forgets_nothing.Goals as goal
 
 pub returns : goal.returns

@@ -1,4 +1,4 @@
-use Rattle.vpc_laws.proofs.Walks.{walk_keeps_book}
+use Rattle.vpc_laws.proofs.Walking.{walk_keeps_book}
 use Rattle.vpc_laws.proofs.walks.keeps_translations.Goals as goal
 
 pub returns : goal.returns

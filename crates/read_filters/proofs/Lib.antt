@@ -1,0 +1,4 @@
+pub mod Untold
+pub mod NumberLemmas
+pub mod RuleLemmas
+pub mod ShareLemmas

@@ -1,0 +1,6 @@
+pub mod Texts
+pub mod Internet
+pub mod Nat
+pub mod Peerings
+pub mod Transit
+pub mod Gateways

@@ -1,0 +1,121 @@
+-- The lists of an accepted description are short.
+use Rattle.std.proofs.Common.{inl, inr, ◌≡◌, ◌||◌, Bool, List, [], ◌∷◌, ◌++◌, false, length}
+use Rattle.std.specs.List.{Contains, list_any}
+use Rattle.std.proofs.lemmas.Bool.{both_ways, cases_Bool, false_from_ne_true, ltb-false, or_parts}
+use Rattle.vpc_laws.specs.Types.{Acl, Appliance, Association, Attachment, Description, Group, Interface, InternetGateway, ListName, NatGateway, Peering, Permission, PrefixList, RouteTable, Subnet, TgwTable, Vpc}
+use Rattle.vpc_model.specs.declared.refusals.ListName.TheVariants as lists
+use Rattle.vpc_model.specs.declared.refusals.Refusal.TheVariants as refusals
+use Rattle.vpc_model.specs.Accepted.{IsAccepted, is_long, is_long_group, is_long_rule, too_long}
+use Rattle.vpc_laws.specs.Accepted.{HasShortLists, IsShort}
+use Rattle.vpc_laws.proofs.Accepting.{accepted_is_faultless}
+use Rattle.vpc_laws.proofs.Members.{append-nothing, member-list_any}
+
+is_long-short : {X : Type 0} (xs : List X) → is_long xs ≡ false → IsShort xs
+is_long-short xs e = ltb-false 100000 (length xs) e
+
+both-short : {X Y : Type 0} (xs : List X) (ys : List Y) → (is_long xs || is_long ys) ≡ false → IsShort xs × IsShort ys
+both-short xs ys e = let parts = or_parts (is_long xs) (is_long ys) e in (is_long-short xs parts.0, is_long-short ys parts.1)
+
+none-any : {X : Type 0} (p : X → Bool) (xs : List X) (x : X) → list_any p xs ≡ false → Contains xs x → p x ≡ false
+none-any p xs x none has = false_from_ne_true (p x) (λ e. both_ways (list_any p xs) none (member-list_any p xs x has e))
+
+-- a list that isn't too long, and no row of which is
+short-list : {X : Type 0} (name : ListName) (row_is_long : X → Bool) (rows : List X) → too_long name row_is_long rows ≡ [] → IsShort rows × ((x : X) → Contains rows x → row_is_long x ≡ false)
+short-list name row_is_long rows e =
+    elim (cases_Bool (is_long rows || list_any row_is_long rows)) [
+      | inl long ↦ let some : refusals.TooManyRows name ∷ [] ≡ [] = (rw long at e) in absurd cc
+      | inr short ↦
+          let parts = or_parts (is_long rows) (list_any row_is_long rows) short in
+          (is_long-short rows parts.0, λ x has. none-any row_is_long rows x parts.1 has)
+    ]
+
+-- the rules of a group, and what one of them names
+record IsShortGroup (g : Group) : Type 0 where
+  pub inward : IsShort g.inward
+  pub outward : IsShort g.outward
+  pub rules : (p : Permission) → Contains (g.inward ++ g.outward) p → IsShort p.blocks × IsShort p.lists × IsShort p.groups
+
+rule-short : (p : Permission) → is_long_rule p ≡ false → IsShort p.blocks × IsShort p.lists × IsShort p.groups
+rule-short p e =
+    let outer = or_parts (is_long p.blocks) (is_long p.lists || is_long p.groups) e in
+    let inner = both-short p.lists p.groups outer.1 in
+    (is_long-short p.blocks outer.0, inner.0, inner.1)
+
+group-short : (g : Group) → is_long_group g ≡ false → IsShortGroup g
+group-short g e =
+    let outer = or_parts (is_long g.inward) (is_long g.outward || list_any is_long_rule (g.inward ++ g.outward)) e in
+    let inner = or_parts (is_long g.outward) (list_any is_long_rule (g.inward ++ g.outward)) outer.1 in
+    record {
+      inward = is_long-short g.inward outer.0;
+      outward = is_long-short g.outward inner.0;
+      rules = λ p has. rule-short p (none-any is_long_rule (g.inward ++ g.outward) p inner.1 has);
+    }
+
+pub accepted_has_short_lists : (d : Description) → IsAccepted d → HasShortLists d
+accepted_has_short_lists d accepted =
+    let faultless = accepted_is_faultless d accepted in
+    let n1 = too_long lists.Vpcs (λ (v : Vpc). is_long v.blocks) d.vpcs in
+    let n2 = n1 ++ too_long lists.Subnets (λ (s : Subnet). false) d.subnets in
+    let n3 = n2 ++ too_long lists.NetworkInterfaces (λ (e : Interface). is_long e.addresses || is_long e.groups) d.interfaces in
+    let n4 = n3 ++ too_long lists.RouteTables (λ (t : RouteTable). is_long t.subnets || is_long t.routes) d.tables in
+    let n5 = n4 ++ too_long lists.PrefixLists (λ (l : PrefixList). is_long l.entries) d.lists in
+    let n6 = n5 ++ too_long lists.NetworkAcls (λ (a : Acl). is_long a.subnets || is_long a.rows) d.acls in
+    let n7 = n6 ++ too_long lists.SecurityGroups is_long_group d.groups in
+    let n8 = n7 ++ too_long lists.InternetGateways (λ (g : InternetGateway). is_long g.vpcs) d.igws in
+    let n9 = n8 ++ too_long lists.NatGateways (λ (n : NatGateway). false) d.nats in
+    let n10 = n9 ++ too_long lists.VpcPeeringConnections (λ (x : Peering). false) d.peerings in
+    let n11 = n10 ++ too_long lists.TransitGatewayVpcAttachments (λ (a : Attachment). is_long a.subnets) d.attachments in
+    let n12 = n11 ++ too_long lists.TransitGatewayAttachments (λ (x : Association). false) d.associations in
+    let n13 = n12 ++ too_long lists.TransitGatewayRoutes (λ (t : TgwTable). is_long t.routes) d.tgw_tables in
+    let p13 = append-nothing n13 (too_long lists.Appliances (λ (a : Appliance). false) d.appliances) faultless.lengths in
+    let p12 = append-nothing n12 (too_long lists.TransitGatewayRoutes (λ (t : TgwTable). is_long t.routes) d.tgw_tables) p13.0 in
+    let p11 = append-nothing n11 (too_long lists.TransitGatewayAttachments (λ (x : Association). false) d.associations) p12.0 in
+    let p10 = append-nothing n10 (too_long lists.TransitGatewayVpcAttachments (λ (a : Attachment). is_long a.subnets) d.attachments) p11.0 in
+    let p9 = append-nothing n9 (too_long lists.VpcPeeringConnections (λ (x : Peering). false) d.peerings) p10.0 in
+    let p8 = append-nothing n8 (too_long lists.NatGateways (λ (n : NatGateway). false) d.nats) p9.0 in
+    let p7 = append-nothing n7 (too_long lists.InternetGateways (λ (g : InternetGateway). is_long g.vpcs) d.igws) p8.0 in
+    let p6 = append-nothing n6 (too_long lists.SecurityGroups is_long_group d.groups) p7.0 in
+    let p5 = append-nothing n5 (too_long lists.NetworkAcls (λ (a : Acl). is_long a.subnets || is_long a.rows) d.acls) p6.0 in
+    let p4 = append-nothing n4 (too_long lists.PrefixLists (λ (l : PrefixList). is_long l.entries) d.lists) p5.0 in
+    let p3 = append-nothing n3 (too_long lists.RouteTables (λ (t : RouteTable). is_long t.subnets || is_long t.routes) d.tables) p4.0 in
+    let p2 = append-nothing n2 (too_long lists.NetworkInterfaces (λ (e : Interface). is_long e.addresses || is_long e.groups) d.interfaces) p3.0 in
+    let p1 = append-nothing n1 (too_long lists.Subnets (λ (s : Subnet). false) d.subnets) p2.0 in
+    let vpcs = short-list lists.Vpcs (λ (v : Vpc). is_long v.blocks) d.vpcs p1.0 in
+    let interfaces = short-list lists.NetworkInterfaces (λ (e : Interface). is_long e.addresses || is_long e.groups) d.interfaces p2.1 in
+    let tables = short-list lists.RouteTables (λ (t : RouteTable). is_long t.subnets || is_long t.routes) d.tables p3.1 in
+    let entries = short-list lists.PrefixLists (λ (l : PrefixList). is_long l.entries) d.lists p4.1 in
+    let acls = short-list lists.NetworkAcls (λ (a : Acl). is_long a.subnets || is_long a.rows) d.acls p5.1 in
+    let groups = short-list lists.SecurityGroups is_long_group d.groups p6.1 in
+    let igws = short-list lists.InternetGateways (λ (g : InternetGateway). is_long g.vpcs) d.igws p7.1 in
+    let attachments = short-list lists.TransitGatewayVpcAttachments (λ (a : Attachment). is_long a.subnets) d.attachments p10.1 in
+    let transit = short-list lists.TransitGatewayRoutes (λ (t : TgwTable). is_long t.routes) d.tgw_tables p12.1 in
+    record {
+      vpcs = vpcs.0;
+      blocks_of_vpc = λ v has. is_long-short v.blocks (vpcs.1 v has);
+      subnets = (short-list lists.Subnets (λ (s : Subnet). false) d.subnets p1.1).0;
+      interfaces = interfaces.0;
+      addresses_of_interface = λ e has. (both-short e.addresses e.groups (interfaces.1 e has)).0;
+      groups_of_interface = λ e has. (both-short e.addresses e.groups (interfaces.1 e has)).1;
+      tables = tables.0;
+      subnets_of_table = λ t has. (both-short t.subnets t.routes (tables.1 t has)).0;
+      routes_of_table = λ t has. (both-short t.subnets t.routes (tables.1 t has)).1;
+      lists = entries.0;
+      entries_of_list = λ l has. is_long-short l.entries (entries.1 l has);
+      acls = acls.0;
+      subnets_of_acl = λ a has. (both-short a.subnets a.rows (acls.1 a has)).0;
+      rows_of_acl = λ a has. (both-short a.subnets a.rows (acls.1 a has)).1;
+      groups = groups.0;
+      inward_of_group = λ g has. (group-short g (groups.1 g has)).inward;
+      outward_of_group = λ g has. (group-short g (groups.1 g has)).outward;
+      named_by_rule = λ g p has at. (group-short g (groups.1 g has)).rules p at;
+      igws = igws.0;
+      vpcs_of_gateway = λ g has. is_long-short g.vpcs (igws.1 g has);
+      nats = (short-list lists.NatGateways (λ (n : NatGateway). false) d.nats p8.1).0;
+      peerings = (short-list lists.VpcPeeringConnections (λ (x : Peering). false) d.peerings p9.1).0;
+      attachments = attachments.0;
+      subnets_of_attachment = λ a has. is_long-short a.subnets (attachments.1 a has);
+      associations = (short-list lists.TransitGatewayAttachments (λ (x : Association). false) d.associations p11.1).0;
+      tgw_tables = transit.0;
+      routes_of_tgw_table = λ t has. is_long-short t.routes (transit.1 t has);
+      appliances = (short-list lists.Appliances (λ (a : Appliance). false) d.appliances p13.1).0;
+    }

@@ -1,0 +1,589 @@
+-- In an accepted description steps lead to sound places, and their stops and rules can be told.
+use Rattle.std.proofs.Common.{◌≡◌, ℕ, ◌+◌, ◌==◌, ◌&&◌, ◌||◌, Bool, List, [], ◌∷◌, Option, Some, None, arith, cond, false, inl, inr, is_none, is_some, leb, length, ltb, map, not, option_and_then, option_map, refl, subst, sym, true, unwrap_or, ◌∙◌}
+use Rattle.std.specs.List.{Contains, find, flat_map, position, slice_index_or}
+use Rattle.std.specs.Str.{bytes_eq}
+use Rattle.std.proofs.lemmas.Bool.{and_from, and_parts, both_ways, cases_Bool, cond_both, false≢true, le-leb, ltb-true, or_cases}
+use Rattle.vpc_base.specs.declared.headers.Dir.TheVariants.{Inward, Outward}
+use Rattle.vpc_base.specs.declared.headers.Label.TheVariants.{Answer, Opening}
+use Rattle.vpc_laws.specs.Types.{Association, AttNo, Attachment, Box5, By, Description, Dir, EniNo, Group, GroupNo, Header, IgwNo, Interface, InternetGateway, Label, NatGateway, NatLife, NatNo, PeerNo, Place, RuleRef, Stop, SubnetNo, TableNo, Target, TgwRoute, TgwTable, TgwTableNo, VpcNo}
+use Rattle.vpc_model.specs.declared.outcomes.By.TheVariants as bys
+use Rattle.vpc_model.specs.declared.places.End.TheVariants as ends
+use Rattle.vpc_model.specs.declared.stops.Foreign.TheVariants as foreign
+use Rattle.vpc_model.specs.declared.rows.NatLife.TheVariants as lives
+use Rattle.vpc_model.specs.declared.places.Place.TheVariants as places
+use Rattle.vpc_model.specs.declared.stops.Stop.TheVariants as stops
+use Rattle.vpc_model.specs.declared.rows.Target.TheVariants as targets
+use Rattle.vpc_model.specs.Accepted.{IsAccepted, is_side, is_subnet_of}
+use Rattle.vpc_model.specs.Acls.{acl_verdict}
+use Rattle.vpc_model.specs.Appliances.{Appliances, boxes_at, passes}
+use Rattle.vpc_model.specs.Choice.{is_unbeaten, or_else}
+use Rattle.vpc_model.specs.Connections.{Connection, passing_of}
+use Rattle.vpc_model.specs.Groups.{first_rule_of, no_permission, permission_allows, permissions_of, rule_of_group}
+use Rattle.vpc_model.specs.Internet.{is_unroutable, owned_by, owner_of, pairs_of, public_of}
+use Rattle.vpc_model.specs.Lookup.{acl_at, acl_of, attachment_at, attachment_of_id, eni_no, gateway_of, group_at, group_of_id, has_address, has_subnet, has_vpc, host_of, igw_no, interface_at, is_in_vpc, is_listed, nat_at, nat_no, no_group, no_interface, peer_no, peering_at, subnet_at, subnet_no, subnet_of, table_at, table_of, tgw_table_at, tgw_table_of_id, vpc_at, vpc_no, vpc_of_interface, vpc_of_subnet}
+use Rattle.vpc_model.specs.Nat.{Translation, inward, is_full, is_translatable, new_translation, translation_of}
+use Rattle.vpc_model.specs.Peerings.{has_block, other_side}
+use Rattle.vpc_model.specs.Routes.{beats, chosen_route, is_candidate}
+use Rattle.vpc_model.specs.Sound.{has_foreign_text, has_gateway, has_rule, has_text, is_attachment, is_entry, is_eni, is_origin, is_group, is_igw, is_live, is_nat, is_peering, is_route, is_rule, is_sound, is_subnet, is_table, is_tgw_route, is_tgw_table, is_vpc, joins}
+use Rattle.vpc_model.specs.Step.{step_at, step_of}
+use Rattle.vpc_model.specs.Step.Crossing.{crossing, deliver, deliver_by, entering, is_eni_of, is_gateway, leaving, nat_of}
+use Rattle.vpc_model.specs.Step.Enter.{enter_host}
+use Rattle.vpc_model.specs.Step.Interface.{forwarded, in_passing, out_passing, step_into, step_out}
+use Rattle.vpc_model.specs.Step.Internet.{go_public, step_internet, to_owner}
+use Rattle.vpc_model.specs.Step.Nat.{from_inward, from_nat, own_address, own_subnet, step_nat_in, step_nat_out, translate}
+use Rattle.vpc_model.specs.Step.Peering.{by_pair}
+use Rattle.vpc_model.specs.Step.Router.{by_route, is_attached, no_route, to_host, to_interface, to_internet, to_nat, to_peer, to_target, to_transit, to_zone}
+use Rattle.vpc_model.specs.Step.Transit.{by_attachment, by_tgw_route, by_tgw_table, leave_by, no_tgw_route, to_attachment}
+use Rattle.vpc_model.specs.Step.Words.{Moment, Next, Step, arrive, go, stop, unless_stopped}
+use Rattle.vpc_model.specs.Transit.{attachment_for, beats_tgw, chosen_tgw_route, first_subnet, is_in_zone, leave_subnet, table_of_attachment, zone_subnet}
+use Rattle.prefix_text.specs.Block.{holds}
+use Rattle.vpc_laws.specs.Accepted.{HasAllNamed, HasTarget, IdsHaveNumbers, NumbersAreInRange}
+use Rattle.vpc_laws.specs.Sound.{LeadsWell}
+use Rattle.vpc_laws.specs.Step.{AsksGroups, LetsPass, own_connection}
+use Rattle.vpc_laws.proofs.Accepting.{accepted_has_all_named}
+use Rattle.vpc_laws.proofs.Flow.{taken_by}
+use Rattle.vpc_laws.proofs.Members.{Contains-cases, Contains-here, Contains-none, find-member, flat_map-member}
+use Rattle.vpc_laws.proofs.Numbering.{accepted_numbers_are_in_range, ids_are_found, no_igw, no_nat, no_subnet, no_table, position-at, row-member, same_bytes}
+use Rattle.vpc_laws.proofs.Passing.{packets_pass_by_groups}
+
+-- what is known of a description
+record IsKnown (d : Description) : Type 0 where
+  pub named : HasAllNamed d
+  pub ids : IdsHaveNumbers d
+  pub range : NumbersAreInRange d
+
+-- ---- numbers that look-ups find
+
+-- what a look-up finds passes a test
+abbrev IfFound : {N : Type 0} → (N → Bool) → Option N → Type 0
+IfFound test None = Unit {0}
+IfFound test (Some n) = test n ≡ true
+
+found-by : {X N : Type 0} (make : ℕ → N) (test : N → Bool) (p : X → Bool) (xs : List X) (d : X) → ((k : ℕ) → ltb k (length xs) ≡ true → p (slice_index_or xs k d) ≡ true → test (make k) ≡ true)
+    → (o : Option ℕ) → position p xs ≡ o → IfFound test (option_map make o)
+found-by make test p xs d good None e = tt
+found-by make test p xs d good (Some k) e = let at = position-at p xs k d e in good k at.0 at.1
+
+if_found-else : {N : Type 0} (test : N → Bool) (a b : Option N) → IfFound test a → IfFound test b → IfFound test (or_else a b)
+if_found-else test None b at_a at_b = at_b
+if_found-else test (Some n) b at_a at_b = at_a
+
+host-found : (d : Description) (v : VpcNo) (a : ℕ) → IfFound (is_eni d) (host_of d v a)
+host-found d v a =
+    let p : Interface → Bool = λ e. has_address e a && is_in_vpc d v e in
+    let make : ℕ → EniNo = λ k. record { 0 = k } in
+    found-by make (is_eni d) p d.interfaces no_interface (λ k inside _. inside) (position p d.interfaces) refl
+
+gateway-found : (d : Description) (v : VpcNo) → IfFound (is_igw d) (gateway_of d v)
+gateway-found d v =
+    let row = vpc_at d v in
+    let p : InternetGateway → Bool = λ g. is_listed row.id g.vpcs in
+    let make : ℕ → IgwNo = λ k. record { 0 = k } in
+    found-by make (is_igw d) p d.igws no_igw (λ k inside _. inside) (position p d.igws) refl
+
+is_eni_of-live : (id : List ℕ) (life : NatLife) → is_eni_of id life ≡ true → is_live life ≡ true
+is_eni_of-live id lives.Gone e = absurd (false≢true e)
+is_eni_of-live id lives.Unmodelled e = absurd (false≢true e)
+is_eni_of-live id (lives.Live subnet eni address) e = refl
+
+-- a NAT gateway that is described and live
+abbrev is_working : Description → NatNo → Bool
+is_working d n = let row = nat_at d n in is_nat d n && is_live row.life
+
+nat-found : (d : Description) (i : EniNo) → IfFound (is_working d) (nat_of d i)
+nat-found d i =
+    let e = interface_at d i in
+    let p : NatGateway → Bool = λ n. is_eni_of e.id n.life in
+    let make : ℕ → NatNo = λ k. record { 0 = k } in
+    found-by make (is_working d) p d.nats no_nat
+    (λ k inside passes. let row = slice_index_or d.nats k no_nat in and_from (ltb k (length d.nats)) (is_live row.life) inside (is_eni_of-live e.id row.life passes)) (position p d.nats) refl
+
+-- a subnet of a list is described where each id of the list is
+listed-found : (d : Description) → IsKnown d → (vpc : List ℕ) (id : List ℕ) → is_subnet_of d vpc id ≡ true → is_subnet d (subnet_no d id) ≡ true
+listed-found d known vpc id e =
+    let ids = known.ids in
+    let row = subnet_at d (subnet_no d id) in
+    let parts = and_parts (has_subnet d id) (bytes_eq row.vpc vpc) e in
+    (ids.subnet id parts.0).0
+
+abbrev no_attachment : Attachment
+no_attachment = record { id = []; gateway = []; vpc = []; subnets = [] }
+
+attached-subnet : (d : Description) → IsKnown d → (a : AttNo) → is_attachment d a ≡ true → (let att = attachment_at d a in has_vpc d att.vpc ≡ true) → (id : List ℕ) → (let att = attachment_at d a in Contains att.subnets id) → is_subnet d (subnet_no d id) ≡ true
+attached-subnet d known a inside there id has =
+    let named = known.named in
+    let att = attachment_at d a in
+    listed-found d known att.vpc id (named.subnet_of_attachment att id (row-member d.attachments a.0 no_attachment inside) there has)
+
+zone-by : (d : Description) → IsKnown d → (a : AttNo) → is_attachment d a ≡ true → (let att = attachment_at d a in has_vpc d att.vpc ≡ true) → (zone : List ℕ) (o : Option (List ℕ))
+    → (let att = attachment_at d a in find (is_in_zone d zone) att.subnets ≡ o) → IfFound (is_subnet d) (option_map (subnet_no d) o)
+zone-by d known a inside there zone None e = tt
+zone-by d known a inside there zone (Some id) e =
+    let att = attachment_at d a in
+    attached-subnet d known a inside there id (find-member (is_in_zone d zone) att.subnets id e).1
+
+zone-found : (d : Description) → IsKnown d → (a : AttNo) (s : SubnetNo) → is_attachment d a ≡ true → (let att = attachment_at d a in has_vpc d att.vpc ≡ true) → IfFound (is_subnet d) (zone_subnet d a s)
+zone-found d known a s inside there = let row = subnet_at d s in let att = attachment_at d a in zone-by d known a inside there row.zone (find (is_in_zone d row.zone) att.subnets) refl
+
+-- an attachment that is described, and whose VPC is
+abbrev is_inner : Description → AttNo → Bool
+is_inner d a = let att = attachment_at d a in is_attachment d a && has_vpc d att.vpc
+
+attachment-found : (d : Description) (id : List ℕ) (s : SubnetNo) → (let row = subnet_at d s in has_vpc d row.vpc ≡ true) → IfFound (is_inner d) (attachment_for d id s)
+attachment-found d id s there =
+    let row = subnet_at d s in
+    let p : Attachment → Bool = λ a. bytes_eq a.gateway id && bytes_eq a.vpc row.vpc in
+    let make : ℕ → AttNo = λ k. record { 0 = k } in
+    found-by make (is_inner d) p d.attachments no_attachment
+    (λ k inside passes.
+    let att = slice_index_or d.attachments k no_attachment in
+    let parts = and_parts (bytes_eq att.gateway id) (bytes_eq att.vpc row.vpc) passes in
+    and_from (ltb k (length d.attachments)) (has_vpc d att.vpc) inside (subst (λ v. has_vpc d v ≡ true) (sym (same_bytes att.vpc row.vpc parts.1)) there)) (position p d.attachments) refl
+
+attachment_of_id-found : (d : Description) (id : List ℕ) → IfFound (is_attachment d) (attachment_of_id d id)
+attachment_of_id-found d id =
+    let p : Attachment → Bool = λ a. bytes_eq a.id id in
+    let make : ℕ → AttNo = λ k. record { 0 = k } in
+    found-by make (is_attachment d) p d.attachments no_attachment (λ k inside _. inside) (position p d.attachments) refl
+
+abbrev no_tgw_table : TgwTable
+no_tgw_table = record { id = []; routes = [] }
+
+tgw_table-found : (d : Description) (id : List ℕ) → IfFound (is_tgw_table d) (tgw_table_of_id d id)
+tgw_table-found d id =
+    let p : TgwTable → Bool = λ t. bytes_eq t.id id in
+    let make : ℕ → TgwTableNo = λ k. record { 0 = k } in
+    found-by make (is_tgw_table d) p d.tgw_tables no_tgw_table (λ k inside _. inside) (position p d.tgw_tables) refl
+
+and_then-found : {M N : Type 0} (test : N → Bool) (f : M → Option N) → ((m : M) → IfFound test (f m)) → (o : Option M) → IfFound test (option_and_then f o)
+and_then-found test f good None = tt
+and_then-found test f good (Some m) = good m
+
+first_subnet-found : (d : Description) → IsKnown d → (a : AttNo) → is_attachment d a ≡ true → (let att = attachment_at d a in has_vpc d att.vpc ≡ true) → (ids : List (List ℕ)) → (let att = attachment_at d a in att.subnets ≡ ids) → IfFound (is_subnet d) (first_subnet d ids)
+first_subnet-found d known a inside there [] e = tt
+first_subnet-found d known a inside there (id ∷ ids) e = attached-subnet d known a inside there id (subst (λ l. Contains l id) (sym e) (Contains-here id ids))
+
+leave-found : (d : Description) → IsKnown d → (a : AttNo) (s : SubnetNo) → is_attachment d a ≡ true → IfFound (is_subnet d) (leave_subnet d a s)
+leave-found d known a s inside =
+    let att = attachment_at d a in
+    cond_both (has_vpc d att.vpc) (or_else (zone_subnet d a s) (first_subnet d att.subnets)) None (IfFound (is_subnet d))
+    (λ there. if_found-else (is_subnet d) (zone_subnet d a s) (first_subnet d att.subnets) (zone-found d known a s inside there) (first_subnet-found d known a inside there att.subnets refl)) (λ _. tt)
+
+-- ---- crossing and delivering
+
+-- a stop that has a text, if there is one
+abbrev IfStopped : Description → Option Stop → Type 0
+IfStopped d s = IfFound (has_text d) s
+
+leaving-told : (d : Description) → IsKnown d → (s : SubnetNo) (h : Header) → is_subnet d s ≡ true → IfStopped d (leaving d s h)
+leaving-told d known s h inside =
+    let range = known.range in
+    let a = acl_at d (acl_of d s) in
+    let verdict = acl_verdict a.rows Outward h in
+    cond_both verdict.0 None (Some (stops.AclOut (acl_of d s) verdict.1)) (IfStopped d) (λ _. tt) (λ _. range.acl_of_subnet s inside)
+
+entering-told : (d : Description) → IsKnown d → (s : SubnetNo) (h : Header) → is_subnet d s ≡ true → IfStopped d (entering d s h)
+entering-told d known s h inside =
+    let range = known.range in
+    let a = acl_at d (acl_of d s) in
+    let verdict = acl_verdict a.rows Inward h in
+    cond_both verdict.0 None (Some (stops.AclIn (acl_of d s) verdict.1)) (IfStopped d) (λ _. tt) (λ _. range.acl_of_subnet s inside)
+
+both-told : (d : Description) → IsKnown d → (s t : SubnetNo) (h : Header) → is_subnet d s ≡ true → is_subnet d t ≡ true → IfStopped d (or_else (leaving d s h) (entering d t h))
+both-told d known s t h inside within = if_found-else (has_text d) (leaving d s h) (entering d t h) (leaving-told d known s h inside) (entering-told d known t h within)
+
+crossing-told : (d : Description) → IsKnown d → (s t : SubnetNo) (h : Header) → is_subnet d s ≡ true → is_subnet d t ≡ true → IfStopped d (crossing d s t h)
+crossing-told d known s t h inside within = cond_both (s.0 == t.0) None (or_else (leaving d s h) (entering d t h)) (IfStopped d) (λ _. tt) (λ _. both-told d known s t h inside within)
+
+unless-well : (d : Description) (s : Option Stop) (x : Next) → IfStopped d s → LeadsWell d x → LeadsWell d (unless_stopped s x)
+unless-well d None x told well = well
+unless-well d (Some s) x told well = told
+
+into-well : (d : Description) (i : EniNo) (h : Header) → is_eni d i ≡ true → let e = interface_at d i in LeadsWell d (cond (is_gateway e.kind) (stop (stops.NotAHost i)) (go (places.Into i) h))
+into-well d i h inside = let e = interface_at d i in cond_both (is_gateway e.kind) (stop (stops.NotAHost i)) (go (places.Into i) h) (LeadsWell d) (λ _. inside) (λ _. inside)
+
+deliver_by-well : (d : Description) (i : EniNo) (h : Header) (n : Option NatNo) → is_eni d i ≡ true → IfFound (is_working d) n → LeadsWell d (deliver_by d i h n)
+deliver_by-well d i h (Some n) inside works = works
+deliver_by-well d i h None inside works = into-well d i h inside
+
+deliver-well : (d : Description) (i : EniNo) (h : Header) → is_eni d i ≡ true → LeadsWell d (deliver d i h)
+deliver-well d i h inside = deliver_by-well d i h (nat_of d i) inside (nat-found d i)
+
+-- ---- routers
+
+to_host-well : (d : Description) → IsKnown d → (s : SubnetNo) (h : Header) (i : Option EniNo) → is_subnet d s ≡ true → IfFound (is_eni d) i → LeadsWell d (to_host d s h i)
+to_host-well d known s h None inside found = let range = known.range in range.vpc_of_subnet s inside
+to_host-well d known s h (Some i) inside found =
+    let range = known.range in
+    unless-well d (crossing d s (subnet_of d i) h) (deliver d i h) (crossing-told d known s (subnet_of d i) h inside (range.subnet_of_interface i found)) (deliver-well d i h found)
+
+attached-some : (g : IgwNo) (o : Option IgwNo) → is_attached g o ≡ true → is_some o ≡ true
+attached-some g None e = absurd (false≢true e)
+attached-some g (Some attached) e = refl
+
+to_internet-well : (d : Description) → IsKnown d → (s : SubnetNo) (h : Header) (g : IgwNo) → is_subnet d s ≡ true → is_igw d g ≡ true → LeadsWell d (to_internet d s h g)
+to_internet-well d known s h g inside within =
+    let range = known.range in
+    let v = vpc_of_subnet d s in
+    cond_both (is_attached g (gateway_of d v)) (unless_stopped (leaving d s h) (go (places.IgwOut v) h)) (stop (stops.GatewayDetached g)) (LeadsWell d)
+    (λ attached. unless-well d (leaving d s h) (go (places.IgwOut v) h) (leaving-told d known s h inside)
+    (and_from (is_vpc d v) (is_some (gateway_of d v)) (range.vpc_of_subnet s inside) (attached-some g (gateway_of d v) attached)))
+    (λ _. within)
+
+nat-subnet : (d : Description) → IsKnown d → (n : NatNo) → is_nat d n ≡ true → (subnet eni : List ℕ) (address : ℕ) → (let row = nat_at d n in row.life ≡ lives.Live subnet eni address) → is_subnet d (subnet_no d subnet) ≡ true
+nat-subnet d known n inside subnet eni address is =
+    let named = known.named in
+    let ids = known.ids in
+    let row = nat_at d n in
+    (ids.subnet subnet (named.place_of_nat row subnet eni address (row-member d.nats n.0 no_nat inside) is).0).0
+
+to_nat-well : (d : Description) → IsKnown d → (s : SubnetNo) (h : Header) (n : NatNo) (life : NatLife) → is_subnet d s ≡ true → is_nat d n ≡ true → (let row = nat_at d n in row.life ≡ life) → LeadsWell d (to_nat d s h n life)
+to_nat-well d known s h n lives.Gone inside within is = within
+to_nat-well d known s h n lives.Unmodelled inside within is = within
+to_nat-well d known s h n (lives.Live subnet eni address) inside within is =
+    let row = nat_at d n in
+    unless-well d (crossing d s (subnet_no d subnet) h) (go (places.NatOut n) h)
+    (crossing-told d known s (subnet_no d subnet) h inside (nat-subnet d known n within subnet eni address is))
+    (and_from (is_nat d n) (is_live row.life) within (subst (λ l. is_live l ≡ true) (sym is) refl))
+
+pair-joins : (d : Description) (v : List ℕ) (pair : List ℕ × List ℕ) → has_vpc d v ≡ true → is_side v (Some pair) ≡ true → has_vpc d (other_side v pair) ≡ true → joins d v (Some pair) ≡ true
+pair-joins d v pair there side other =
+    and_from (bytes_eq pair.0 v || bytes_eq pair.1 v) (has_vpc d pair.0 && has_vpc d pair.1) side
+    (elim (cases_Bool (bytes_eq pair.0 v)) [
+      | inl first ↦
+          let far : has_vpc d pair.1 ≡ true = (rw first at other) in
+          and_from (has_vpc d pair.0) (has_vpc d pair.1) (subst (λ w. has_vpc d w ≡ true) (sym (same_bytes pair.0 v first)) there) far
+      | inr second ↦
+          let far : has_vpc d pair.0 ≡ true = (rw second at other) in
+          let near : bytes_eq pair.1 v ≡ true = elim (or_cases (bytes_eq pair.0 v) (bytes_eq pair.1 v) side) [ inl first ↦ absurd (both_ways (bytes_eq pair.0 v) second first) | inr one ↦ one ] in
+          and_from (has_vpc d pair.0) (has_vpc d pair.1) far (subst (λ w. has_vpc d w ≡ true) (sym (same_bytes pair.1 v near)) there)
+    ])
+
+-- the id of a subnet's VPC
+abbrev vpc_id : Description → SubnetNo → List ℕ
+vpc_id d s = let row = vpc_at d (vpc_of_subnet d s) in row.id
+
+subnet-vpc : (d : Description) → IsKnown d → (s : SubnetNo) → is_subnet d s ≡ true → let row = subnet_at d s in (has_vpc d row.vpc ≡ true) × (vpc_id d s ≡ row.vpc)
+subnet-vpc d known s inside =
+    let named = known.named in
+    let ids = known.ids in
+    let row = subnet_at d s in
+    let there = named.vpc_of_subnet row (row-member d.subnets s.0 no_subnet inside) in
+    (there, (ids.vpc row.vpc there).1)
+
+to_peer-well : (d : Description) → IsKnown d → (s : SubnetNo) (h : Header) (x : PeerNo) (pair : Option (List ℕ × List ℕ)) → is_subnet d s ≡ true → is_peering d x ≡ true → (let row = peering_at d x in row.pair ≡ pair)
+    → is_side (vpc_id d s) pair ≡ true → LeadsWell d (to_peer d s h x pair)
+to_peer-well d known s h x None inside within is side = within
+to_peer-well d known s h x (Some pair) inside within is side =
+    let range = known.range in
+    let v = vpc_of_subnet d s in
+    let vpc = subnet-vpc d known s inside in
+    let row = peering_at d x in
+    cond_both (has_vpc d (other_side (vpc_id d s) pair)) (unless_stopped (leaving d s h) (go (places.Peer x v) h)) (stop (stops.Unmodelled (foreign.Peering x))) (LeadsWell d)
+    (λ far. unless-well d (leaving d s h) (go (places.Peer x v) h) (leaving-told d known s h inside)
+    (and_from (is_peering d x) (is_vpc d v && joins d (vpc_id d s) row.pair) within
+    (and_from (is_vpc d v) (joins d (vpc_id d s) row.pair) (range.vpc_of_subnet s inside)
+    (subst (λ p. joins d (vpc_id d s) p ≡ true) (sym is) (pair-joins d (vpc_id d s) pair (subst (λ w. has_vpc d w ≡ true) (sym vpc.1) vpc.0) side far)))))
+    (λ _. within)
+
+to_zone-well : (d : Description) → IsKnown d → (s : SubnetNo) (h : Header) (a : AttNo) (t : Option SubnetNo) → is_subnet d s ≡ true → is_attachment d a ≡ true → IfFound (is_subnet d) t → LeadsWell d (to_zone d s h a t)
+to_zone-well d known s h a None inside within found = within
+to_zone-well d known s h a (Some t) inside within found =
+    unless-well d (or_else (leaving d s h) (entering d t h)) (go (places.Tgw a t) h) (both-told d known s t h inside found) (and_from (is_attachment d a) (is_subnet d t) within found)
+
+to_transit-well : (d : Description) → IsKnown d → (s : SubnetNo) (h : Header) (t : TableNo) (k : ℕ) (a : Option AttNo) → is_subnet d s ≡ true → is_route d t k ≡ true → IfFound (is_inner d) a → LeadsWell d (to_transit d s h t k a)
+to_transit-well d known s h t k None inside route found = route
+to_transit-well d known s h t k (Some a) inside route found =
+    let att = attachment_at d a in
+    let parts = and_parts (is_attachment d a) (has_vpc d att.vpc) found in
+    to_zone-well d known s h a (zone_subnet d a s) inside parts.0 (zone-found d known a s parts.0 parts.1)
+
+to_interface-well : (d : Description) → IsKnown d → (s : SubnetNo) (h : Header) (j : EniNo) → is_subnet d s ≡ true → is_eni d j ≡ true → LeadsWell d (to_interface d s h j)
+to_interface-well d known s h j inside within =
+    let range = known.range in
+    let e = interface_at d j in
+    unless-well d (crossing d s (subnet_of d j) h) (cond (is_gateway e.kind) (stop (stops.NotAHost j)) (go (places.Into j) h))
+    (crossing-told d known s (subnet_of d j) h inside (range.subnet_of_interface j within)) (into-well d j h within)
+
+to_target-well : (d : Description) → IsKnown d → (s : SubnetNo) (h : Header) (t : TableNo) (k : ℕ) (target : Target) → is_subnet d s ≡ true → is_route d t k ≡ true → HasTarget d (vpc_id d s) target → LeadsWell d (to_target d s h t k target)
+to_target-well d known s h t k targets.Local inside route has = to_host-well d known s h (host_of d (vpc_of_subnet d s) h.dst) inside (host-found d (vpc_of_subnet d s) h.dst)
+to_target-well d known s h t k (targets.Internet id) inside route has = let ids = known.ids in to_internet-well d known s h (igw_no d id) inside (ids.gateway id has).0
+to_target-well d known s h t k (targets.Nat id) inside route has = let ids = known.ids in let row = nat_at d (nat_no d id) in to_nat-well d known s h (nat_no d id) row.life inside (ids.nat id has.0).0 refl
+to_target-well d known s h t k (targets.Peer id) inside route has = let ids = known.ids in let row = peering_at d (peer_no d id) in to_peer-well d known s h (peer_no d id) row.pair inside (ids.peering id has.0).0 refl has.1
+to_target-well d known s h t k (targets.Transit id) inside route has = to_transit-well d known s h t k (attachment_for d id s) inside route (attachment-found d id s (subnet-vpc d known s inside).0)
+to_target-well d known s h t k (targets.Interface id) inside route has = let ids = known.ids in to_interface-well d known s h (eni_no d id) inside (ids.interface id has.0).0
+to_target-well d known s h t k (targets.Other id) inside route has = route
+
+by_route-well : (d : Description) → IsKnown d → (s : SubnetNo) (h : Header) (k : Option ℕ) → is_subnet d s ≡ true → IfFound (is_route d (table_of d s)) k → LeadsWell d (by_route d s h (table_of d s) k)
+by_route-well d known s h None inside found = let range = known.range in range.table_of_subnet s inside
+by_route-well d known s h (Some k) inside found =
+    let named = known.named in
+    let range = known.range in
+    let t = table_of d s in
+    let table = table_at d t in
+    let r = slice_index_or table.routes k no_route in
+    let parts = and_parts (is_table d t) (ltb k (length table.routes)) found in
+    cond_both r.blackhole (stop (stops.Blackhole t k)) (to_target d s h t k r.target) (LeadsWell d) (λ _. found)
+    (λ alive. to_target-well d known s h t k r.target inside found
+    (subst (λ v. HasTarget d v r.target) (range.vpc_of_table s inside ∙ sym (subnet-vpc d known s inside).1)
+    (named.target_of_route table r (row-member d.tables t.0 no_table parts.0) (row-member table.routes k no_route parts.1) alive)))
+
+route-found : (d : Description) → IsKnown d → (s : SubnetNo) → is_subnet d s ≡ true → (a : ℕ) (o : Option ℕ) → (let table = table_at d (table_of d s) in chosen_route d table.routes a ≡ o) → IfFound (is_route d (table_of d s)) o
+route-found d known s inside a None e = tt
+route-found d known s inside a (Some k) e =
+    let range = known.range in
+    let t = table_of d s in
+    let table = table_at d t in
+    and_from (is_table d t) (ltb k (length table.routes)) (range.table_of_subnet s inside)
+    (position-at (is_unbeaten (is_candidate d table.routes a) (beats d a) table.routes) table.routes k no_route e).0
+
+-- ---- gateways
+
+enter_host-well : (d : Description) → IsKnown d → (v : VpcNo) (h : Header) (i : Option EniNo) → is_vpc d v ≡ true → IfFound (is_eni d) i → LeadsWell d (enter_host d v h i)
+enter_host-well d known v h None inside found = inside
+enter_host-well d known v h (Some i) inside found =
+    let range = known.range in
+    unless-well d (entering d (subnet_of d i) h) (deliver d i h) (entering-told d known (subnet_of d i) h (range.subnet_of_interface i found)) (deliver-well d i h found)
+
+attached-igw : (d : Description) (o : Option IgwNo) → IfFound (is_igw d) o → is_some o ≡ true → is_igw d (unwrap_or o (record { 0 = length d.igws })) ≡ true
+attached-igw d None found e = absurd (false≢true e)
+attached-igw d (Some g) found e = found
+
+go_public-well : (d : Description) (v : VpcNo) (h : Header) (a : Option ℕ) → has_gateway d v ≡ true → LeadsWell d (go_public d v h a)
+go_public-well d v h None has = attached-igw d (gateway_of d v) (gateway-found d v) (and_parts (is_vpc d v) (is_some (gateway_of d v)) has).1
+go_public-well d v h (Some a) has = refl
+
+not-none : {X : Type 0} (o : Option X) → is_none o ≡ false → is_some o ≡ true
+not-none None e = absurd (false≢true (sym e))
+not-none (Some x) e = refl
+
+to_owner-well : (d : Description) (h : Header) (v : Option VpcNo) → IfFound (is_vpc d) v → LeadsWell d (to_owner d h v)
+to_owner-well d h None found = refl
+to_owner-well d h (Some v) found =
+    cond_both (is_none (gateway_of d v)) (stop (stops.NoGateway v)) (go (places.IgwIn v) h) (LeadsWell d) (λ _. found)
+    (λ attached. and_from (is_vpc d v) (is_some (gateway_of d v)) found (not-none (gateway_of d v) attached))
+
+map-member : {X Y : Type 0} (f : X → Y) (xs : List X) (y : Y) → Contains (map f xs) y → (x : X) × (f x ≡ y)
+map-member f [] y has = absurd (Contains-none y has)
+map-member f (x ∷ xs) y has = elim (Contains-cases (f x) y (map f xs) has) [ inl same ↦ (x, same) | inr later ↦ map-member f xs y later ]
+
+owner-by : (d : Description) → IsKnown d → (public : ℕ) (o : Option (VpcNo × ℕ)) → find (λ (o : VpcNo × ℕ). o.1 == public) (flat_map (owned_by d) d.interfaces) ≡ o → IfFound (is_vpc d) (option_map (λ (o : VpcNo × ℕ). o.0) o)
+owner-by d known public None e = tt
+owner-by d known public (Some owner) e =
+    let named = known.named in
+    let ids = known.ids in
+    let found = find-member (λ (o : VpcNo × ℕ). o.1 == public) (flat_map (owned_by d) d.interfaces) owner e in
+    let row = flat_map-member (owned_by d) d.interfaces owner found.1 in
+    let i = row.0 in
+    let f : ℕ × ℕ → VpcNo × ℕ = λ p. (vpc_no d (vpc_of_interface d i), p.1) in
+    let pair = map-member f (pairs_of i) owner row.2 in
+    let subnet = ids.subnet i.subnet (named.subnet_of_interface i row.1) in
+    let s = subnet_at d (subnet_no d i.subnet) in
+    let there = named.vpc_of_subnet s (row-member d.subnets (let n = subnet_no d i.subnet in n.0) no_subnet subnet.0) in
+    subst (λ (o : VpcNo × ℕ). is_vpc d o.0 ≡ true) pair.1 (ids.vpc s.vpc there).0
+
+step_internet-well : (d : Description) → IsKnown d → (m : Moment) → LeadsWell d (step_internet d m).next
+step_internet-well d known m =
+    cond_both (is_unroutable m.header.src || is_unroutable m.header.dst) _ _ (λ (s : Step). LeadsWell d s.next) (λ _. refl)
+    (λ _. to_owner-well d m.header (owner_of d m.header.dst) (owner-by d known m.header.dst (find (λ (o : VpcNo × ℕ). o.1 == m.header.dst) (flat_map (owned_by d) d.interfaces)) refl))
+
+from_nat-by : (d : Description) → IsKnown d → (n : NatNo) (life : NatLife) → is_nat d n ≡ true → (let row = nat_at d n in row.life ≡ life) → is_live life ≡ true → is_subnet d (subnet_no d (own_subnet life)) ≡ true
+from_nat-by d known n lives.Gone inside is works = absurd (false≢true works)
+from_nat-by d known n lives.Unmodelled inside is works = absurd (false≢true works)
+from_nat-by d known n (lives.Live subnet eni address) inside is works = nat-subnet d known n inside subnet eni address is
+
+from_nat-well : (d : Description) → IsKnown d → (n : NatNo) (h : Header) → is_working d n ≡ true → LeadsWell d (from_nat d n h)
+from_nat-well d known n h works =
+    let row = nat_at d n in
+    let parts = and_parts (is_nat d n) (is_live row.life) works in
+    and_from (is_subnet d (subnet_no d (own_subnet row.life))) (is_nat d n) (from_nat-by d known n row.life parts.0 refl parts.1) parts.0
+
+translate-well : (d : Description) → IsKnown d → (n : NatNo) (m : Moment) (t : Option Translation) → is_working d n ≡ true → LeadsWell d (translate d n m t).next
+translate-well d known n m (Some t) works = from_nat-well d known n t.after works
+translate-well d known n m None works =
+    let row = nat_at d n in
+    cond_both (is_full m.nats n m.header) _ _ (λ (s : Step). LeadsWell d s.next) (λ _. (and_parts (is_nat d n) (is_live row.life) works).0) (λ _. let t = new_translation m.nats n (own_address row.life) m.header in from_nat-well d known n t.after works)
+
+step_nat_out-well : (d : Description) → IsKnown d → (label : Label) (n : NatNo) (m : Moment) → is_working d n ≡ true → LeadsWell d (step_nat_out d label n m).next
+step_nat_out-well d known Answer n m works = let row = nat_at d n in (and_parts (is_nat d n) (is_live row.life) works).0
+step_nat_out-well d known Opening n m works =
+    let row = nat_at d n in
+    cond_both (is_translatable m.header.proto) (translate d n m (translation_of m.nats n m.header)) _ (λ (s : Step). LeadsWell d s.next)
+    (λ _. translate-well d known n m (translation_of m.nats n m.header) works) (λ _. (and_parts (is_nat d n) (is_live row.life) works).0)
+
+from_inward-well : (d : Description) → IsKnown d → (n : NatNo) (h : Option Header) → is_working d n ≡ true → LeadsWell d (from_inward d n h)
+from_inward-well d known n None works = let row = nat_at d n in (and_parts (is_nat d n) (is_live row.life) works).0
+from_inward-well d known n (Some h) works = from_nat-well d known n h works
+
+step_nat_in-well : (d : Description) → IsKnown d → (label : Label) (n : NatNo) (m : Moment) → is_working d n ≡ true → LeadsWell d (step_nat_in d label n m).next
+step_nat_in-well d known Opening n m works = let row = nat_at d n in (and_parts (is_nat d n) (is_live row.life) works).0
+step_nat_in-well d known Answer n m works = from_inward-well d known n (inward m.nats n m.header) works
+
+-- ---- peerings and transit gateways
+
+joined-other : (d : Description) (v : List ℕ) (pair : List ℕ × List ℕ) → joins d v (Some pair) ≡ true → has_vpc d (other_side v pair) ≡ true
+joined-other d v pair e =
+    let parts = and_parts (bytes_eq pair.0 v || bytes_eq pair.1 v) (has_vpc d pair.0 && has_vpc d pair.1) e in
+    let two = and_parts (has_vpc d pair.0) (has_vpc d pair.1) parts.1 in
+    cond_both (bytes_eq pair.0 v) pair.1 pair.0 (λ w. has_vpc d w ≡ true) (λ _. two.1) (λ _. two.0)
+
+by_pair-well : (d : Description) → IsKnown d → (x : PeerNo) (v : VpcNo) (h : Header) (pair : Option (List ℕ × List ℕ)) → is_peering d x ≡ true → (let row = vpc_at d v in joins d row.id pair ≡ true) → LeadsWell d (by_pair d x v h pair)
+by_pair-well d known x v h None inside joined = inside
+by_pair-well d known x v h (Some pair) inside joined =
+    let ids = known.ids in
+    let row = vpc_at d v in
+    let w = vpc_no d (other_side row.id pair) in
+    let within = (ids.vpc (other_side row.id pair) (joined-other d row.id pair joined)).0 in
+    cond_both (not (has_block d v h.src)) _ _ (LeadsWell d) (λ _. inside)
+    (λ _. cond_both (not (has_block d w h.dst)) _ _ (LeadsWell d) (λ _. inside) (λ _. and_from (is_vpc d w) (is_peering d x) within inside))
+
+to_attachment-well : (d : Description) (s : SubnetNo) (h : Header) (t : TgwTableNo) (k : ℕ) (a : Option AttNo) → is_subnet d s ≡ true → has_foreign_text d (foreign.FarAttachment t k) ≡ true → IfFound (is_attachment d) a → LeadsWell d (to_attachment s h t k a)
+to_attachment-well d s h t k None inside far found = far
+to_attachment-well d s h t k (Some a) inside far found = and_from (is_attachment d a) (is_subnet d s) found inside
+
+by_attachment-well : (d : Description) (s : SubnetNo) (h : Header) (t : TgwTableNo) (k : ℕ) (id : Option (List ℕ)) → is_subnet d s ≡ true → is_tgw_route d t k ≡ true
+    → (let table = tgw_table_at d t in let r = slice_index_or table.routes k no_tgw_route in r.attachment ≡ id) → LeadsWell d (by_attachment d s h t k id)
+by_attachment-well d s h t k None inside route is = let table = tgw_table_at d t in (and_parts (is_tgw_table d t) (ltb k (length table.routes)) route).0
+by_attachment-well d s h t k (Some id) inside route is =
+    let table = tgw_table_at d t in
+    let r = slice_index_or table.routes k no_tgw_route in
+    let far = and_from (is_tgw_route d t k) (is_some r.attachment) route (subst (λ o. is_some o ≡ true) (sym is) refl) in
+    to_attachment-well d s h t k (attachment_of_id d id) inside far (attachment_of_id-found d id)
+
+by_tgw_route-well : (d : Description) (s : SubnetNo) (h : Header) (t : TgwTableNo) (k : Option ℕ) → is_subnet d s ≡ true → is_tgw_table d t ≡ true → IfFound (is_tgw_route d t) k → LeadsWell d (by_tgw_route d s h t k)
+by_tgw_route-well d s h t None inside within found = within
+by_tgw_route-well d s h t (Some k) inside within found =
+    let table = tgw_table_at d t in
+    let r = slice_index_or table.routes k no_tgw_route in
+    cond_both r.blackhole (stop (stops.TgwBlackhole t k)) (by_attachment d s h t k r.attachment) (LeadsWell d) (λ _. found) (λ _. by_attachment-well d s h t k r.attachment inside found refl)
+
+tgw_route-found : (d : Description) (t : TgwTableNo) → is_tgw_table d t ≡ true → (a : ℕ) (o : Option ℕ) → (let table = tgw_table_at d t in chosen_tgw_route table.routes a ≡ o) → IfFound (is_tgw_route d t) o
+tgw_route-found d t within a None e = tt
+tgw_route-found d t within a (Some k) e =
+    let table = tgw_table_at d t in
+    and_from (is_tgw_table d t) (ltb k (length table.routes)) within
+    (position-at (is_unbeaten (λ (r : TgwRoute). holds a r.block) beats_tgw table.routes) table.routes k no_tgw_route e).0
+
+by_tgw_table-well : (d : Description) (a : AttNo) (s : SubnetNo) (h : Header) (t : Option TgwTableNo) → is_attachment d a ≡ true → is_subnet d s ≡ true → IfFound (is_tgw_table d) t → LeadsWell d (by_tgw_table d a s h t)
+by_tgw_table-well d a s h None outer inside found = outer
+by_tgw_table-well d a s h (Some t) outer inside found =
+    let table = tgw_table_at d t in
+    by_tgw_route-well d s h t (chosen_tgw_route table.routes h.dst) inside found (tgw_route-found d t found h.dst (chosen_tgw_route table.routes h.dst) refl)
+
+attachment-table : (d : Description) (a : AttNo) → IfFound (is_tgw_table d) (table_of_attachment d a)
+attachment-table d a =
+    let att = attachment_at d a in
+    and_then-found (is_tgw_table d) (λ (x : Association). tgw_table_of_id d x.table) (λ x. tgw_table-found d x.table) (find (λ (x : Association). bytes_eq x.attachment att.id) d.associations)
+
+leave_by-well : (d : Description) (a : AttNo) (h : Header) (s : Option SubnetNo) → is_attachment d a ≡ true → IfFound (is_subnet d) s → LeadsWell d (leave_by a h s)
+leave_by-well d a h None inside found = inside
+leave_by-well d a h (Some s) inside found = and_from (is_subnet d s) (is_attachment d a) found inside
+
+-- ---- interfaces
+
+out_passing-well : (d : Description) → IsKnown d → (i : EniNo) (m : Moment) (by : Option By) (conns : List Connection) → is_eni d i ≡ true → LeadsWell d (out_passing d i m (record { by = by; conns = conns })).next
+out_passing-well d known i m None conns inside = inside
+out_passing-well d known i m (Some by) conns inside = let range = known.range in and_from (is_subnet d (subnet_of d i)) (is_eni d i) (range.subnet_of_interface i inside) inside
+
+step_out-well : (d : Description) → IsKnown d → (label : Label) (i : EniNo) (m : Moment) → is_eni d i ≡ true → LeadsWell d (step_out d label i m).next
+step_out-well d known label i m inside =
+    let e = interface_at d i in
+    let passing = passing_of d label i Outward m.header m.conns in
+    cond_both e.idle _ _ (λ (s : Step). LeadsWell d s.next) (λ _. inside)
+    (λ _. cond_both (e.checked && not (has_address e m.header.src)) _ _ (λ (s : Step). LeadsWell d s.next) (λ _. inside)
+    (λ _. out_passing-well d known i m passing.by passing.conns inside))
+
+taken_by-well : (d : Description) (i : EniNo) (h : Header) (boxes : Option (List Box5)) → is_eni d i ≡ true → LeadsWell d (taken_by d i h boxes)
+taken_by-well d i h None inside = inside
+taken_by-well d i h (Some boxes) inside =
+    cond_both (has_address (interface_at d i) h.dst) (arrive (ends.Interface i)) (forwarded i h boxes) (LeadsWell d) (λ _. inside)
+    (λ _. cond_both (passes boxes h) (go (places.OutOf i) h) (stop (stops.ApplianceDrop i)) (LeadsWell d) (λ _. inside) (λ _. inside))
+
+in_passing-well : (d : Description) (appliances : Appliances) (i : EniNo) (m : Moment) (by : Option By) (conns : List Connection) → is_eni d i ≡ true → LeadsWell d (in_passing d appliances i m (record { by = by; conns = conns })).next
+in_passing-well d appliances i m None conns inside = inside
+in_passing-well d appliances i m (Some by) conns inside = taken_by-well d i m.header (boxes_at appliances i) inside
+
+step_into-well : (d : Description) (appliances : Appliances) (label : Label) (i : EniNo) (m : Moment) → is_eni d i ≡ true → LeadsWell d (step_into d appliances label i m).next
+step_into-well d appliances label i m inside =
+    let e = interface_at d i in
+    let passing = passing_of d label i Inward m.header m.conns in
+    cond_both e.idle _ _ (λ (s : Step). LeadsWell d s.next) (λ _. inside)
+    (λ _. cond_both (e.checked && not (has_address e m.header.dst)) _ _ (λ (s : Step). LeadsWell d s.next) (λ _. inside)
+    (λ _. in_passing-well d appliances i m passing.by passing.conns inside))
+
+-- ---- all places
+
+step_at-well : (d : Description) → IsKnown d → (appliances : Appliances) (label : Label) (p : Place) (m : Moment) → is_sound d p ≡ true → LeadsWell d (step_at d appliances label p m).next
+step_at-well d known appliances label (places.OutOf i) m sound = step_out-well d known label i m sound
+step_at-well d known appliances label (places.Into i) m sound = step_into-well d appliances label i m sound
+step_at-well d known appliances label (places.Router s came) m sound =
+    let inside = (and_parts (is_subnet d s) (is_origin d came) sound).0 in
+    let table = table_at d (table_of d s) in
+    by_route-well d known s m.header (chosen_route d table.routes m.header.dst) inside (route-found d known s inside m.header.dst (chosen_route d table.routes m.header.dst) refl)
+step_at-well d known appliances label (places.Enter v by) m sound = enter_host-well d known v m.header (host_of d v m.header.dst) (and_parts (is_vpc d v) (is_entry d by) sound).0 (host-found d v m.header.dst)
+step_at-well d known appliances label (places.IgwOut v) m sound = go_public-well d v m.header (public_of d v m.header.src) sound
+step_at-well d known appliances label places.Internet m sound = step_internet-well d known m
+step_at-well d known appliances label (places.IgwIn v) m sound = and_from (is_vpc d v) true (and_parts (is_vpc d v) (is_some (gateway_of d v)) sound).0 refl
+step_at-well d known appliances label (places.NatOut n) m sound = step_nat_out-well d known label n m sound
+step_at-well d known appliances label (places.NatIn n) m sound = step_nat_in-well d known label n m sound
+step_at-well d known appliances label (places.Peer x v) m sound =
+    let row = peering_at d x in
+    let vpc = vpc_at d v in
+    let outer = and_parts (is_peering d x) (is_vpc d v && joins d vpc.id row.pair) sound in
+    let inner = and_parts (is_vpc d v) (joins d vpc.id row.pair) outer.1 in
+    by_pair-well d known x v m.header row.pair outer.0 inner.1
+step_at-well d known appliances label (places.Tgw a s) m sound =
+    let parts = and_parts (is_attachment d a) (is_subnet d s) sound in
+    by_tgw_table-well d a s m.header (table_of_attachment d a) parts.0 parts.1 (attachment-table d a)
+step_at-well d known appliances label (places.TgwLeave a s) m sound =
+    let parts = and_parts (is_attachment d a) (is_subnet d s) sound in
+    leave_by-well d a m.header (leave_subnet d a s) parts.0 (leave-found d known a s parts.0)
+
+-- ---- rules
+
+rule-found : (d : Description) (dir : Dir) (h : Header) (n : GroupNo) → is_group d n ≡ true → IfFound (is_rule d) (rule_of_group d dir h n)
+rule-found d dir h n inside =
+    let g = group_at d n in
+    let p = permission_allows d g.vpc dir h in
+    let rules = permissions_of dir g in
+    let make : ℕ → RuleRef = λ k. record { group = n; dir = dir; number = k + 1 } in
+    found-by make (is_rule d) p rules no_permission
+    (λ k below _.
+    let less = ltb-true k (length rules) below in
+    and_from (is_group d n) (leb 1 (k + 1) && leb (k + 1) (length rules)) inside (and_from (leb 1 (k + 1)) (leb (k + 1) (length rules)) (le-leb 1 (k + 1) (omega arith)) (le-leb (k + 1) (length rules) (omega arith))))
+    (position p rules) refl
+
+group-found : (d : Description) (id : List ℕ) → IfFound (is_group d) (group_of_id d id)
+group-found d id =
+    let p : Group → Bool = λ g. bytes_eq g.id id in
+    let make : ℕ → GroupNo = λ k. record { 0 = k } in
+    found-by make (is_group d) p d.groups no_group (λ k inside _. inside) (position p d.groups) refl
+
+rule_by-found : (d : Description) (dir : Dir) (h : Header) (o : Option GroupNo) → IfFound (is_group d) o → IfFound (is_rule d) (option_and_then (rule_of_group d dir h) o)
+rule_by-found d dir h None found = tt
+rule_by-found d dir h (Some n) found = rule-found d dir h n found
+
+first_rule-found : (d : Description) (dir : Dir) (h : Header) (ids : List (List ℕ)) → IfFound (is_rule d) (first_rule_of d dir h ids)
+first_rule-found d dir h [] = tt
+first_rule-found d dir h (id ∷ ids) =
+    if_found-else (is_rule d) (option_and_then (rule_of_group d dir h) (group_of_id d id)) (first_rule_of d dir h ids) (rule_by-found d dir h (group_of_id d id) (group-found d id)) (first_rule-found d dir h ids)
+
+lets-rule : (d : Description) (label : Label) (conns : List Connection) (c : Connection) (by : By) → LetsPass d label conns c by → has_rule d by ≡ true
+lets-rule d label conns c bys.Nothing lets = refl
+lets-rule d label conns c bys.NoGroups lets = refl
+lets-rule d label conns c bys.Tracked lets = refl
+lets-rule d label conns c (bys.Rule r) lets =
+    let e = interface_at d c.eni in
+    subst (IfFound (is_rule d)) lets.0 (first_rule-found d c.dir c.header e.groups)
+
+asks-rule : (d : Description) (label : Label) (conns : List Connection) (own : Option Connection) (by : By) → AsksGroups d label conns own by → has_rule d by ≡ true
+asks-rule d label conns None by asks = subst (λ b. has_rule d b ≡ true) (sym asks) refl
+asks-rule d label conns (Some c) by asks = lets-rule d label conns c by asks
+
+known-accepted : (d : Description) → IsAccepted d → IsKnown d
+known-accepted d accepted = record { named = accepted_has_all_named d accepted; ids = ids_are_found d; range = accepted_numbers_are_in_range d accepted }
+
+pub steps_are_sound : (d : Description) (appliances : Appliances) (label : Label) (m : Moment) → IsAccepted d → is_sound d m.place ≡ true → let s = step_of d appliances label m in LeadsWell d s.next × (has_rule d s.by ≡ true)
+steps_are_sound d appliances label m accepted sound =
+    let s = step_of d appliances label m in
+    (step_at-well d (known-accepted d accepted) appliances label m.place m sound, asks-rule d label m.conns (own_connection m.place m.header) s.by (packets_pass_by_groups d appliances label m))

@@ -1,5 +1,0 @@
-use Rattle.vpc_laws.proofs.Same.{connections_are_told_apart}
-use Rattle.vpc_laws.proofs.walks.tells_connections_apart.Goals as goal
-
-pub returns : goal.returns
-returns c = connections_are_told_apart

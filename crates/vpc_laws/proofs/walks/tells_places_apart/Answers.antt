@@ -1,5 +1,0 @@
-use Rattle.vpc_laws.proofs.Same.{places_are_told_apart}
-use Rattle.vpc_laws.proofs.walks.tells_places_apart.Goals as goal
-
-pub returns : goal.returns
-returns c = places_are_told_apart
