@@ -3,7 +3,7 @@ use Rattle.std.proofs.Common.{◌≡◌, ◌∙◌, ◌++◌, ◌∷◌, ◌&&�
 use Rattle.std.specs.List.{list_any}
 use Rattle.std.proofs.lemmas.Bool.Decides.{nat_tests}
 use Rattle.prefix_text.specs.Block.{Block}
-use Rattle.json_fields.proofs.KeptLemmas.{unseen, kept-new, dropped-seen, list_any-map}
+use Rattle.json_fields.proofs.KeptLemmas.{unseen, unseen-none, kept-new, dropped-seen, list_any-map}
 use Rattle.read_network.specs.Vpcs.{each_once, same_block}
 
 abbrev pub itself : Block → Block

@@ -1,5 +1,5 @@
 -- What the rows of NetworkInterfaces mean (EC2 API, DescribeNetworkInterfaces).
-use Rattle.std.specs.Prelude.{ℕ, ◌∷◌, ◌==◌, ◌&&◌, ◌||◌, ◌+◌, nat_le, Bool, not, List, Option, Some, None, Result, Ok, bytes_eq, codes, filter, map, unwrap_or, if◌then◌else◌, true}
+use Rattle.std.specs.Prelude.{ℕ, ◌∷◌, ◌==◌, ◌&&◌, ◌||◌, ◌+◌, nat_le, Bool, false, not, List, Option, Some, None, Result, Ok, bytes_eq, codes, filter, map, unwrap_or, if◌then◌else◌, true}
 use Rattle.std.specs.List.{list_any}
 use Rattle.serde_json.specs.Data.{Data}
 use Rattle.json_fields.specs.FieldFault.{and_then}
