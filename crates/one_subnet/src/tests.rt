@@ -4,6 +4,7 @@ use super::*;
 use serde_json::Value;
 use std::alloc::Global;
 use std::test::Fail;
+use vpc_model::{Description, Permission};
 
 const TWO_HOSTS: &str = "{\"Vpcs\": [{\"VpcId\": \"vpc-1\", \"CidrBlock\": \"10.0.0.0/16\"}],
 \"Subnets\": [{\"SubnetId\": \"subnet-a\", \"VpcId\": \"vpc-1\", \"AvailabilityZone\": \"us-east-1a\"}],
@@ -70,38 +71,62 @@ fn network_of_two_hosts(rt: HostRuntime) -> Result<(), Fail> {
     Ok(())
 }
 
+fn has_subnet(network: &Description) -> bool {
+    let id: &[u8] = b"subnet-a";
+    match network.subnets.as_slice() {
+        [subnet] => subnet.id.bytes() == id,
+        _ => false,
+    }
+}
+
+fn has_table(network: &Description) -> bool {
+    match network.tables.as_slice() {
+        [table] => table.main && table.routes.as_slice().len() == 1,
+        _ => false,
+    }
+}
+
+fn has_interface(network: &Description) -> bool {
+    let (id, subnet): (&[u8], &[u8]) = (b"eni-b", b"subnet-a");
+    match network.interfaces.as_slice() {
+        [_, it] => {
+            it.id.bytes() == id
+                && it.subnet.bytes() == subnet
+                && it.primary == Some(0x0A00_0114)
+                && it.groups.as_slice().len() == 1
+        }
+        _ => false,
+    }
+}
+
+fn has_rule(permissions: &[Permission]) -> bool {
+    match permissions {
+        [rule] => {
+            rule.q_from == 443 && rule.q_to == 443 && rule.blocks.as_slice().len() == 1
+        }
+        _ => false,
+    }
+}
+
+fn has_group(network: &Description) -> bool {
+    match network.groups.as_slice() {
+        [_, group] => {
+            has_rule(group.inward.as_slice()) && group.outward.as_slice().len() == 0
+        }
+        _ => false,
+    }
+}
+
 #[test]
 fn description_of_two_hosts(rt: HostRuntime) -> Result<(), Fail> {
     let value = Value::from_str(rt.alloc(), TWO_HOSTS)?;
     let network = read_site(rt.alloc(), &value)?.description(rt.alloc())?;
     assert_eq!(rt; network.vpcs.as_slice().len(), 1);
     assert_eq!(rt; network.acls.as_slice().len(), 0);
-    let [subnet] = network.subnets.as_slice() else {
-        return Err("not one subnet")?;
-    };
-    let [table] = network.tables.as_slice() else {
-        return Err("not one table")?;
-    };
-    let [_, interface] = network.interfaces.as_slice() else {
-        return Err("not two interfaces")?;
-    };
-    let [_, group] = network.groups.as_slice() else {
-        return Err("not two groups")?;
-    };
-    let [permission] = group.inward.as_slice() else {
-        return Err("not one permission")?;
-    };
-    let (subnet_id, interface_id): (&[u8], &[u8]) = (b"subnet-a", b"eni-b");
-    assert_eq!(rt; subnet.id.bytes(), subnet_id);
-    assert_eq!(rt; interface.id.bytes(), interface_id);
-    assert_eq!(rt; interface.subnet.bytes(), subnet_id);
-    assert_eq!(rt; interface.primary, Some(0x0A00_0114));
-    assert_eq!(rt; interface.groups.as_slice().len(), 1);
-    assert_eq!(rt; table.main, true);
-    assert_eq!(rt; table.routes.as_slice().len(), 1);
-    assert_eq!(rt; (permission.q_from, permission.q_to), (443, 443));
-    assert_eq!(rt; permission.blocks.as_slice().len(), 1);
-    assert_eq!(rt; group.outward.as_slice().len(), 0);
+    assert!(rt; has_subnet(&network));
+    assert!(rt; has_table(&network));
+    assert!(rt; has_interface(&network));
+    assert!(rt; has_group(&network));
     Ok(())
 }
 
