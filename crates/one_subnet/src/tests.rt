@@ -101,18 +101,14 @@ fn has_interface(network: &Description) -> bool {
 
 fn has_rule(permissions: &[Permission]) -> bool {
     match permissions {
-        [rule] => {
-            rule.q_from == 443 && rule.q_to == 443 && rule.blocks.as_slice().len() == 1
-        }
+        [rule] => { rule.q_from == 443 && rule.q_to == 443 && rule.blocks.as_slice().len() == 1 }
         _ => false,
     }
 }
 
 fn has_group(network: &Description) -> bool {
     match network.groups.as_slice() {
-        [_, group] => {
-            has_rule(group.inward.as_slice()) && group.outward.as_slice().len() == 0
-        }
+        [_, group] => { has_rule(group.inward.as_slice()) && group.outward.as_slice().len() == 0 }
         _ => false,
     }
 }

@@ -1,0 +1,13 @@
+pub mod Accepted
+pub mod Causes
+pub mod Described
+pub mod Distinct
+pub mod Firsts
+pub mod Keyed
+pub mod LongLists
+pub mod Maps
+pub mod Marks
+pub mod Owners
+pub mod Parts
+pub mod Repeats
+pub mod Told

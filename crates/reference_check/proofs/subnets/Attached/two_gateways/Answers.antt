@@ -1,0 +1,18 @@
+use Rattle.std.proofs.Common.{sym, ◌∙◌}
+use Rattle.vpc_model.specs.Accepted.{holds_twice}
+use Rattle.vpc_model.specs.Lookup.{is_listed}
+use Rattle.vpc_model.specs.declared.refusals.Refusal.TheVariants as refusals
+use Rattle.vpc_model.specs.declared.rows.InternetGateway.{InternetGateway}
+use Rattle.vpc_model.specs.declared.rows.Vpc.{Vpc}
+use Rattle.reference_check.proofs.Firsts.{causes-first, causes-none, twice-position}
+use Rattle.reference_check.proofs.subnets.Attached.two_gateways.Goals as goal
+
+pub returns-in-None : goal.returns-in-None
+returns-in-None c =
+    let number = twice-position (λ v (x : InternetGateway). is_listed v x.vpcs) (λ (t : Vpc). t.id) c.args.d.now.vpcs c.args.d.now.igws c.as_slice.result.now (c.as_slice.ensures.value ∙ c.requires.gateways) in
+    causes-none (λ (t : Vpc). holds_twice (λ (x : InternetGateway). is_listed t.id x.vpcs) c.args.d.now.igws) (λ t. refusals.TwoInternetGateways t.id) c.args.d.now.vpcs (sym number ∙ sym c.first_twice.ensures.number ∙ c.in-None.is)
+
+pub returns-in_ok-copied-in-Some : goal.returns-in_ok-copied-in-Some
+returns-in_ok-copied-in-Some c =
+    let number = twice-position (λ v (x : InternetGateway). is_listed v x.vpcs) (λ (t : Vpc). t.id) c.args.d.now.vpcs c.args.d.now.igws c.as_slice.result.now (c.as_slice.ensures.value ∙ c.requires.gateways) in
+    causes-first (λ (t : Vpc). holds_twice (λ (x : InternetGateway). is_listed t.id x.vpcs) c.args.d.now.igws) refusals.TwoInternetGateways (λ t. t.id) c.args.d.now.vpcs c.as_slice-in-Some.result.now c.in-Some.k _ c.in_ok-copied-in-Some.field-0 (sym number ∙ sym c.first_twice.ensures.number ∙ c.in-Some.is) c.as_slice-in-Some.ensures c.in_ok-copied-in-Some.ensures

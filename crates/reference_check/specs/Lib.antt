@@ -1,0 +1,12 @@
+pub mod AllNumbered
+pub mod Attached
+pub mod Causes
+pub mod Claims
+pub mod Hosts
+pub mod Keys
+pub mod Kinds
+pub mod LongLists
+pub mod Missing
+pub mod Network
+pub mod Numbered
+pub mod Told

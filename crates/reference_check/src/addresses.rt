@@ -1,0 +1,156 @@
+// Addresses that stand twice, and the interfaces that have them.
+ghost use Rattle.std.specs.Prelude.{◌≡◌, ◌==◌, ◌++◌, ◌∷◌, [], IfOk, IsTrue, List, OnOk, map, not, ℕ};
+ghost use Rattle.std.specs.List.{filter_map, flat_map, list_any};
+ghost use Rattle.vpc_model.specs.Accepted.{duplicate_addresses, duplicate_publics, missing_references, private_addresses, repeats_after, same_address};
+ghost use Rattle.vpc_model.specs.Lookup.{has_subnet, has_vpc, subnet_at, subnet_no, vpc_no};
+ghost use Rattle.vpc_model.specs.declared.refusals.Refusal.TheVariants.{DuplicatePublic};
+ghost use Rattle.reference_check.specs.Keys.{AreKeys, addresses_in, addresses_of, twice};
+ghost use Rattle.reference_check.specs.Numbered.{AreNetworkIds};
+ghost use Rattle.reference_check.specs.Told.{Tells};
+
+use crate::directory::NetworkIds;
+use crate::numbers::Numbers;
+use std::alloc::{AllocError, Global};
+use vpc_model::{Description, Id, Interface, Refusal, Subnet};
+
+// Adds the public addresses of an interface.
+fn add_publics(publics: &mut Numbers, addresses: &[(u32, Option<u32>)]) -> Result<(), Refusal>
+    ensures told { Tells (map DuplicatePublic (repeats_after (λ a b. a == b) publics.old (filter_map (λ x. x.1) addresses.now))) result }
+    ensures added { OnOk result (publics.new ≡ publics.old ++ filter_map (λ x. x.1) addresses.now) }
+{
+    for (_, public) in addresses {
+        if let Some(public) = public {
+            if !publics.add(*public as u64)? {
+                return Err(Refusal::DuplicatePublic(*public));
+            }
+        }
+    }
+    Ok(())
+}
+
+/// The first public address that stands twice among all of them.
+pub fn duplicate_publics(alloc: Global, d: &Description) -> Result<(), Refusal>
+    ensures { Tells (duplicate_publics d.now) result }
+{
+    let mut publics = Numbers::new(alloc);
+    for interface in d.interfaces.as_slice() {
+        add_publics(&mut publics, interface.addresses.as_slice())?;
+    }
+    Ok(())
+}
+
+// Adds a private address of a VPC, and tells whether it is new.
+fn add_address(
+    keys: &mut Numbers,
+    d: &Description,
+    vpc: &Id,
+    v: u32,
+    address: u32,
+) -> Result<bool, AllocError>
+    requires numbered { v ≡ (vpc_no d.now vpc.now).0 }
+    requires described { IsTrue (has_vpc d.now vpc.now) }
+    ensures fresh { (earlier : List (List ℕ × ℕ)) → AreKeys d.now earlier keys.old
+        → IfOk result (λ b. b ≡ not (list_any (same_address (vpc.now, address)) earlier)) }
+    ensures added { (earlier : List (List ℕ × ℕ)) → AreKeys d.now earlier keys.old
+        → IfOk result (λ b. IsTrue b → AreKeys d.now (earlier ++ (vpc.now, address) ∷ []) keys.new) }
+{
+    let _ = d;
+    let _ = vpc;
+    keys.add(v as u64 * 4_294_967_296 + address as u64)
+}
+
+// Adds the private addresses of an interface.
+fn add_addresses(
+    alloc: Global,
+    keys: &mut Numbers,
+    d: &Description,
+    vpc: &Id,
+    v: u32,
+    addresses: &[(u32, Option<u32>)],
+) -> Result<(), Refusal>
+    requires numbered { v ≡ (vpc_no d.now vpc.now).0 }
+    requires described { IsTrue (has_vpc d.now vpc.now) }
+    ensures told { (earlier : List (List ℕ × ℕ)) → AreKeys d.now earlier keys.old
+        → Tells (map twice (repeats_after same_address earlier (addresses_in vpc.now addresses.now))) result }
+    ensures added { (earlier : List (List ℕ × ℕ)) → AreKeys d.now earlier keys.old
+        → OnOk result (AreKeys d.now (earlier ++ addresses_in vpc.now addresses.now) keys.new) }
+{
+    for (address, _) in addresses {
+        if !add_address(keys, d, vpc, v, *address)? {
+            return Err(Refusal::DuplicateAddress(vpc.copied(alloc)?, *address));
+        }
+    }
+    Ok(())
+}
+
+// The subnet of an interface.
+fn subnet_of<'a>(d: &'a Description, ids: &NetworkIds, interface: &Interface) -> &'a Subnet
+    requires numbered { AreNetworkIds d.now ids.now }
+    requires described { IsTrue (has_subnet d.now interface.now.subnet) }
+    ensures { result.now ≡ subnet_at d.now (subnet_no d.now interface.now.subnet) }
+{
+    match ids.subnets.number(interface.subnet.bytes()) {
+        Some(k) => &d.subnets.as_slice()[k],
+        None => unreachable!(),
+    }
+}
+
+// The number of a VPC.
+fn number_of_vpc(d: &Description, ids: &NetworkIds, vpc: &Id) -> usize
+    requires numbered { AreNetworkIds d.now ids.now }
+    requires described { IsTrue (has_vpc d.now vpc.now) }
+    ensures { result ≡ (vpc_no d.now vpc.now).0 }
+{
+    let _ = d;
+    match ids.vpcs.number(vpc.bytes()) {
+        Some(v) => v,
+        None => unreachable!(),
+    }
+}
+
+// Adds the private addresses of an interface in its VPC.
+fn add_interface(
+    alloc: Global,
+    keys: &mut Numbers,
+    d: &Description,
+    ids: &NetworkIds,
+    interface: &Interface,
+) -> Result<(), Refusal>
+    requires numbered { AreNetworkIds d.now ids.now }
+    requires complete { missing_references d.now ≡ [] }
+    requires described { IsTrue (has_subnet d.now interface.now.subnet) }
+    ensures told { (earlier : List (List ℕ × ℕ)) → AreKeys d.now earlier keys.old
+        → Tells (map twice (repeats_after same_address earlier (addresses_of d.now interface.now))) result }
+    ensures added { (earlier : List (List ℕ × ℕ)) → AreKeys d.now earlier keys.old
+        → OnOk result (AreKeys d.now (earlier ++ addresses_of d.now interface.now) keys.new) }
+{
+    let subnet = subnet_of(d, ids, interface);
+    let v = number_of_vpc(d, ids, &subnet.vpc);
+    // so many rows don't fit in memory
+    if v > u32::MAX as usize {
+        return Err(Refusal::Memory);
+    }
+    add_addresses(
+        alloc,
+        keys,
+        d,
+        &subnet.vpc,
+        v as u32,
+        interface.addresses.as_slice(),
+    )
+}
+
+/// The keys of all private addresses, or the first address that stands twice in a VPC. The references of
+/// the description were checked.
+pub fn private_keys(alloc: Global, d: &Description, ids: &NetworkIds) -> Result<Numbers, Refusal>
+    requires numbered { AreNetworkIds d.now ids.now }
+    requires complete { missing_references d.now ≡ [] }
+    ensures told { Tells (duplicate_addresses d.now) result }
+    ensures keys { IfOk result (λ keys. AreKeys d.now (private_addresses d.now) keys) }
+{
+    let mut keys = Numbers::new(alloc);
+    for interface in d.interfaces.as_slice() {
+        add_interface(alloc, &mut keys, d, ids, interface)?;
+    }
+    Ok(keys)
+}

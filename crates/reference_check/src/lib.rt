@@ -1,0 +1,21 @@
+//! Whether the rows of a description make a network, and look-ups in one that they make.
+#![tactic(auto)]
+
+mod addresses;
+mod claims;
+mod directory;
+mod duplicates;
+mod hosts;
+mod ids;
+mod lengths;
+mod network;
+mod numbers;
+mod references;
+mod rows;
+mod subnets;
+
+pub use network::Network;
+pub use vpc_model::{ListName, Refusal};
+
+#[cfg(test)]
+mod tests;

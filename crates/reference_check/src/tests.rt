@@ -1,0 +1,1 @@
+// What no clause says: small descriptions with what is told of them.
