@@ -1,0 +1,4 @@
+pub mod Json
+pub mod Meaning
+pub mod Text
+pub mod Types
