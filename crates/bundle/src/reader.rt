@@ -13,7 +13,6 @@ use read_network::{NetworkRows, read_appliances, read_network};
 use reference_check::Network;
 use serde_json::Value;
 use std::alloc::Global;
-use std::mem;
 use vpc_base::OwnList;
 use vpc_model::{Acl, Appliance, Description, Group};
 
@@ -97,8 +96,5 @@ pub fn read_bundle(alloc: Global, bytes: &[u8]) -> Result<Network, BundleRefusal
     ensures { IsDescribedBy bytes.now result }
 {
     let bundle = read_json(alloc, bytes)?;
-    let network = network_of(alloc, &bundle);
-    // Giving back each of the many pieces of a large value would take longer than reading its rows.
-    mem::forget(bundle);
-    network
+    network_of(alloc, &bundle)
 }

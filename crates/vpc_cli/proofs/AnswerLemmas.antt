@@ -1,5 +1,5 @@
 -- What is due, from what was read and walked.
-use Rattle.std.proofs.Common.{◌≡◌, ◌<◌, ℕ, Bool, true, false, List, Option, Some, None, Result, Ok, Err, IfOk, refl, sym, ap, subst, ◌∙◌, length}
+use Rattle.std.proofs.Common.{◌≡◌, ◌<◌, ◌≤◌, ℕ, Bool, true, false, List, Option, Some, None, Result, Ok, Err, IfOk, refl, sym, ap, subst, ◌∙◌, codes, length}
 use Rattle.vpc_io.specs.Told.{IfTold}
 use Rattle.vpc_model.specs.Text.{walk_text}
 use Rattle.vpc_model.specs.declared.outcomes.Hop.{Hop}
@@ -12,7 +12,12 @@ use Rattle.vpc_cli.specs.declared.packets.Packet.{Packet}
 use Rattle.vpc_cli.specs.declared.status.Status.{Status}
 use Rattle.vpc_cli.specs.declared.status.Status.TheVariants.{Yes, No, Words, Description as Refused, Query, More, Read, Write, Memory}
 use Rattle.vpc_cli.specs.Asked.{IsAskAnswer}
-use Rattle.vpc_cli.specs.Described.{Describes}
+use Rattle.serde_json.specs.Data.{Data}
+use Rattle.bundle.specs.Json.{IsJson}
+use Rattle.bundle.specs.Text.{cause_text}
+use Rattle.bundle.specs.declared.refusal.BundleRefusal.{BundleRefusal}
+use Rattle.bundle.proofs.MeaningLemmas.{described_if_meant}
+use Rattle.vpc_cli.specs.Described.{Describes, IsRefusalLine, IsRefused, IsSiteIn, IsSiteOf, by_cause, by_form, file_limit, refusal_line, too_big}
 use Rattle.vpc_cli.specs.Due.{IsAnswerBy, IsAnswerIn, IsDue, IsDueBy, IsDueForBytes, IsDueForFile, memory_text, refusal_text_by}
 use Rattle.vpc_cli.specs.Packet.{packet_of}
 use Rattle.vpc_cli.specs.Query.{query_of}
@@ -93,13 +98,37 @@ answer_due words bytes site Memory text described answer = answers words site (i
 refusal_text_is : (words : List (List ℕ)) (bytes : List ℕ) (text : List ℕ) → IsDueForBytes words bytes Query text → text ≡ refusal_text_by (is_ask words)
 refusal_text_is words bytes text due = answers words due.site (is_ask words) Query text due.answer
 
+-- the text of a refusal of the description
+line_if_refused : (bytes text : List ℕ) → IsRefused bytes text → IsRefusalLine text
+line_if_refused bytes text (too_big long text_is) = record { cause = codes "TooBig"; text_is = text_is }
+line_if_refused bytes text (by_cause cause few is text_is) = record { cause = cause_text cause; text_is = text_is }
+line_if_refused bytes text (by_form few other text_is) = record { cause = codes "NotYet"; text_is = text_is }
+
+-- a file with too many bytes
+pub too_big_due : (told : Option (List ℕ)) (text : List ℕ)
+    → IfTold told (λ bytes. file_limit < length bytes) → text ≡ refusal_line (codes "TooBig") → IsRefusalLine text × IfTold told (λ bytes. IsRefused bytes text)
+too_big_due None text long is = (record { cause = codes "TooBig"; text_is = is }, tt)
+too_big_due (Some bytes) text long is = (record { cause = codes "TooBig"; text_is = is }, too_big long is)
+
+pub too_big_is_due : (words : List (List ℕ)) (told : Option (List ℕ)) (failed : Type 0) (status : Status) (text : List ℕ)
+    → IfTold told (λ bytes. file_limit < length bytes) → (status ≡ Refused) × (text ≡ refusal_line (codes "TooBig")) → IsDueForFile words told failed status text
+too_big_is_due words told failed status text long is =
+    subst (λ (s : Status). IsDueForFile words told failed s text) (sym is.0) (too_big_due told text long is.1)
+
+-- what is found in the value of a bundle is found in its bytes
+pub site_if_found : (bytes : List ℕ) (value : Data) (found : Result (Option Site) BundleRefusal)
+    → length bytes ≤ file_limit → IsJson bytes value → IsSiteOf value found → IsSiteIn bytes found
+site_if_found bytes value (Ok (Some site)) few json is = record { few = few; value = value; json = json; network = is.0; accepted = is.1; form = is.2 }
+site_if_found bytes value (Ok None) few json is = record { value = value; json = json; network = is.0; accepted = is.1; form = is.2 }
+site_if_found bytes value (Err cause) few json is = described_if_meant bytes value (Err cause) json is
+
 -- an answer that is due for the bytes that were read is due for the file
 pub due_if_told : (words : List (List ℕ)) (told : Option (List ℕ)) (failed : Type 0) (bytes : List ℕ) (status : Status) (text : List ℕ)
     → IfTold told (λ b. bytes ≡ b) → IsDueForBytes words bytes status text → IsDueForFile words told failed status text
 due_if_told words None failed bytes Yes text is due = tt
 due_if_told words None failed bytes No text is due = tt
 due_if_told words None failed bytes Words text is due = due
-due_if_told words None failed bytes Refused text is due = (due.0, tt)
+due_if_told words None failed bytes Refused text is due = (line_if_refused bytes text due, tt)
 due_if_told words None failed bytes Query text is due = (refusal_text_is words bytes text due, tt)
 due_if_told words None failed bytes More text is due = tt
 due_if_told words None failed bytes Read text is due = absurd due
@@ -111,7 +140,7 @@ due_if_told words (Some b) failed bytes status text is due = by status (subst (�
     by Yes d = d
     by No d = d
     by Words d = d
-    by Refused d = d
+    by Refused d = (line_if_refused b text d, d)
     by Query d = (refusal_text_is words b text d, d)
     by More d = d
     by Read d = absurd d

@@ -1,5 +1,5 @@
 -- What is due decides a query.
-use Rattle.std.proofs.Common.{◌≡◌, ◌<◌, ◌≤◌, ◌⊎◌, ◌∷◌, ◌||◌, ℕ, Bool, true, false, zero, suc, List, [], Option, Some, None, inl, inr, refl, sym, ap, subst, ◌∙◌, arith}
+use Rattle.std.proofs.Common.{◌≡◌, ◌<◌, ◌≤◌, ◌⊎◌, ◌∷◌, ◌||◌, ℕ, Bool, true, false, zero, suc, List, [], Option, Some, None, Err, Ok, inl, inr, refl, sym, ap, subst, ◌∙◌, arith}
 use Rattle.std.specs.List.{All, AllPairs, Contains}
 use Rattle.std.proofs.lemmas.List.Kept.{AllPairs-from_increasing}
 use Rattle.serde_json.specs.Data.{Data}
@@ -14,13 +14,15 @@ use Rattle.vpc_model.specs.declared.rows.Description.{Description}
 use Rattle.vpc_base.specs.declared.headers.Header.{Header}
 use Rattle.header_boxes.specs.declared.rows.Row.{Row}
 use Rattle.vpc_model.specs.declared.stop_texts.StopText.{StopText}
-use Rattle.one_subnet.specs.Form.{site_of}
 use Rattle.one_subnet.specs.Site.{description_of}
 use Rattle.subnet_reach.specs.Query.{box_of, meaning_in}
 use Rattle.one_subnet.specs.declared.site.Site.{Site}
 use Rattle.subnet_reach.specs.declared.query.Query.{Query as Asked}
 use Rattle.vpc_cli.specs.Asked.{IsAskAnswer, IsDecided, IsQueryAnswer, IsReachable, IsReported, IsReportedInPart}
-use Rattle.vpc_cli.specs.Described.{Describes, DescribesNone}
+use Rattle.bundle.specs.Meaning.{IsCause, Means, meaning_of}
+use Rattle.bundle.specs.declared.refusal.BundleRefusal.{BundleRefusal}
+use Rattle.bundle.specs.declared.refusal.BundleRefusal.TheVariants as causes
+use Rattle.vpc_cli.specs.Described.{Describes, IsRefused, by_cause, by_form, form_of, too_big}
 use Rattle.vpc_cli.specs.Due.{file_name, IsAnswer, IsAnswerBy, IsAnswered, IsComplete, IsDue, IsDueBy, IsDueForBytes, IsDueForFile, IsFault}
 use Rattle.vpc_cli.specs.Query.{query_of}
 use Rattle.vpc_cli.specs.Words.{is_ask, words_fault}
@@ -117,18 +119,40 @@ not_through meaning (row ∷ rows) h words covered through =
 same_value : (bytes : List ℕ) (v w : Data) → read bytes ≡ Some v → read bytes ≡ Some w → v ≡ w
 same_value bytes v w a b = let same : Some v ≡ Some w = sym a ∙ b in cc
 
+same_network : (v w : Data) (d e : Description) → v ≡ w → meaning_of v ≡ Ok d → meaning_of w ≡ Ok e → d ≡ e
+same_network v w d e value a b = let same : Ok d ≡ Ok e = sym a ∙ (ap meaning_of value ∙ b) in cc
+
+same_form : (v w : Data) (d e : Description) → v ≡ w → d ≡ e → form_of d v ≡ form_of e w
+same_form v w d e value network = ap (λ (x : Description). form_of x v) network ∙ ap (form_of e) value
+
 same_site : (bytes : List ℕ) (s t : Site) → Describes bytes s → Describes bytes t → s ≡ t
 same_site bytes s t a b =
-    let value = same_value bytes a.1.0 b.1.0 a.1.1.1 b.1.1.1 in
-    let same : Some s ≡ Some t = sym a.1.2 ∙ (ap site_of value ∙ b.1.2) in
+    let value = same_value bytes a.value b.value a.json.1 b.json.1 in
+    let network = same_network a.value b.value a.network b.network value a.accepted b.accepted in
+    let same : Some s ≡ Some t = sym a.form ∙ (same_form a.value b.value a.network b.network value network ∙ b.form) in
     cc
 
-none_described : (bytes : List ℕ) (site : Site) → DescribesNone bytes → Describes bytes site → ⊥
-none_described bytes site (inl long) described = let few = described.0 in absurd (omega arith)
-none_described bytes site (inr (inl no_json)) described = let same : None ≡ Some described.1.0 = sym (no_json described.1.1.0) ∙ described.1.1.1 in cc
-none_described bytes site (inr (inr other)) described =
-    let value = same_value bytes other.0 described.1.0 other.1.1 described.1.1.1 in
-    let same : None ≡ Some site = sym other.2 ∙ (ap site_of value ∙ described.1.2) in
+-- a bundle that is accepted has no cause against it
+not_accepted : (bytes : List ℕ) (cause : BundleRefusal) (site : Site) → Means bytes (Err cause) → Describes bytes site → ⊥
+not_accepted bytes cause site is described =
+    let value = same_value bytes is.value described.value is.json.1 described.json.1 in
+    let same : Err cause ≡ Ok described.network = sym is.meaning ∙ (ap meaning_of value ∙ described.accepted) in
+    cc
+
+no_cause : (bytes : List ℕ) (cause : BundleRefusal) (site : Site) → IsCause bytes cause → Describes bytes site → ⊥
+no_cause bytes causes.NotJson site is described = let same : None ≡ Some described.value = sym (is described.json.0) ∙ described.json.1 in cc
+no_cause bytes (causes.WrongShape path) site is described = not_accepted bytes (causes.WrongShape path) site is described
+no_cause bytes (causes.BadText path) site is described = not_accepted bytes (causes.BadText path) site is described
+no_cause bytes (causes.Rows cause) site is described = not_accepted bytes (causes.Rows cause) site is described
+no_cause bytes causes.Memory site is described = is
+
+not_refused : (bytes text : List ℕ) (site : Site) → IsRefused bytes text → Describes bytes site → ⊥
+not_refused bytes text site (too_big long text_is) described = let few = described.few in absurd (omega arith)
+not_refused bytes text site (by_cause cause few is text_is) described = no_cause bytes cause site is described
+not_refused bytes text site (by_form few other text_is) described =
+    let value = same_value bytes other.value described.value other.json.1 described.json.1 in
+    let network = same_network other.value described.value other.network described.network value other.accepted described.accepted in
+    let same : None ≡ Some site = sym other.form ∙ (same_form other.value described.value other.network described.network value network ∙ described.form) in
     cc
 
 -- ---- an answer decides the query
@@ -164,7 +188,7 @@ decided_by : (words : List (List ℕ)) (bytes : List ℕ) (site : Site) (query :
 decided_by words bytes site query Yes text due asks described query_is = inr (yes_decides site query text (asked words bytes site query Yes text due asks described query_is))
 decided_by words bytes site query No text due asks described query_is = inr (no_decides site query text (asked words bytes site query No text due asks described query_is))
 decided_by words bytes site query Words text due asks described query_is = absurd due
-decided_by words bytes site query Refused text due asks described query_is = absurd (none_described bytes site due.1 described)
+decided_by words bytes site query Refused text due asks described query_is = absurd (not_refused bytes text site due described)
 decided_by words bytes site query Query text due asks described query_is = absurd (asked words bytes site query Query text due asks described query_is)
 decided_by words bytes site query More text due asks described query_is = inr (more_decides site query text (asked words bytes site query More text due asks described query_is))
 decided_by words bytes site query Read text due asks described query_is = absurd due
@@ -176,7 +200,7 @@ decided_for : (words : List (List ℕ)) (bytes : List ℕ) (failed : Type 0) (si
 decided_for words bytes failed site query Yes text due = decided_by words bytes site query Yes text due
 decided_for words bytes failed site query No text due = decided_by words bytes site query No text due
 decided_for words bytes failed site query Words text due = absurd due
-decided_for words bytes failed site query Refused text due = decided_by words bytes site query Refused text due
+decided_for words bytes failed site query Refused text due = decided_by words bytes site query Refused text due.1
 decided_for words bytes failed site query Query text due = decided_by words bytes site query Query text due.1
 decided_for words bytes failed site query More text due = decided_by words bytes site query More text due
 decided_for words bytes failed site query Read text due = λ asks described query_is. inl (inl refl)

@@ -1,5 +1,5 @@
 -- What is printed of a request that gets through.
-use Rattle.std.proofs.Common.{◌≡◌, ◌<◌, ◌++◌, ℕ, List, [], Option, Some, None, refl, sym, ap, ◌∙◌, codes, length}
+use Rattle.std.proofs.Common.{◌≡◌, ◌<◌, ◌++◌, ℕ, List, [], Some, None, refl, sym, ap, ◌∙◌, codes, length}
 use Rattle.std.specs.Prelude.{option_and_then}
 use Rattle.vpc_base.specs.Header.{reply_of}
 use Rattle.vpc_base.specs.declared.headers.Header.{Header}

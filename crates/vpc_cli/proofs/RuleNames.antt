@@ -2,7 +2,6 @@
 use Rattle.std.proofs.Common.{◌≡◌, ◌-◌, ℕ, zero, suc, List, [], ◌∷◌, Option, None, refl, ap, decimal, map}
 use Rattle.std.specs.Prelude.{slice_index_or, unwrap_or}
 use Rattle.vpc_base.specs.declared.headers.Dir.{Dir}
-use Rattle.vpc_model.specs.declared.rows.Group.{Group}
 use Rattle.vpc_model.specs.declared.rows.Permission.{Permission}
 use Rattle.vpc_base.specs.declared.headers.Dir.TheVariants as dirs
 use Rattle.vpc_model.specs.Groups.{no_permission, permissions_of}

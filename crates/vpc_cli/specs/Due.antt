@@ -8,7 +8,7 @@ use Rattle.subnet_reach.specs.declared.query.Query.{Query as Asked}
 use Rattle.vpc_cli.specs.declared.status.Status.{Status}
 use Rattle.vpc_cli.specs.declared.status.Status.TheVariants.{Yes, No, Words, Description as Refused, Query, More, Read, Write, Memory}
 use Rattle.vpc_cli.specs.Asked.{IsAskAnswer, IsDecided, query_text}
-use Rattle.vpc_cli.specs.Described.{Describes, DescribesNone}
+use Rattle.vpc_cli.specs.Described.{Describes, IsRefusalLine, IsRefused}
 use Rattle.vpc_cli.specs.Lines.{line}
 use Rattle.vpc_cli.specs.Packet.{packet_of, word_at}
 use Rattle.vpc_cli.specs.Query.{query_of}
@@ -17,9 +17,6 @@ use Rattle.vpc_cli.specs.Words.{is_ask, words_fault}
 
 abbrev pub words_text : ℕ → List ℕ
 words_text n = line (codes "refused words" ++ word (decimal n))
-
-abbrev pub description_text : List ℕ
-description_text = line (codes "refused description NotYet")
 
 abbrev pub fault_text : List ℕ
 fault_text = line (codes "read fault 1")
@@ -54,7 +51,7 @@ abbrev pub IsDueForBytes : List (List ℕ) → List ℕ → Status → List ℕ 
 IsDueForBytes words bytes Yes text = IsAnswered words bytes Yes text
 IsDueForBytes words bytes No text = IsAnswered words bytes No text
 IsDueForBytes words bytes Words text = ⊥
-IsDueForBytes words bytes Refused text = (text ≡ description_text) × DescribesNone bytes
+IsDueForBytes words bytes Refused text = IsRefused bytes text
 IsDueForBytes words bytes Query text = IsAnswered words bytes Query text
 IsDueForBytes words bytes More text = IsAnswered words bytes More text
 IsDueForBytes words bytes Read text = ⊥
@@ -66,7 +63,7 @@ abbrev pub IsDueForFile : List (List ℕ) → Option (List ℕ) → Type 0 → S
 IsDueForFile words told failed Yes text = IfTold told (λ bytes. IsDueForBytes words bytes Yes text)
 IsDueForFile words told failed No text = IfTold told (λ bytes. IsDueForBytes words bytes No text)
 IsDueForFile words told failed Words text = ⊥
-IsDueForFile words told failed Refused text = (text ≡ description_text) × IfTold told DescribesNone
+IsDueForFile words told failed Refused text = IsRefusalLine text × IfTold told (λ bytes. IsRefused bytes text)
 IsDueForFile words told failed Query text = (text ≡ refusal_text_by (is_ask words)) × IfTold told (λ bytes. IsDueForBytes words bytes Query text)
 IsDueForFile words told failed More text = IfTold told (λ bytes. IsDueForBytes words bytes More text)
 IsDueForFile words told failed Read text = (text ≡ fault_text) × failed

@@ -1,14 +1,15 @@
 // The answer to a command: its status with its text.
-ghost use Rattle.std.specs.Prelude.{◌≡◌, ◌≤◌, ◌<◌, ℕ, IfOk, length, map, string_bytes};
+ghost use Rattle.std.specs.Prelude.{◌≡◌, ◌≤◌, ◌<◌, ℕ, IfOk, List, is_some, length, map, string_bytes};
+ghost use Rattle.std.specs.List.{list_any};
 ghost use Rattle.serde_json.specs.View.{view};
 ghost use Rattle.vpc_base.specs.declared.headers.Header.{Header as Asked};
 ghost use Rattle.vpc_io.specs.Rose.{Rose};
-ghost use Rattle.one_subnet.specs.Form.{site_of};
 ghost use Rattle.subnet_reach.specs.Query.{IsQueryIn};
 ghost use Rattle.subnet_walk.specs.Trace.{outcome_of};
 ghost use Rattle.vpc_cli.specs.Asked.{IsAskAnswer, IsQueryAnswer};
-ghost use Rattle.vpc_cli.specs.Described.{IsSiteIn};
-ghost use Rattle.vpc_cli.specs.Due.{IsAnswerIn, IsDue, IsDueForBytes, IsDueForFile, IsDueForWords, description_text};
+ghost use Rattle.bundle.specs.Meaning.{IsToldOf};
+ghost use Rattle.vpc_cli.specs.Described.{IsRefused, IsSiteIn, IsSiteOf, file_limit, has_rule_rows, is_followed, refusal_line};
+ghost use Rattle.vpc_cli.specs.Due.{IsAnswerIn, IsDue, IsDueForBytes, IsDueForFile, IsDueForWords};
 ghost use Rattle.vpc_cli.specs.Lines.{line};
 ghost use Rattle.vpc_cli.specs.Packet.{packet_of};
 ghost use Rattle.vpc_cli.specs.Query.{query_of};
@@ -16,12 +17,14 @@ ghost use Rattle.vpc_cli.specs.Traced.{IsTraceAnswer, IsWay, status_of};
 ghost use Rattle.vpc_cli.specs.Words.{HasCount};
 
 use crate::packets::{Packet, read_packet, word};
-use crate::printing::{put, put_end, put_number_word, put_walk};
+use crate::printing::put_walk;
 use crate::queries::read_query;
 use crate::reachable::put_reachable;
 use crate::reports::{put_more, put_report};
 use crate::status::Status;
 use crate::words::{is_ask, words_fault};
+use block_report::{put, put_cause, put_end, put_number_word, put_word};
+use bundle::{BundleRefusal, network_of, read_json};
 use one_subnet::{FormFault, Site, read_site};
 use serde_json::Value;
 use std::alloc::Global;
@@ -30,6 +33,7 @@ use subnet_reach::{Query, Reached, reach};
 use subnet_walk::{Trace, walk_from};
 use vpc_base::NoMemory;
 use vpc_io::{Shelf, ShelfFault};
+use vpc_model::{Description, Group, Permission};
 
 /// A status with its text.
 #[derive(Debug, Drop)]
@@ -140,39 +144,88 @@ fn answered(alloc: Global, site: &Site, words: &[String]) -> Result<Answer, NoMe
     }
 }
 
-fn form_refusal(alloc: Global) -> Result<Answer, NoMemory>
-    ensures { IfOk result (λ a. (a.status ≡ Status.Description) × (a.text.items ≡ description_text)) }
+// The line of a refusal of the description.
+fn description_refusal(alloc: Global, cause: &[u8]) -> Result<Answer, NoMemory>
+    ensures { IfOk result (λ a. (a.status ≡ Status.Description) × (a.text.items ≡ refusal_line cause.now)) }
 {
-    refusal(alloc, Status::Description, b"refused description NotYet")
+    let mut text = Vec::new(alloc);
+    put(&mut text, b"refused description")?;
+    put_word(&mut text, cause)?;
+    put_end(&mut text)?;
+    Ok(Answer {
+        status: Status::Description,
+        text,
+    })
 }
 
-// The network that the value describes; none where it is of another form.
-fn site_if(alloc: Global, value: &Value) -> Result<Option<Site>, NoMemory>
-    ensures { IfOk result (λ o. o ≡ site_of (view value.now)) }
+// The line of the first cause against a bundle.
+fn bundle_refusal(alloc: Global, cause: &BundleRefusal) -> Result<Answer, NoMemory>
+    ensures status { IfOk result (λ a. a.status ≡ Status.Description) }
+    ensures cause { (bytes : List ℕ) → length bytes ≤ file_limit → IsToldOf bytes cause.now
+        → IfOk result (λ a. IsRefused bytes a.text.items) }
 {
-    match read_site(alloc, value) {
+    if cause.is_memory() {
+        return Err(NoMemory);
+    }
+    let mut text = Vec::new(alloc);
+    put_cause(&mut text, cause)?;
+    description_refusal(alloc, text.as_slice())
+}
+
+fn has_rule_row(rules: &[Permission]) -> bool
+    ensures { result ≡ list_any (λ p. is_some p.id) rules.now }
+{
+    rules.iter().any(|p| p.id.is_some())
+}
+
+// Whether some rule was told apart from its group.
+fn has_rule_rows(group: &Group) -> bool
+    ensures { result ≡ has_rule_rows group.now }
+{
+    has_rule_row(group.inward.as_slice()) || has_rule_row(group.outward.as_slice())
+}
+
+fn any_has_rule_rows(groups: &[Group]) -> bool
+    ensures { result ≡ list_any has_rule_rows groups.now }
+{
+    groups.iter().any(|g| has_rule_rows(g))
+}
+
+// Whether the form that is followed so far looks at all that the description has.
+fn is_followed(d: &Description) -> bool
+    ensures { result ≡ is_followed d.now }
+{
+    !any_has_rule_rows(d.groups.as_slice()) && d.appliances.as_slice().len() == 0
+}
+
+// What an accepted bundle is in the form that is followed so far; none where it is of another.
+fn site_of(alloc: Global, bundle: &Value) -> Result<Option<Site>, BundleRefusal>
+    ensures { IsSiteOf (view bundle.now) result }
+{
+    let network = network_of(alloc, bundle)?;
+    let followed = is_followed(network.description());
+    // The process ends with its answer: giving back the many rows of a large network takes longer than
+    // finding one in it.
+    mem::forget(network);
+    if !followed {
+        return Ok(None);
+    }
+    match read_site(alloc, bundle) {
         Ok(site) => Ok(Some(site)),
         Err(FormFault::NotYet) => Ok(None),
-        Err(FormFault::Memory) => Err(NoMemory),
+        Err(FormFault::Memory) => Err(BundleRefusal::Memory),
     }
 }
 
-// The network that the bytes describe; none where they describe none.
-fn site_in(alloc: Global, bytes: &[u8]) -> Result<Option<Site>, NoMemory>
+// What the bytes describe in that form.
+fn site_in(alloc: Global, bytes: &[u8]) -> Result<Option<Site>, BundleRefusal>
     requires { length bytes.now ≤ FILE_LIMIT }
-    ensures { IfOk result (IsSiteIn bytes.now) }
+    ensures { IsSiteIn bytes.now result }
 {
-    match Value::from_slice(alloc, bytes) {
-        Ok(value) => {
-            let site = site_if(alloc, &value);
-            // The process ends with its answer. Giving back each of the many pieces of a large value would
-            // take about as long as all else but reading it.
-            mem::forget(value);
-            site
-        }
-        Err(e) if e.is_memory() => Err(NoMemory),
-        Err(_) => Ok(None),
-    }
+    let bundle = read_json(alloc, bytes)?;
+    let site = site_of(alloc, &bundle);
+    mem::forget(bundle);
+    site
 }
 
 fn described(alloc: Global, bytes: &[u8], words: &[String]) -> Result<Answer, NoMemory>
@@ -180,9 +233,10 @@ fn described(alloc: Global, bytes: &[u8], words: &[String]) -> Result<Answer, No
     requires bytes { length bytes.now ≤ FILE_LIMIT }
     ensures { IfOk result (λ a. IsDueForBytes (map string_bytes words.now) bytes.now a.status a.text.items) }
 {
-    match site_in(alloc, bytes)? {
-        Some(site) => answered(alloc, &site, words),
-        None => form_refusal(alloc),
+    match site_in(alloc, bytes) {
+        Ok(Some(site)) => answered(alloc, &site, words),
+        Ok(None) => description_refusal(alloc, b"NotYet"),
+        Err(cause) => bundle_refusal(alloc, &cause),
     }
 }
 
@@ -198,7 +252,7 @@ fn answer_file<S: Shelf>(
     match shelf.take(alloc, name, FILE_LIMIT) {
         Ok(bytes) => described(alloc, bytes.as_slice(), words),
         Err(ShelfFault::Failed) => refusal(alloc, Status::Read, b"read fault 1"),
-        Err(ShelfFault::TooLong) => form_refusal(alloc),
+        Err(ShelfFault::TooLong) => description_refusal(alloc, b"TooBig"),
         Err(ShelfFault::Memory) => Err(NoMemory),
     }
 }

@@ -1,17 +1,16 @@
 // Prints walks.
-ghost use Rattle.std.specs.Prelude.{◌≡◌, ◌<◌, ◌++◌, ◌∷◌, [], OnOk, length, decimal, codes};
-ghost use Rattle.vpc_model.specs.Text.{word, line_end, proto_text, header_text, by_text, dir_text, hop_line, hop_lines, outcome_line, rule_name, walk_text};
+ghost use Rattle.std.specs.Prelude.{◌≡◌, ◌<◌, ◌++◌, ◌∷◌, [], OnOk, length};
+ghost use Rattle.vpc_model.specs.Text.{word, line_end, by_text, dir_text, hop_line, hop_lines, outcome_line, rule_name, walk_text};
 ghost use Rattle.std.specs.Option.{ForSome};
 ghost use Rattle.vpc_base.specs.declared.headers.Dir.TheVariants.{Inward, Outward};
 ghost use Rattle.subnet_walk.specs.Trace.{by_of, by_if, out_hop, router_hop, in_hop, hops_of, outcome_of};
-ghost use Rattle.prefix_text.specs.Addr.{addr_text};
 ghost use Rattle.subnet_walk.specs.Known.{IsGroupOf, IsKnown};
 ghost use Rattle.vpc_cli.specs.Lines.{arrived_line, place_line, stopped_line};
 ghost use Rattle.one_subnet.specs.Site.{description_of};
 ghost use Rattle.vpc_model.specs.Lookup.{group_at, interface_at};
 
+use block_report::{put, put_end, put_header_word, put_number_word, put_word};
 use one_subnet::Site;
-use prefix_text::{put_addr, put_number};
 use subnet_walk::{PassedBy, Trace};
 use vpc_base::{Dir, Header, NoMemory};
 
@@ -21,73 +20,6 @@ pub struct Place<'a> {
     pub number: u128,
     pub kind: &'a [u8],
     pub id: &'a [u8],
-}
-
-/// Appends a text.
-pub fn put(out: &mut Vec<u8>, text: &[u8]) -> Result<(), NoMemory>
-    ensures { OnOk result (out.new.items ≡ out.old.items ++ text.now) }
-{
-    out.extend_from_slice(text)?;
-    Ok(())
-}
-
-/// Appends a blank and a text.
-pub fn put_word(out: &mut Vec<u8>, text: &[u8]) -> Result<(), NoMemory>
-    ensures { OnOk result (out.new.items ≡ out.old.items ++ word text.now) }
-{
-    put(out, b" ")?;
-    put(out, text)
-}
-
-/// Appends a blank and a number.
-pub fn put_number_word(out: &mut Vec<u8>, n: u128) -> Result<(), NoMemory>
-    ensures { OnOk result (out.new.items ≡ out.old.items ++ word (decimal n)) }
-{
-    put(out, b" ")?;
-    put_number(out, n)
-}
-
-fn put_addr_word(out: &mut Vec<u8>, a: u32) -> Result<(), NoMemory>
-    ensures { OnOk result (out.new.items ≡ out.old.items ++ word (addr_text a)) }
-{
-    put(out, b" ")?;
-    put_addr(out, a)
-}
-
-/// Ends the line.
-pub fn put_end(out: &mut Vec<u8>) -> Result<(), NoMemory>
-    ensures { OnOk result (out.new.items ≡ out.old.items ++ line_end) }
-{
-    put(out, b"\n")
-}
-
-fn put_proto(out: &mut Vec<u8>, proto: u8) -> Result<(), NoMemory>
-    ensures { OnOk result (out.new.items ≡ out.old.items ++ proto_text proto) }
-{
-    match proto {
-        1 => put(out, b"icmp"),
-        6 => put(out, b"tcp"),
-        17 => put(out, b"udp"),
-        n => put_number(out, u128::from(n)),
-    }
-}
-
-fn put_header(out: &mut Vec<u8>, h: &Header) -> Result<(), NoMemory>
-    ensures { OnOk result (out.new.items ≡ out.old.items ++ header_text h.now) }
-{
-    put_proto(out, h.proto)?;
-    put_addr_word(out, h.src)?;
-    put_addr_word(out, h.dst)?;
-    put_number_word(out, u128::from(h.p))?;
-    put_number_word(out, u128::from(h.q))
-}
-
-/// Appends a blank and a header.
-pub fn put_header_word(out: &mut Vec<u8>, h: &Header) -> Result<(), NoMemory>
-    ensures { OnOk result (out.new.items ≡ out.old.items ++ word (header_text h.now)) }
-{
-    put(out, b" ")?;
-    put_header(out, h)
 }
 
 /// Appends what each hop's line has before what the packet passed.

@@ -11,10 +11,9 @@ ghost use Rattle.subnet_walk.specs.Trace.{in_hop, out_hop, trace_of};
 ghost use Rattle.vpc_cli.specs.Lines.{place_line};
 ghost use Rattle.vpc_cli.specs.Reachable.{packet_line, packet_text, reply_text, request_text, return_text, through_text};
 
-use crate::printing::{
-    Place, host_id, put, put_arrived_at, put_end, put_place, put_router_hop, put_walk,
-};
+use crate::printing::{Place, host_id, put_arrived_at, put_place, put_router_hop, put_walk};
 use crate::reports::{put_header_line, put_line};
+use block_report::{put, put_end};
 use one_subnet::Site;
 use subnet_reach::Query;
 use subnet_walk::{Trace, walk_from};

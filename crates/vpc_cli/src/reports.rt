@@ -7,7 +7,8 @@ ghost use Rattle.one_subnet.specs.Site.{description_of};
 ghost use Rattle.subnet_reach.specs.Query.{IsQueryIn, box_of, end_at, row_of, rows_of};
 ghost use Rattle.vpc_cli.specs.Lines.{barrier_text, stopped_text};
 
-use crate::printing::{host_id, put, put_end, put_header_word, put_number_word, put_word};
+use crate::printing::host_id;
+use block_report::{put, put_end, put_header_word, put_number_word, put_word};
 use header_boxes::Box5;
 use one_subnet::Site;
 use ordered_cover::Row;

@@ -167,17 +167,34 @@ fn refuses_words(rt: HostRuntime) -> Result<(), Fail> {
 #[test]
 fn refuses_descriptions(rt: HostRuntime) -> Result<(), Fail> {
     let words = "trace o.json open from eni-a tcp 10.0.1.10 10.0.1.20 5000 443";
-    let files = [
-        "",
-        "{\"Vpcs\":[{\"VpcId\":\"vp",
-        "[]",
-        "{}",
-        "{\"Vpcs\":null}",
+    let cases = [
+        ("", "NotJson"),
+        ("{\"Vpcs\":[{\"VpcId\":\"vp", "NotJson"),
+        ("[1]", "WrongShape $"),
+        ("[]", "NotYet"),
+        ("{}", "NotYet"),
+        ("{\"Vpcs\":null}", "NotYet"),
     ];
-    for file in files {
-        let case = refused(words, file, 3, "refused description NotYet\n");
-        check(&rt, rt.alloc(), &case)?;
+    for (file, cause) in cases {
+        refuses_description(&rt, rt.alloc(), words, file, cause)?;
     }
+    Ok(())
+}
+
+fn refuses_description(
+    rt: &impl Abort,
+    alloc: Global,
+    line: &str,
+    file: &str,
+    cause: &str,
+) -> Result<(), Fail> {
+    let words = words_of(alloc, line)?;
+    let mut shelf = shelf_of(alloc, file, 0)?;
+    let mut out = sink_of(alloc, 0, 4096)?;
+    let status = run(alloc, words.as_slice(), &mut shelf, &mut out);
+    let text = format!(in alloc; "refused description {cause}\n")?;
+    assert_eq!(rt; out.bytes(), text.as_bytes(), "{file}");
+    assert_eq!(rt; status, Status::Description);
     Ok(())
 }
 

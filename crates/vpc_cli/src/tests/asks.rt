@@ -32,8 +32,9 @@ fn network(
     outward: &str,
     inward: &str,
 ) -> Result<String, Fail> {
-    let subnet =
-        "\"Vpcs\":[{\"VpcId\":\"vpc-1\"}],\"Subnets\":[{\"SubnetId\":\"subnet-a\",\"VpcId\":\"vpc-1\"}]";
+    let subnet = "\"Vpcs\":[{\"VpcId\":\"vpc-1\",\"CidrBlock\":\"10.0.0.0/16\"}],\
+\"Subnets\":[{\"SubnetId\":\"subnet-a\",\"VpcId\":\"vpc-1\",\"AvailabilityZone\":\"us-east-1a\"}],\
+\"NetworkAcls\":[{\"NetworkAclId\":\"acl-1\",\"Associations\":[{\"SubnetId\":\"subnet-a\"}]}]";
     let first =
         "\"NetworkInterfaceId\":\"eni-a\",\"SubnetId\":\"subnet-a\",\"PrivateIpAddress\":\"10.0.1.10\"";
     let second =
@@ -45,7 +46,7 @@ fn network(
         "{{\"DestinationCidrBlock\":\"{block}\",\"GatewayId\":\"local\"}}"
     )?;
     let table = format!(in alloc;
-        "\"RouteTables\":[{{\"RouteTableId\":\"rtb-1\",\"VpcId\":\"vpc-1\",\"Routes\":[{route}]}}]"
+        "\"RouteTables\":[{{\"RouteTableId\":\"rtb-1\",\"VpcId\":\"vpc-1\",\"Associations\":[{{\"Main\":true}}],\"Routes\":[{route}]}}]"
     )?;
     let sender = format!(in alloc;
         "{{\"GroupId\":\"sg-a\",\"VpcId\":\"vpc-1\",\"IpPermissionsEgress\":[{outward}]}}"
@@ -305,15 +306,13 @@ fn refuses_queries(rt: HostRuntime) -> Result<(), Fail> {
 #[test]
 fn refuses_descriptions_before_queries(rt: HostRuntime) -> Result<(), Fail> {
     let line = "ask o.json from internet to eni-b";
-    for file in ["", "[]", "{\"Vpcs\":[]}"] {
-        answers(
-            &rt,
-            rt.alloc(),
-            file,
-            line,
-            Status::Description,
-            "refused description NotYet\n",
-        )?;
+    let cases = [
+        ("", "refused description NotJson\n"),
+        ("[1]", "refused description WrongShape $\n"),
+        ("{\"Vpcs\":[]}", "refused description NotYet\n"),
+    ];
+    for (file, text) in cases {
+        answers(&rt, rt.alloc(), file, line, Status::Description, text)?;
     }
     Ok(())
 }
