@@ -2,7 +2,7 @@
 // bundles in the tests of `bundle`.
 use crate::Network;
 use std::alloc::Global;
-use std::test::Fail;
+use std::mem;
 use vpc_base::OwnList;
 use vpc_model::Description;
 
@@ -29,13 +29,20 @@ fn nothing(alloc: Global) -> Description {
     }
 }
 
+fn has_nothing(network: &Network) -> bool {
+    network.description().vpcs.as_slice().len() == 0
+        && network.vpc(b"vpc-a").is_none()
+        && network.entries(b"pl-a").len() == 0
+}
+
 #[test]
-fn finds_nothing_in_nothing(rt: HostRuntime) -> Result<(), Fail> {
-    let Ok(network) = Network::of(rt.alloc(), nothing(rt.alloc())) else {
-        return Err("refused")?;
-    };
-    assert_eq!(rt; network.description().vpcs.as_slice().len(), 0);
-    assert!(rt; network.vpc(b"vpc-a").is_none());
-    assert_eq!(rt; network.entries(b"pl-a").len(), 0);
-    Ok(())
+fn finds_nothing_in_nothing(rt: HostRuntime) {
+    match Network::of(rt.alloc(), nothing(rt.alloc())) {
+        Ok(network) => {
+            assert!(rt; has_nothing(&network));
+            // A proof that lets go of a whole network takes many minutes.
+            mem::forget(network);
+        }
+        Err(_) => assert!(rt; false),
+    }
 }
