@@ -1,5 +1,6 @@
 // Worked commands, on a network of two hosts in one subnet.
 mod asks;
+mod bundles;
 
 ghost use Rattle.std.specs.Prelude.{◌<◌, ◌≢◌};
 
