@@ -6,7 +6,7 @@ LINE is `accepted`, where any answer may come that refuses no description but `N
 status 3. A BUNDLE is a text; or {"bytes": HEX}; or {"template", "item", "count", "between"}: the template with, in place
 of its @@, the item so many times; in an item each # is its number from 0, and each ~ the address 10.0.0.0 plus that
 number; a "second" item stands as often in place of @2@. Without ROWS the bundles of examples/ are read too. The lines
-were written from the format by hand and by an independent model, never by this program. Prints each difference, and then how many rows there were.
+were written from the format by hand and by an independent model, never by this program. Prints each difference.
 """
 import concurrent.futures
 import json
@@ -65,7 +65,7 @@ def main(words):
     with tempfile.TemporaryDirectory() as folder, concurrent.futures.ThreadPoolExecutor(4) as pool:
         told = pool.map(lambda k: difference(words[0], folder, k, rows[k]), range(len(rows)))
         wrong = [text for text in told if text]
-    print('\n'.join([*wrong, f'{len(rows)} rows, {len(wrong)} wrong']))
+    print('\n'.join([*wrong, f'{len(rows) - len(wrong)} passed, {len(wrong)} failed']))
     sys.exit(1 if wrong else 0)
 
 
