@@ -3,6 +3,8 @@
 use super::*;
 use serde_json::Value;
 use std::alloc::Global;
+use std::mem;
+use std::process::Abort;
 use std::test::Fail;
 use vpc_model::{Description, Permission};
 
@@ -71,6 +73,10 @@ fn network_of_two_hosts(rt: HostRuntime) -> Result<(), Fail> {
     Ok(())
 }
 
+fn has_vpc(network: &Description) -> bool {
+    network.vpcs.as_slice().len() == 1 && network.acls.as_slice().len() == 0
+}
+
 fn has_subnet(network: &Description) -> bool {
     let id: &[u8] = b"subnet-a";
     match network.subnets.as_slice() {
@@ -113,17 +119,31 @@ fn has_group(network: &Description) -> bool {
     }
 }
 
+fn is_described(network: &Description) -> bool {
+    has_vpc(network)
+        && has_subnet(network)
+        && has_table(network)
+        && has_interface(network)
+        && has_group(network)
+}
+
 #[test]
 fn description_of_two_hosts(rt: HostRuntime) -> Result<(), Fail> {
     let value = Value::from_str(rt.alloc(), TWO_HOSTS)?;
-    let network = read_site(rt.alloc(), &value)?.description(rt.alloc())?;
-    assert_eq!(rt; network.vpcs.as_slice().len(), 1);
-    assert_eq!(rt; network.acls.as_slice().len(), 0);
-    assert!(rt; has_subnet(&network));
-    assert!(rt; has_table(&network));
-    assert!(rt; has_interface(&network));
-    assert!(rt; has_group(&network));
+    let site = read_site(rt.alloc(), &value)?;
+    tells_description(&rt, rt.alloc(), &site);
     Ok(())
+}
+
+// The proof of a function that lets go of a whole description takes many minutes.
+fn tells_description(rt: &impl Abort, alloc: Global, site: &Site) {
+    match site.description(alloc) {
+        Ok(network) => {
+            assert!(rt; is_described(&network));
+            mem::forget(network);
+        }
+        Err(_) => assert!(rt; false),
+    }
 }
 
 #[test]

@@ -17,13 +17,25 @@ pub record IsHeader (h : Header) : Type 0 where
 abbrev pub exchanged : Header → Header
 exchanged h = record { proto = h.proto; src = h.dst; dst = h.src; p = h.q; q = h.p }
 
--- the answer to an ICMP echo request: addresses exchanged, the same identifier, the type of an echo reply (RFC 792)
+-- the ICMP message of type and code q that answers an echo message: addresses exchanged, the same identifier (RFC 792)
+abbrev pub echo : Header → ℕ → Header
+echo h q = record { proto = h.proto; src = h.dst; dst = h.src; p = h.p; q = q }
+
+-- the answer to an ICMP echo request has the type of an echo reply (RFC 792, types 8 and 0)
 abbrev pub echo_reply : Header → Header
-echo_reply h = record { proto = h.proto; src = h.dst; dst = h.src; p = h.p; q = 0 }
+echo_reply h = echo h 0
 
 -- the header's reply; an ICMP message other than an echo request has none (RFC 792)
 abbrev pub reply_of : Header → Option Header
 reply_of h = if h.proto == 1 then (if h.q == 2048 then Some (echo_reply h) else None) else Some (exchanged h)
+
+-- the echo request that an ICMP echo reply answers (RFC 792, types 8 and 0)
+abbrev pub echo_request : Header → Header
+echo_request h = echo h 2048
+
+-- the header whose reply this one is; an ICMP message other than an echo reply is no reply (RFC 792)
+abbrev pub opening_of : Header → Option Header
+opening_of h = if h.proto == 1 then (if h.q == 0 then Some (echo_request h) else None) else Some (exchanged h)
 
 -- the order of headers: by protocol, then source, destination, p and q (profile)
 abbrev pub order_of : Header → Header → Ordering

@@ -1,6 +1,6 @@
 // Packet headers and their replies.
 ghost use Rattle.std.specs.Prelude.{◌≡◌};
-ghost use Rattle.vpc_base.specs.Header.{reply_of, order_of};
+ghost use Rattle.vpc_base.specs.Header.{echo, exchanged, opening_of, order_of, reply_of};
 
 use std::cmp::Ordering;
 
@@ -47,24 +47,52 @@ impl Header {
         ensures { result ≡ reply_of self.now }
     {
         if self.proto != ICMP {
-            return Some(Header {
-                proto: self.proto,
-                src: self.dst,
-                dst: self.src,
-                p: self.q,
-                q: self.p,
-            });
+            return Some(self.exchanged());
         }
         if self.q != ECHO_REQUEST {
             return None;
         }
-        Some(Header {
-            proto: ICMP,
+        Some(self.echo(ECHO_REPLY))
+    }
+
+    /// The header whose reply this one is, so that which open a packet answers is one look-up: ports
+    /// exchanged back or, for an ICMP echo reply, the type of an echo request. Other ICMP messages answer
+    /// none.
+    pub fn opening(&self) -> Option<Header>
+        ensures { result ≡ opening_of self.now }
+    {
+        if self.proto != ICMP {
+            return Some(self.exchanged());
+        }
+        if self.q != ECHO_REPLY {
+            return None;
+        }
+        Some(self.echo(ECHO_REQUEST))
+    }
+
+    fn exchanged(&self) -> Header
+        ensures { result ≡ exchanged self.now }
+    {
+        self.backward(self.q, self.p)
+    }
+
+    // The ICMP message of type and code `q` that travels back with the same identifier.
+    fn echo(&self, q: u16) -> Header
+        ensures { result ≡ echo self.now q }
+    {
+        self.backward(self.p, q)
+    }
+
+    fn backward(&self, p: u16, q: u16) -> Header
+        ensures { result ≡ record { proto = self.now.proto; src = self.now.dst; dst = self.now.src; p = p; q = q } }
+    {
+        Header {
+            proto: self.proto,
             src: self.dst,
             dst: self.src,
-            p: self.p,
-            q: ECHO_REPLY,
-        })
+            p,
+            q,
+        }
     }
 
     /// The order of headers: by protocol, then source, destination, `p` and `q`.
