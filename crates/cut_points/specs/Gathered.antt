@@ -1,10 +1,10 @@
 -- What is gathered: the cuts of each row, without the entries of the prefix lists that it names, since each
 -- list gives its own.
-use Rattle.std.specs.Prelude.{◌∷◌, [], List, Option, ℕ}
-use Rattle.cut_points.specs.Types.{ApplianceKind, Block, Box5, Description, Group, Permission, Reach, Route, RouteTable}
+use Rattle.std.specs.Prelude.{Option, ℕ}
+use Rattle.cut_points.specs.Types.{ApplianceKind, Block, Description, Group, Permission, Reach, Route, RouteTable}
 use Rattle.vpc_model.specs.declared.rows.Reach.TheVariants as reaches
 use Rattle.vpc_base.specs.Cuts.{CutLists, joined_cuts, no_cuts}
-use Rattle.vpc_model.specs.Appliances.{addresses_of, all_headers, boxes_of_kind}
+use Rattle.vpc_model.specs.Appliances.{boxes_of_kind}
 use Rattle.vpc_model.specs.Cuts.{all_cuts, all_permissions, block_cuts, cuts_of_blocks, cuts_of_box, cuts_of_list, cuts_of_rule, cuts_of_tgw_table, on_sides, pair_cuts, unbounded_standing}
 
 -- the gathered cuts and those of the others that lie on their sides
@@ -18,10 +18,6 @@ cuts_of_block b = cuts_of_blocks (block_cuts b)
 -- the cuts of a private address and its public one
 abbrev pub cuts_of_pair : ℕ × Option ℕ → CutLists
 cuts_of_pair x = cuts_of_blocks (pair_cuts x)
-
--- from and to the addresses of a block
-abbrev pub boxes_of_block : Block → List Box5
-boxes_of_block b = record all_headers { src = addresses_of b } ∷ record all_headers { dst = addresses_of b } ∷ []
 
 -- the cuts of what an appliance forwards
 abbrev pub cuts_of_kind : ApplianceKind → CutLists

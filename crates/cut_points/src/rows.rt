@@ -2,8 +2,8 @@
 ghost use Rattle.std.specs.Prelude.{◌≡◌, ◌+◌, ◌∷◌, ◌++◌, [], OnOk};
 ghost use Rattle.std.specs.List.{flat_map};
 ghost use Rattle.vpc_model.specs.Cuts.{address_cuts, all_cuts, block_cuts, cuts_of_acl, cuts_of_acl_row, cuts_of_appliance, cuts_of_blocks, cuts_of_box, cuts_of_interface, cuts_of_list, cuts_of_tgw_route, cuts_of_tgw_table, cuts_of_vpc};
-ghost use Rattle.vpc_model.specs.Appliances.{all_headers, boxes_of_kind, service_boxes as boxes_of_service};
-ghost use Rattle.cut_points.specs.Gathered.{boxes_of_block, cuts_of_block, cuts_of_kind, cuts_of_pair, gathered_with, own_cuts_of_group, own_cuts_of_permission, own_cuts_of_reach, own_cuts_of_route, own_cuts_of_table};
+ghost use Rattle.vpc_model.specs.Appliances.{boxes_of_kind};
+ghost use Rattle.cut_points.specs.Gathered.{cuts_of_block, cuts_of_kind, cuts_of_pair, gathered_with, own_cuts_of_group, own_cuts_of_permission, own_cuts_of_reach, own_cuts_of_route, own_cuts_of_table};
 
 use crate::gathered::Gathered;
 use header_boxes::Box5;
@@ -13,10 +13,6 @@ use vpc_model::{
     Acl, AclRow, Appliance, ApplianceKind, Group, Interface, Permission, PrefixList, Reach, Route,
     RouteTable, TgwRoute, TgwTable, Vpc,
 };
-
-const TCP: u8 = 6;
-
-const UDP: u8 = 17;
 
 /// A row, or a part of one, that cuts the sides of headers. The entries of a prefix list that it names are left to
 /// the list's own row.
@@ -197,75 +193,12 @@ impl Cutting for Box5 {
     }
 }
 
-fn every_header() -> Box5
-    ensures { result ≡ all_headers }
-{
-    Box5 {
-        proto: (0, u8::MAX),
-        src: (0, u32::MAX),
-        dst: (0, u32::MAX),
-        p: (0, u16::MAX),
-        q: (0, u16::MAX),
-    }
-}
-
-// To and from these ports, by one protocol.
-fn service_boxes(proto: u8, ports: (u16, u16)) -> [Box5; 2]
-    ensures { result ≡ boxes_of_service proto ports }
-{
-    let by_protocol = Box5 {
-        proto: (proto, proto),
-        ..every_header()
-    };
-    [
-        Box5 {
-            q: ports,
-            ..by_protocol
-        },
-        Box5 {
-            p: ports,
-            ..by_protocol
-        },
-    ]
-}
-
-// From and to the addresses of a block.
-fn block_boxes(block: &Prefix) -> [Box5; 2]
-    ensures { result ≡ boxes_of_block block.now }
-{
-    let addresses = (block.first(), block.last());
-    [
-        Box5 {
-            src: addresses,
-            ..every_header()
-        },
-        Box5 {
-            dst: addresses,
-            ..every_header()
-        },
-    ]
-}
-
-// TCP and UDP to and from these ports.
-#[tactic(auto, using(crate::proofs::Additions::rows))]
-fn add_service(gathered: &mut Gathered, ports: (u16, u16)) -> Result<(), AllocError>
-    ensures { OnOk result (gathered.new ≡ gathered_with gathered.old (all_cuts cuts_of_box (boxes_of_service 6 ports ++ boxes_of_service 17 ports))) }
-{
-    add_all(gathered, &service_boxes(TCP, ports))?;
-    add_all(gathered, &service_boxes(UDP, ports))
-}
-
 #[tactic(auto, using(crate::proofs::Additions::additions))]
 impl Cutting for ApplianceKind {
     ghost cuts = { cuts_of_kind };
 
     fn add_to(&self, gathered: &mut Gathered) -> Result<(), AllocError> {
-        match self {
-            ApplianceKind::All => add_all(gathered, &[every_header()]),
-            ApplianceKind::Nothing => Ok(()),
-            ApplianceKind::Service(from, to) => add_service(gathered, (*from, *to)),
-            ApplianceKind::Peer(block) => add_all(gathered, &block_boxes(block)),
-        }
+        add_all(gathered, self.boxes().as_slice())
     }
 }
 

@@ -19,12 +19,16 @@ service_boxes proto ports = record all_headers { proto = (proto, proto); q = por
 abbrev pub addresses_of : Block → ℕ × ℕ
 addresses_of b = (b.first, last_of b)
 
+-- from and to the addresses of a block
+abbrev pub boxes_of_block : Block → List Box5
+boxes_of_block b = record all_headers { src = addresses_of b } ∷ record all_headers { dst = addresses_of b } ∷ []
+
 -- the boxes that an appliance of a kind forwards: TCP and UDP of a service's ports, or packets from and to a block (profile)
 abbrev pub boxes_of_kind : ApplianceKind → List Box5
 boxes_of_kind forwards.All = all_headers ∷ []
 boxes_of_kind forwards.Nothing = []
 boxes_of_kind (forwards.Service from to) = service_boxes 6 (from, to) ++ service_boxes 17 (from, to)
-boxes_of_kind (forwards.Peer b) = record all_headers { src = addresses_of b } ∷ record all_headers { dst = addresses_of b } ∷ []
+boxes_of_kind (forwards.Peer b) = boxes_of_block b
 
 -- appliances: interfaces, each with the boxes of headers that it forwards
 abbrev pub Appliances : Type 0

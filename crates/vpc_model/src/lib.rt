@@ -3,6 +3,7 @@
 //! The definitions of what packets do stand in `specs/`, one module for each subject.
 #![tactic(auto)]
 
+mod appliances;
 mod ids;
 mod numbers;
 mod outcomes;
