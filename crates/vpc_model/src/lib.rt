@@ -4,6 +4,7 @@
 #![tactic(auto)]
 
 mod appliances;
+mod filters;
 mod ids;
 mod numbers;
 mod outcomes;
@@ -16,6 +17,7 @@ mod stops;
 #[cfg(test)]
 mod tests;
 
+pub use filters::{far_address, is_between, matches_proto};
 pub use ids::Id;
 pub use numbers::{
     AclNo, AttNo, EniNo, GroupNo, IgwNo, NatNo, PeerNo, SubnetNo, TableNo, TgwTableNo, VpcNo,
