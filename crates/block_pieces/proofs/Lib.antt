@@ -1,0 +1,5 @@
+pub mod Members
+pub mod Nested
+pub mod ToldLemmas
+pub mod Walking
+pub mod Borders

@@ -1,0 +1,130 @@
+-- Look-ups among connections.
+use Rattle.std.proofs.Common.{◌≡◌, ◌≤◌, ◌<◌, ◌+◌, ◌||◌, ◌==◌, ◌&&◌, ℕ, Bool, true, false, List, [], ◌∷◌, ◌++◌, Option, Some, None, cond, refl, sym, ap, ◌∙◌, get_or, length, length-append, take, drop, arith, rules}
+use Rattle.std.specs.Cmp.{IsEquivalence, eq_by_cmp_equiv}
+use Rattle.std.specs.List.{list_any}
+use Rattle.std.specs.Ordering.{is_eq}
+use Rattle.std.proofs.lemmas.Bool.Decides.{nat_tests}
+use Rattle.std.proofs.lemmas.List.{take-append-drop, take-append-le}
+use Rattle.std.proofs.lemmas.List.Folds.{list_any-append, list_any_more}
+use Rattle.vpc_base.specs.Dir.{opposite, same_dir}
+use Rattle.vpc_base.specs.Header.{reply_of}
+use Rattle.vpc_base.specs.declared.headers.Dir.TheVariants.{Inward, Outward}
+use Rattle.vpc_model.specs.declared.numbers.EniNo.{EniNo}
+use Rattle.vpc_model.specs.Types.{Dir, Header}
+use Rattle.vpc_model.specs.Connections.{Connection, is_header, is_tracked, same_connection, same_header}
+use Rattle.vpc_base.specs.Header.{opening_of}
+use Rattle.conn_tracking.specs.Order.{order_of_connections, order_of_connections_total}
+use Rattle.conn_tracking.specs.Tracked.{AreFirst}
+
+-- ---- lists
+
+-- a test of a list is the test of its first k items, or that of the rest
+pub list_any-take-drop : {X : Type 0} (p : X → Bool) (k : ℕ) (xs : List X) → list_any p xs ≡ (list_any p (take k xs) || list_any p (drop k xs))
+list_any-take-drop p k xs = ap (list_any p) (sym (take-append-drop k xs)) ∙ list_any-append p (take k xs) (drop k xs)
+
+-- tests that agree on each item agree on the list
+list_any-alike : {X : Type 0} (p q : X → Bool) → ((x : X) → p x ≡ q x) → (xs : List X) → list_any p xs ≡ list_any q xs
+list_any-alike p q alike [] = refl
+list_any-alike p q alike (x ∷ xs) = rw (alike x, list_any-alike p q alike xs)
+
+list_any-none : {X : Type 0} (p : X → Bool) → ((x : X) → p x ≡ false) → (xs : List X) → list_any p xs ≡ false
+list_any-none p none [] = refl
+list_any-none p none (x ∷ xs) = rw (none x, list_any-none p none xs)
+
+-- ---- connections in order
+
+-- the order tells connections apart
+order_is_same : (a b : Connection) → is_eq (order_of_connections a b) ≡ same_connection a b
+order_is_same a b = search rules
+
+same_connection-flip : (a b : Connection) → same_connection a b ≡ same_connection b a
+same_connection-flip a b = sym (order_is_same a b) ∙ (eq_by_cmp_equiv order_of_connections_total).symm a b ∙ order_is_same b a
+
+-- a search in order finds what is the same
+search_is_any : (c : Connection) (known : List Connection) → list_any (λ k. is_eq (order_of_connections c k)) known ≡ list_any (same_connection c) known
+search_is_any c known = list_any-alike (λ k. is_eq (order_of_connections c k)) (same_connection c) (order_is_same c) known
+
+-- ---- the first ones in order, and the rest
+
+-- one of the known ones is one of the list
+pub has_in_known : (known : List Connection) (count : ℕ) (conns : List Connection) (c : Connection) (found : Bool)
+    → AreFirst known count conns → found ≡ list_any (λ k. is_eq (order_of_connections c k)) known → found ≡ true → found ≡ list_any (same_connection c) conns
+has_in_known known count conns c found first is here =
+    let all = list_any-take-drop (same_connection c) count conns in
+    let at = is ∙ search_is_any c known ∙ first.same c in
+    sym (all ∙ rw (← at, here) refl)
+
+-- what isn't known is in the list where it is in the rest
+pub has_in_later : (known : List Connection) (count : ℕ) (conns later : List Connection) (c : Connection) (found among : Bool)
+    → AreFirst known count conns → found ≡ list_any (λ k. is_eq (order_of_connections c k)) known → found ≡ false
+    → later ≡ drop count conns → among ≡ list_any (same_connection c) later → among ≡ list_any (same_connection c) conns
+has_in_later known count conns later c found among first is none rest has =
+    let all = list_any-take-drop (same_connection c) count conns in
+    let at = is ∙ search_is_any c known ∙ first.same c in
+    has ∙ ap (list_any (same_connection c)) rest ∙ sym (all ∙ rw (← at, none) refl)
+
+-- one more that is known
+pub learn_one : (known more : List Connection) (count : ℕ) (conns : List Connection) (c : Connection)
+    → AreFirst known count conns → count < length conns → c ≡ get_or conns count c
+    → ((q : Connection) → list_any (λ k. is_eq (order_of_connections q k)) more ≡ cond (is_eq (order_of_connections c q)) true (list_any (λ k. is_eq (order_of_connections q k)) known))
+    → AreFirst more (count + 1) conns
+learn_one known more count conns c first below at updates = record {
+  within = omega arith;
+  same = λ q.
+      let old = sym (search_is_any q known) in
+      let new = sym (search_is_any q more) ∙ updates q in
+      let longer = list_any_more (same_connection q) conns count c below in
+      new ∙ rw (order_is_same c q, same_connection-flip c q, search_is_any q known, first.same q) (added (same_connection q c) (list_any (same_connection q) (take count conns))) ∙ ap (λ d. list_any (same_connection q) (take count conns) || same_connection q d) at ∙ sym longer;
+}
+  where
+    added : (a b : Bool) → cond a true b ≡ (b || a)
+    added true true = refl
+    added true false = refl
+    added false true = refl
+    added false false = refl
+
+-- the first ones are as they were where the list gets longer
+pub first_of_longer : (known : List Connection) (count : ℕ) (conns : List Connection) (c : Connection) → AreFirst known count conns → AreFirst known count (conns ++ c ∷ [])
+first_of_longer known count conns c first = record {
+  within = let e = length-append conns (c ∷ []) in omega arith;
+  same = λ q. first.same q ∙ ap (list_any (same_connection q)) (sym (take-append-le count conns (c ∷ []) first.within));
+}
+
+-- ---- answers
+
+-- a header answers an open where that open is the one whose reply the header is
+pub answers_open : (c h : Header) → is_header h (reply_of c) ≡ is_header c (opening_of h)
+answers_open c h = grind (arith, nat_tests)
+
+number-flip : (a b : ℕ) → (a == b) ≡ (b == a)
+number-flip a b = grind (arith, nat_tests)
+
+same_dir-flip : (a b : Dir) → same_dir a b ≡ same_dir b a
+same_dir-flip Inward Inward = refl
+same_dir-flip Inward Outward = refl
+same_dir-flip Outward Inward = refl
+same_dir-flip Outward Outward = refl
+
+-- a header is tracked where its open passed the other way
+pub tracked_by_open : (conns : List Connection) (i : EniNo) (d : Dir) (h k : Header) → opening_of h ≡ Some k
+    → list_any (same_connection (record { eni = i; dir = opposite d; header = k })) conns ≡ is_tracked conns i d h
+tracked_by_open conns i d h k e = list_any-alike _ _ one conns
+  where
+    one : (c : Connection) → same_connection (record { eni = i; dir = opposite d; header = k }) c ≡ ((c.eni.0 == i.0) && (same_dir c.dir (opposite d) && is_header h (reply_of c.header)))
+    one c =
+        let eni = number-flip i.0 c.eni.0 in
+        let dir = same_dir-flip (opposite d) c.dir in
+        let header = answers_open c.header h ∙ ap (is_header c.header) e in
+        rw (eni, dir, header) refl
+
+-- and isn't where it is no reply
+pub untracked_without_open : (conns : List Connection) (i : EniNo) (d : Dir) (h : Header) → opening_of h ≡ None → false ≡ is_tracked conns i d h
+untracked_without_open conns i d h none = sym (list_any-none _ one conns)
+  where
+    both : (a b : Bool) → (a && (b && false)) ≡ false
+    both true true = refl
+    both true false = refl
+    both false b = refl
+
+    one : (c : Connection) → ((c.eni.0 == i.0) && (same_dir c.dir (opposite d) && is_header h (reply_of c.header))) ≡ false
+    one c = rw (answers_open c.header h, none) (both (c.eni.0 == i.0) (same_dir c.dir (opposite d)))

@@ -1,0 +1,16 @@
+//! The connections that passed an interface's security groups, and whether a packet answers one of them:
+//! a small form without memory for single requests, and one that grows for whole sessions.
+#![tactic(auto)]
+
+mod entry;
+mod growing;
+mod small;
+mod tracker;
+
+pub use entry::Entry;
+pub use growing::GrowingConns;
+pub use small::SmallConns;
+pub use tracker::Tracker;
+
+#[cfg(test)]
+mod tests;

@@ -1,0 +1,5 @@
+pub mod Internet
+pub mod Pairs
+pub mod Sides
+pub mod Carry
+pub mod Edges

@@ -1,0 +1,96 @@
+// Public addresses by private ones, and the other way round.
+ghost use Rattle.std.specs.Prelude.{◌≡◌, IfOk, map, ℕ};
+ghost use Rattle.number_tables.specs.Entries.{value_at};
+ghost use Rattle.edge_gateways.specs.Pairs.{HasPairsOf, key_of, owner_at, owner_entry, public_at, public_entry};
+
+use crate::pairs::{Owner, Pair, pairs_of};
+use number_tables::{Entry, NumberTable};
+use reference_check::Network;
+use std::alloc::{AllocError, Global};
+use vpc_model::VpcNo;
+
+// The number that stands for a private address of a VPC.
+fn key_of(vpc: VpcNo, own: u32) -> u64
+    ensures { result ≡ key_of vpc own }
+{
+    u64::from(vpc.0) * 4_294_967_296 + u64::from(own)
+}
+
+// The public addresses by their VPCs and private addresses.
+fn public_entries(alloc: Global, pairs: &[Pair]) -> Result<Vec<Entry<u32>>, AllocError>
+    ensures { IfOk result (λ v. v.items ≡ map public_entry pairs.now) }
+{
+    let mut entries = Vec::with_capacity(alloc, pairs.len())?;
+    for pair in pairs {
+        entries.push(Entry {
+            key: key_of(pair.owner.vpc, pair.owner.own),
+            value: pair.public,
+        })?;
+    }
+    Ok(entries)
+}
+
+// The owners by their public addresses.
+fn owner_entries(alloc: Global, pairs: &[Pair]) -> Result<Vec<Entry<Owner>>, AllocError>
+    ensures { IfOk result (λ v. v.items ≡ map owner_entry pairs.now) }
+{
+    let mut entries = Vec::with_capacity(alloc, pairs.len())?;
+    for pair in pairs {
+        entries.push(Entry {
+            key: u64::from(pair.public),
+            value: pair.owner,
+        })?;
+    }
+    Ok(entries)
+}
+
+fn public_table(alloc: Global, pairs: &[Pair]) -> Result<NumberTable<u32>, AllocError>
+    ensures { IfOk result (λ t. (k : ℕ) → value_at k t ≡ value_at k (map public_entry pairs.now)) }
+{
+    let entries = public_entries(alloc, pairs)?;
+    let table = NumberTable::of(entries)?;
+    Ok(table)
+}
+
+fn owner_table(alloc: Global, pairs: &[Pair]) -> Result<NumberTable<Owner>, AllocError>
+    ensures { IfOk result (λ t. (k : ℕ) → value_at k t ≡ value_at k (map owner_entry pairs.now)) }
+{
+    let entries = owner_entries(alloc, pairs)?;
+    let table = NumberTable::of(entries)?;
+    Ok(table)
+}
+
+/// The public addresses of a network.
+#[derive(Drop)]
+pub struct AddressMaps {
+    pub publics: NumberTable<u32>,
+    pub owners: NumberTable<Owner>,
+}
+
+impl AddressMaps {
+    pub fn of(alloc: Global, n: &Network) -> Result<AddressMaps, AllocError>
+        ensures { IfOk result (λ m. HasPairsOf n.now m.publics m.owners) }
+    {
+        let _ = n.description();
+        let pairs = pairs_of(alloc, n)?;
+        let rows = pairs.as_slice();
+        let publics = public_table(alloc, rows)?;
+        let owners = owner_table(alloc, rows)?;
+        Ok(AddressMaps { publics, owners })
+    }
+
+    pub fn public(&self, v: VpcNo, own: u32) -> Option<u32>
+        ensures { result ≡ public_at self.now.publics v own }
+    {
+        self.publics.get(key_of(v, own))
+    }
+
+    pub fn owner(&self, public: u32) -> Option<(VpcNo, u32)>
+        ensures { result ≡ owner_at self.now.owners public }
+    {
+        match self.owners.get(u64::from(public)) {
+            Some(owner) => Some((owner.vpc, owner.own)),
+            None => None,
+        }
+    }
+}

@@ -1,0 +1,18 @@
+//! What internet gateways and peerings ask of addresses: which public address belongs to which private one,
+//! which addresses the internet carries, and which lie in the blocks of peered VPCs.
+#![tactic(auto)]
+
+mod addresses;
+mod blocks;
+mod internet;
+mod maps;
+mod pairs;
+mod peerings;
+mod sides;
+mod vpcs;
+
+pub use internet::unroutable;
+pub use maps::EdgeMaps;
+pub use pairs::Owner;
+pub use peerings::Carry;
+pub use sides::Sides;

@@ -1,0 +1,5 @@
+pub mod Additions
+pub mod Books
+pub mod Lists
+pub mod Runs
+pub mod Values

@@ -1,0 +1,4 @@
+pub mod Book
+pub mod Parts
+pub mod Sent
+pub mod Tables

@@ -1,0 +1,20 @@
+//! What NAT gateways remember of the opens that they sent out: the port that an open gets, and the open that an
+//! answer belongs to. A small form without memory serves single requests, and one that grows whole sessions.
+#![tactic(auto)]
+
+mod book;
+mod entry;
+mod growing;
+mod parts;
+mod ports;
+mod sent;
+mod small;
+mod table;
+
+pub use book::NatBook;
+pub use entry::{NatEntry, NatStop};
+pub use growing::GrowingNats;
+pub use small::SmallNats;
+
+#[cfg(test)]
+mod tests;

@@ -1,0 +1,34 @@
+-- The rows of an ACL in the order in which they are tried (VPC User Guide, "Network ACL rules").
+use Rattle.std.specs.Prelude.{◌&&◌, ◌≡◌, All, Bool, IsPermutation, IsSortedByKey, List, filter, true, ℕ}
+use Rattle.std.specs.Ordering.{nat_cmp}
+use Rattle.vpc_base.specs.declared.headers.Dir.{Dir}
+use Rattle.vpc_base.specs.declared.headers.Dir.TheVariants as dirs
+use Rattle.vpc_base.specs.declared.headers.Header.{Header}
+use Rattle.vpc_model.specs.declared.rows.AclRow.{AclRow}
+use Rattle.prefix_text.specs.Block.{holds}
+use Rattle.vpc_model.specs.Acls.{acl_verdict, is_of_dir}
+use Rattle.vpc_model.specs.Filter.{far_address, is_between, matches_proto}
+
+-- the rows of each direction
+pub record TriedRows : Type 0 where
+  pub inward : List AclRow
+  pub outward : List AclRow
+
+-- those of one
+abbrev pub rows_tried : Dir → TriedRows → List AclRow
+rows_tried dirs.Inward i = i.inward
+rows_tried dirs.Outward i = i.outward
+
+-- rows of the direction, by ascending number
+pub record AreTried (dir : Dir) (rows : List AclRow) : Type 0 where
+  pub of_dir : All (λ r. is_of_dir dir r ≡ true) rows
+  pub ordered : IsSortedByKey (λ r. r.number) nat_cmp rows
+
+-- protocol, port range and block match
+abbrev pub row_matches : Dir → Header → AclRow → Bool
+row_matches dir h r = matches_proto r.proto h.proto && (is_between r.q_from r.q_to h.q && holds (far_address dir h) r.block)
+
+-- the rows of each direction are those of the list, in an order that leaves every verdict as it was
+pub record SortsRows (rows : List AclRow) (i : TriedRows) : Type 0 where
+  pub same : (dir : Dir) → IsPermutation (filter (is_of_dir dir) rows) (rows_tried dir i)
+  pub verdicts : (dir : Dir) (h : Header) → acl_verdict (rows_tried dir i) dir h ≡ acl_verdict rows dir h

@@ -1,0 +1,26 @@
+// What no clause says: entries in any order, by hand.
+use crate::{Entry, NumberTable};
+use std::test::Fail;
+
+#[test]
+fn gives_values(rt: HostRuntime) -> Result<(), Fail> {
+    let entries = [(7, 'a'), (u64::MAX, 'b'), (0, 'c'), (7, 'd'), (8, 'e')];
+    let mut given = Vec::new(rt.alloc());
+    for (key, value) in entries {
+        given.push(Entry { key, value })?;
+    }
+    let table = NumberTable::of(given)?;
+    let cases = [
+        (0, Some('c')),
+        (1, None),
+        (6, None),
+        (7, Some('a')),
+        (8, Some('e')),
+        (9, None),
+        (u64::MAX, Some('b')),
+    ];
+    for (key, want) in cases {
+        assert_eq!(rt; table.get(key), want);
+    }
+    Ok(())
+}

@@ -1,0 +1,82 @@
+// The index of a route table.
+ghost use Rattle.std.specs.Prelude.{◌≡◌, ◌≤◌, ◌<◌, ◌+◌, ◌-◌, ◌*◌, ◌^◌, ◌⊎◌, ℕ, Contains, IfOk, IsTrue, length};
+ghost use Rattle.piece_table.specs.Pieces.{told_at};
+ghost use Rattle.vpc_model.specs.Cuts.{cuts_of_table};
+ghost use Rattle.vpc_model.specs.Lookup.{table_at};
+ghost use Rattle.vpc_model.specs.Routes.{chosen_route};
+ghost use Rattle.vpc_model.specs.Sound.{is_table};
+ghost use Rattle.route_tables.specs.Rows.{blocks_in, route_cuts};
+
+use crate::counted::counted_rows;
+use crate::locals::local_rows;
+use block_pieces::pieces_of;
+use piece_table::{Pieces, Steps};
+use reference_check::Network;
+use std::alloc::Global;
+use std::marker::{Brand, Model};
+use std::sync::ledger::{Blank, Ledger};
+use vpc_base::NoMemory;
+use vpc_model::{Route, TableNo};
+
+/// Which route a table chooses for each address. Contracts see the pieces of the addresses, each of which
+/// tells the number of a route.
+#[derive(Debug, Drop)]
+pub struct RouteIndex {
+    pub pieces: Pieces,
+}
+
+impl Model for RouteIndex {
+    ghost use Rattle.piece_table.specs.Pieces.{PieceLists};
+
+    ghost Value = { PieceLists };
+
+    ghost view = { λ x. x.pieces };
+}
+
+// The index of routes. The steps of making it aren't told.
+fn index_of<L: Ledger>(
+    alloc: Global,
+    n: &Network,
+    routes: &[Route],
+    blank: Blank,
+) -> Result<RouteIndex, NoMemory>
+    requires short { length routes.now < 2 ^ 32 }
+    requires name { blank.name ≡ L.name }
+    requires parts { blank.parts ≡ L.parts }
+    requires some { 0 < blank.parts }
+    ensures chosen { IfOk result (λ x. (a : ℕ) → a < 2 ^ 32 → told_at x a ≡ chosen_route n.now routes.now a) }
+    ensures few { IfOk result (λ x. length x.firsts ≤ 2 * length (blocks_in n.now routes.now) + 1) }
+    ensures firsts { IfOk result (λ x. (f : ℕ) → Contains x.firsts f → (f ≡ 0) ⊎ Contains (route_cuts n.now routes.now) f) }
+{
+    let locals = pieces_of(alloc, local_rows(alloc, n, routes)?)?;
+    let mut steps = Steps::<L>::new(blank);
+    let rows = counted_rows(alloc, n, &locals, routes, &mut steps)?;
+    let pieces = pieces_of(alloc, rows)?;
+    Ok(RouteIndex { pieces })
+}
+
+impl RouteIndex {
+    /// The index of a table. There are at most twice as many pieces as blocks in its routes and the prefix
+    /// lists that they name, and one more; all but the first begin where such a block begins or has ended.
+    /// Takes time n log n in the number of blocks. Fails for want of memory alone.
+    pub fn of(alloc: Global, n: &Network, t: TableNo) -> Result<RouteIndex, NoMemory>
+        requires table { IsTrue (is_table n.now t) }
+        ensures chosen { IfOk result (λ x. (a : ℕ) → a < 2 ^ 32 → told_at x a ≡ chosen_route n.now (table_at n.now t).routes a) }
+        ensures few { IfOk result (λ x. length x.firsts ≤ 2 * length (blocks_in n.now (table_at n.now t).routes) + 1) }
+        ensures firsts { IfOk result (λ x. (f : ℕ) → Contains x.firsts f → (f ≡ 0) ⊎ Contains (cuts_of_table n.now (table_at n.now t)).addr f) }
+    {
+        let table = &n.description().tables.as_slice()[t.0 as usize];
+        index_of::<Brand>(alloc, n, table.routes.as_slice(), Blank::new(1))
+    }
+
+    /// The number of the route that the table chooses for a destination, by a search that reads at most
+    /// 2 + log2(n) of its n pieces.
+    pub fn choose<L: Ledger>(&self, dst: u32, steps: &mut Steps<L>) -> Option<u32>
+        ensures told { result ≡ told_at self.now dst }
+        ensures later { steps.old ≤ steps.new }
+        ensures few { 2 ^ (steps.new - steps.old) ≤ 4 * length self.now.firsts }
+    {
+        let (_, _, told) = self.pieces.find(dst, steps);
+        told
+    }
+}
