@@ -1,0 +1,119 @@
+// The appliances of a network.
+ghost use Rattle.std.specs.Prelude.{◌≡◌, ◌<◌, ◌^◌, ◌++◌, ◌∷◌, [], Contains, IfOk, IsTrue, OnOk, length, map};
+ghost use Rattle.vpc_model.specs.Appliances.{appliances_of, boxes_of_kind};
+ghost use Rattle.vpc_model.specs.Lookup.{eni_no, has_interface};
+ghost use Rattle.appliances.specs.Passing.{kind_passes_at};
+
+use crate::kinds::{kind_boxes, kind_passes};
+use header_boxes::Box5;
+use reference_check::Network;
+use std::alloc::Global;
+use std::marker::Model;
+use vpc_base::{Header, NoMemory, OwnList};
+use vpc_model::{Appliance, ApplianceKind, EniNo, Id};
+
+fn copy_of(kind: &ApplianceKind) -> ApplianceKind
+    ensures { result ≡ kind.now }
+{
+    match kind {
+        ApplianceKind::All => ApplianceKind::All,
+        ApplianceKind::Nothing => ApplianceKind::Nothing,
+        ApplianceKind::Service(from, to) => ApplianceKind::Service(*from, *to),
+        ApplianceKind::Peer(block) => ApplianceKind::Peer(*block),
+    }
+}
+
+fn number_of(n: &Network, id: &Id) -> EniNo
+    requires { IsTrue (has_interface n.now id.now) }
+    ensures { result ≡ eni_no n.now id.now }
+{
+    match n.eni(id.bytes()) {
+        Some(e) => e,
+        None => unreachable!(),
+    }
+}
+
+fn row_of(
+    alloc: Global,
+    n: &Network,
+    appliance: &Appliance,
+) -> Result<(EniNo, OwnList<Box5>), NoMemory>
+    requires { Contains n.now.appliances appliance.now }
+    ensures { IfOk result (λ r. r ≡ (eni_no n.now appliance.now.id, boxes_of_kind appliance.now.kind)) }
+{
+    let _ = n.description();
+    let boxes = kind_boxes(alloc, &appliance.kind)?;
+    Ok((number_of(n, &appliance.id), OwnList::of(boxes)))
+}
+
+fn add<T: Drop>(rows: &mut Vec<T>, row: T) -> Result<(), NoMemory>
+    ensures { OnOk result (rows.new.items ≡ rows.old.items ++ row ∷ []) }
+{
+    match rows.push(row) {
+        Ok(()) => Ok(()),
+        Err(_) => Err(NoMemory),
+    }
+}
+
+fn rows_of(alloc: Global, n: &Network) -> Result<Vec<(EniNo, OwnList<Box5>)>, NoMemory>
+    ensures { IfOk result (λ v. v.items ≡ appliances_of n.now) }
+{
+    let appliances = n.description().appliances.as_slice();
+    let mut rows = Vec::with_capacity(alloc, appliances.len())?;
+    for appliance in appliances {
+        add(&mut rows, row_of(alloc, n, appliance)?)?;
+    }
+    Ok(rows)
+}
+
+/// The interfaces of the described appliances, in their order, with the boxes of what each forwards.
+pub fn appliances_of(
+    alloc: Global,
+    n: &Network,
+) -> Result<OwnList<(EniNo, OwnList<Box5>)>, NoMemory>
+    ensures appliances { IfOk result (λ v. v ≡ appliances_of n.now) }
+    ensures few { IfOk result (λ v. length v < 2 ^ 32) }
+{
+    let _ = n.description();
+    let rows = rows_of(alloc, n)?;
+    Ok(OwnList::of(rows))
+}
+
+/// The kinds of the described appliances, in their order. Contracts see their list.
+#[derive(Drop)]
+pub struct Kinds {
+    kinds: Vec<ApplianceKind>,
+}
+
+impl Model for Kinds {
+    ghost use Rattle.std.specs.Prelude.{List};
+    ghost use Rattle.vpc_model.specs.declared.rows.ApplianceKind.{ApplianceKind};
+
+    ghost Value = { List ApplianceKind };
+
+    ghost view = { λ k. k.kinds.items };
+}
+
+impl Kinds {
+    /// The kinds of a network's appliances.
+    pub fn of(alloc: Global, n: &Network) -> Result<Kinds, NoMemory>
+        ensures { IfOk result (λ k. k ≡ map (λ a. a.kind) n.now.appliances) }
+    {
+        let appliances = n.description().appliances.as_slice();
+        let mut kinds = Vec::with_capacity(alloc, appliances.len())?;
+        for appliance in appliances {
+            add(&mut kinds, copy_of(&appliance.kind))?;
+        }
+        Ok(Kinds { kinds })
+    }
+
+    /// Whether the appliance of this number forwards the header. No number has another one.
+    pub fn passes(&self, k: u32, h: &Header) -> bool
+        ensures { result ≡ kind_passes_at self.now k h.now }
+    {
+        match self.kinds.get(k as usize) {
+            Some(kind) => kind_passes(kind, h),
+            None => false,
+        }
+    }
+}

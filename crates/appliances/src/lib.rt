@@ -1,0 +1,14 @@
+//! Appliances: machines that forward packets which aren't for their own addresses. What they forward is
+//! code that the caller owns, kept beside the boxes of headers that it stands for.
+#![tactic(auto)]
+
+mod deciders;
+mod described;
+mod kinds;
+
+pub use deciders::{Decide, Deciders};
+pub use described::{Kinds, appliances_of};
+pub use kinds::{kind_boxes, kind_passes};
+
+#[cfg(test)]
+mod tests;
