@@ -1,9 +1,9 @@
 -- The first entry with a key, among entries that are sorted by key.
-use Rattle.std.proofs.Common.{◌≡◌, ◌∙◌, ◌&&◌, ◌∷◌, ◌<◌, ◌≤◌, ◌==◌, ◌⊎◌, [], ℕ, Bool, List, None, Option, Some, ap, arith, false, find, inl, inr, length, nat_lt, not, option_map, refl, slice_index_or, subst, suc, sym, true, zero}
+use Rattle.std.proofs.Common.{◌≡◌, ◌∙◌, ◌&&◌, ◌∷◌, ◌<◌, ◌≤◌, ◌==◌, ◌⊎◌, [], ℕ, Bool, List, None, Some, ap, arith, false, find, inl, inr, length, nat_lt, not, option_map, refl, slice_index_or, subst, suc, sym, true, zero}
 use Rattle.std.specs.List.{filter}
 use Rattle.std.specs.List.Sorted.{IsNonDecreasingBy, IsPartitionPoint, IsStableByKey, ties}
 use Rattle.std.specs.Ordering.{is_lt, nat_cmp}
-use Rattle.std.proofs.lemmas.Bool.{both_ways, cases_Bool, cases_lt, eq-eqb, eqb-true, false_from_ne_true, ltb-false, ltb-true, ne_eqb}
+use Rattle.std.proofs.lemmas.Bool.{both_ways, cases_Bool, cases_lt, eq-eqb, false_from_ne_true, ltb-false, ltb-true, ne_eqb}
 use Rattle.std.proofs.lemmas.Bool.Decides.{nat_tests}
 use Rattle.number_tables.specs.declared.tables.Entry.{Entry}
 use Rattle.number_tables.specs.Entries.{value_at}

@@ -1,8 +1,10 @@
-//! Values by numbers, in tables that are sorted once.
+//! Values by numbers, and sets of numbers, in tables that are sorted once.
 #![tactic(auto)]
 
+mod sets;
 mod tables;
 #[cfg(test)]
 mod tests;
 
+pub use sets::NumberSet;
 pub use tables::{Entry, NumberTable};

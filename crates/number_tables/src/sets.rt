@@ -1,0 +1,49 @@
+// Sets of numbers.
+ghost use Rattle.std.specs.Prelude.{◌≡◌, IsPermutation};
+ghost use Rattle.std.specs.List.Sorted.{IsNonDecreasing};
+
+use std::marker::Model;
+
+fn sort_numbers(numbers: &mut Vec<u64>)
+    ensures same { IsPermutation numbers.old.items numbers.new.items }
+    ensures sorted { IsNonDecreasing numbers.new.items }
+{
+    numbers.sort_unstable();
+}
+
+/// A set of numbers. Contracts see them in ascending order.
+#[derive(Debug, Drop)]
+pub struct NumberSet {
+    numbers: Vec<u64>,
+}
+
+impl Model for NumberSet {
+    ghost use Rattle.std.specs.Prelude.{List, ℕ};
+    ghost use Rattle.std.specs.List.Sorted.{IsNonDecreasing};
+
+    ghost Value = { List ℕ };
+
+    ghost view = { λ s. s.numbers.items };
+
+    ghost invariant = { λ s. IsNonDecreasing s.numbers.items };
+}
+
+impl NumberSet {
+    ghost use Rattle.std.specs.Prelude.{◌==◌, ℕ};
+    ghost use Rattle.std.specs.List.{list_any};
+
+    /// The set of some numbers, in any order. It takes time n log n and no memory.
+    pub fn of(mut numbers: Vec<u64>) -> NumberSet
+        ensures { (k : ℕ) → list_any (λ n. n == k) result ≡ list_any (λ n. n == k) numbers.items }
+    {
+        sort_numbers(&mut numbers);
+        NumberSet { numbers }
+    }
+
+    /// Whether the number is there. It reads about log2 n numbers.
+    pub fn has(&self, number: u64) -> bool
+        ensures { result ≡ list_any (λ n. n == number) self.now }
+    {
+        self.numbers.binary_search(&number).is_ok()
+    }
+}
