@@ -5,6 +5,8 @@ use Rattle.std.specs.Option.{option_or}
 use Rattle.std.proofs.lemmas.Bool.{cases_Bool, cases_eq, eq-eqb, eqb-true, eqb-false, ne_eqb}
 use Rattle.std.proofs.lemmas.List.Elements.{recursion_from_All}
 use Rattle.std.proofs.lemmas.List.Folds.{find-append}
+use Rattle.number_tables.specs.Keys.{key_of}
+use Rattle.number_tables.proofs.KeyLemmas.{key_of-other}
 use Rattle.number_tables.specs.Entries.{value_at}
 use Rattle.number_tables.specs.declared.tables.Entry.{Entry}
 use Rattle.vpc_model.specs.declared.numbers.VpcNo.{VpcNo}
@@ -18,7 +20,7 @@ use Rattle.vpc_laws.proofs.Members.{Contains-cases, Contains-none, find-member, 
 use Rattle.vpc_laws.proofs.Numbering.{ids_are_found}
 use Rattle.edge_gateways.specs.declared.pairs.Owner.{Owner}
 use Rattle.edge_gateways.specs.declared.pairs.Pair.{Pair}
-use Rattle.edge_gateways.specs.Pairs.{HasPairsOf, all_pairs, in_vpc, key_of, owner_at, owner_entry, pairs_with, public_at, public_entry}
+use Rattle.edge_gateways.specs.Pairs.{HasPairsOf, all_pairs, in_vpc, owner_at, owner_entry, pairs_with, public_at, public_entry}
 use Rattle.edge_gateways.proofs.Numbers.{all_members, ids_agree, vpc_described}
 
 -- ---- searches
@@ -45,27 +47,25 @@ all-right P (x ∷ xs) ys all = all-right P xs ys all.1
 
 -- ---- the tables' entries
 
-value-public : (k : ℕ) (pairs : List Pair) → value_at k (map public_entry pairs) ≡ option_map (λ p. p.public) (find (λ p. key_of p.owner.vpc p.owner.own == k) pairs)
-value-public k pairs = ap (option_map (λ e. e.value)) (find-map (λ e. e.key == k) public_entry pairs) ∙ option_map-map (λ e. e.value) public_entry (find (λ p. key_of p.owner.vpc p.owner.own == k) pairs)
+value-public : (k : ℕ) (pairs : List Pair) → value_at k (map public_entry pairs) ≡ option_map (λ p. p.public) (find (λ p. key_of p.owner.vpc.0 p.owner.own == k) pairs)
+value-public k pairs = ap (option_map (λ e. e.value)) (find-map (λ e. e.key == k) public_entry pairs) ∙ option_map-map (λ e. e.value) public_entry (find (λ p. key_of p.owner.vpc.0 p.owner.own == k) pairs)
 
 value-owner : (k : ℕ) (pairs : List Pair) → value_at k (map owner_entry pairs) ≡ option_map (λ p. p.owner) (find (λ p. p.public == k) pairs)
 value-owner k pairs = ap (option_map (λ e. e.value)) (find-map (λ e. e.key == k) owner_entry pairs) ∙ option_map-map (λ e. e.value) owner_entry (find (λ p. p.public == k) pairs)
 
 -- ---- public addresses by private ones
 
-key-same : (w v a b : ℕ) → w ≡ v → (w * 4294967296 + a == v * 4294967296 + b) ≡ (a == b)
+-- keys of one VPC
+key-same : (w v a b : ℕ) → w ≡ v → (key_of w a == key_of v b) ≡ (a == b)
 key-same w v a b same =
     elim (cases_eq a b) [
-      | inl e ↦ eq-eqb (w * 4294967296 + a) (v * 4294967296 + b) (omega arith) ∙ sym (eq-eqb a b e)
-      | inr n ↦ ne_eqb (w * 4294967296 + a) (v * 4294967296 + b) (λ e. n (omega arith)) ∙ sym (ne_eqb a b n)
+      | inl e ↦ eq-eqb (key_of w a) (key_of v b) (omega arith) ∙ sym (eq-eqb a b e)
+      | inr n ↦ ne_eqb (key_of w a) (key_of v b) (λ e. n (omega arith)) ∙ sym (ne_eqb a b n)
     ]
-
-key-other : (w v a b : ℕ) → (w ≡ v → ⊥) → a < 2 ^ 32 → b < 2 ^ 32 → (w * 4294967296 + a == v * 4294967296 + b) ≡ false
-key-other w v a b other fits_a fits_b = ne_eqb (w * 4294967296 + a) (v * 4294967296 + b) (λ e. other (omega arith))
 
 -- in the VPC that is asked
 public-within : (w v : VpcNo) (own : ℕ) (ps : List (ℕ × ℕ)) → w.0 ≡ v.0
-    → option_map (λ p. p.public) (find (λ p. key_of p.owner.vpc p.owner.own == key_of v own) (map (in_vpc w) ps)) ≡ option_map (λ p. p.1) (find (λ p. p.0 == own) ps)
+    → option_map (λ p. p.public) (find (λ p. key_of p.owner.vpc.0 p.owner.own == key_of v.0 own) (map (in_vpc w) ps)) ≡ option_map (λ p. p.1) (find (λ p. p.0 == own) ps)
 public-within w v own [] same = refl
 public-within w v own (p ∷ ps) same =
     let key = key-same w.0 v.0 p.0 own same in
@@ -76,19 +76,19 @@ public-within w v own (p ∷ ps) same =
 
 -- and in others
 public-without : (w v : VpcNo) (own : ℕ) (ps : List (ℕ × ℕ)) → (w.0 ≡ v.0 → ⊥) → own < 2 ^ 32 → AllByRecursion (λ (p : Pair). p.owner.own < 2 ^ 32) (map (in_vpc w) ps)
-    → find (λ (p : Pair). key_of p.owner.vpc p.owner.own == key_of v own) (map (in_vpc w) ps) ≡ None
+    → find (λ (p : Pair). key_of p.owner.vpc.0 p.owner.own == key_of v.0 own) (map (in_vpc w) ps) ≡ None
 public-without w v own [] other fits all = refl
-public-without w v own (p ∷ ps) other fits all = rw (key-other w.0 v.0 p.0 own other all.0 fits) (public-without w v own ps other fits all.1)
+public-without w v own (p ∷ ps) other fits all = rw (key_of-other w.0 v.0 p.0 own other all.0 fits) (public-without w v own ps other fits all.1)
 
 abbrev pub Agree : Description → VpcNo → Interface → Type 0
 Agree d v e = is_in_vpc d v e ≡ ((vpc_no d (vpc_of_interface d e)).0 == v.0)
 
 public-of : (d : Description) (v : VpcNo) (own : ℕ) (es : List Interface) → own < 2 ^ 32 → AllByRecursion (Agree d v) es → AllByRecursion (λ (p : Pair). p.owner.own < 2 ^ 32) (flat_map (pairs_with d) es)
-    → option_map (λ p. p.public) (find (λ p. key_of p.owner.vpc p.owner.own == key_of v own) (flat_map (pairs_with d) es)) ≡ option_map (λ p. p.1) (find (λ p. p.0 == own) (flat_map pairs_of (filter (is_in_vpc d v) es)))
+    → option_map (λ p. p.public) (find (λ p. key_of p.owner.vpc.0 p.owner.own == key_of v.0 own) (flat_map (pairs_with d) es)) ≡ option_map (λ p. p.1) (find (λ p. p.0 == own) (flat_map pairs_of (filter (is_in_vpc d v) es)))
 public-of d v own [] fits agree all = refl
 public-of d v own (e ∷ es) fits agree all =
     let w = vpc_no d (vpc_of_interface d e) in
-    let test : (Pair → Bool) = λ p. key_of p.owner.vpc p.owner.own == key_of v own in
+    let test : (Pair → Bool) = λ p. key_of p.owner.vpc.0 p.owner.own == key_of v.0 own in
     let value : (Pair → ℕ) = λ p. p.public in
     let rest = public-of d v own es fits agree.1 (all-right (λ (p : Pair). p.owner.own < 2 ^ 32) (pairs_with d e) (flat_map (pairs_with d) es) all) in
     let split : option_map value (find test (pairs_with d e ++ flat_map (pairs_with d) es)) ≡ option_or (option_map value (find test (pairs_with d e))) (option_map value (find test (flat_map (pairs_with d) es))) =
@@ -213,7 +213,7 @@ has_pairs_of d pairs rows publics owners accepted is fit same tells_public tells
     λ x. tells_owner x ∙ ap (λ (ps : List Pair). value_at x (map owner_entry ps)) all ∙ value-owner x (all_pairs d) in
     record {
       public = λ v own lies below.
-          tells_public (key_of v own) ∙ ap (λ (ps : List Pair). value_at (key_of v own) (map public_entry ps)) all ∙ value-public (key_of v own) (all_pairs d)
+          tells_public (key_of v.0 own) ∙ ap (λ (ps : List Pair). value_at (key_of v.0 own) (map public_entry ps)) all ∙ value-public (key_of v.0 own) (all_pairs d)
           ∙ public-of d v own d.interfaces below (agree-all d v accepted lies) fits;
       owner = λ x.
           ap (λ (o : Option Owner). option_map (λ (w : VpcNo × ℕ). w.0) (option_map (λ (w : Owner). (w.vpc, w.own)) o)) (owner_is x)

@@ -1,6 +1,6 @@
 -- Private and public addresses with the numbers of their VPCs (EC2 API, DescribeNetworkInterfaces).
 use Rattle.std.specs.List.{flat_map}
-use Rattle.std.specs.Prelude.{◌*◌, ◌+◌, ◌<◌, ◌≡◌, ◌^◌, IfSome, List, Option, Some, map, option_map, option_to_list, true, ℕ}
+use Rattle.std.specs.Prelude.{◌<◌, ◌≡◌, ◌^◌, IfSome, List, Option, Some, map, option_map, option_to_list, true, ℕ}
 use Rattle.vpc_model.specs.declared.numbers.VpcNo.{VpcNo}
 use Rattle.vpc_model.specs.declared.rows.Description.{Description}
 use Rattle.vpc_model.specs.declared.rows.Interface.{Interface}
@@ -8,6 +8,7 @@ use Rattle.vpc_model.specs.Internet.{owner_of, pair_of, pairs_of, private_of, pu
 use Rattle.vpc_model.specs.Lookup.{vpc_no, vpc_of_interface}
 use Rattle.vpc_model.specs.Sound.{is_vpc}
 use Rattle.number_tables.specs.Entries.{value_at}
+use Rattle.number_tables.specs.Keys.{key_of}
 use Rattle.number_tables.specs.declared.tables.Entry.{Entry}
 use Rattle.edge_gateways.specs.declared.pairs.Owner.{Owner}
 use Rattle.edge_gateways.specs.declared.pairs.Pair.{Pair}
@@ -28,13 +29,9 @@ pairs_with d e = map (in_vpc (vpc_no d (vpc_of_interface d e))) (pairs_of e)
 abbrev pub all_pairs : Description → List Pair
 all_pairs d = flat_map (pairs_with d) d.interfaces
 
--- a private address of a VPC as a number
-abbrev pub key_of : VpcNo → ℕ → ℕ
-key_of v own = v.0 * 4294967296 + own
-
 -- the public address by its VPC and private address
 abbrev pub public_entry : Pair → Entry ℕ
-public_entry p = record { key = key_of p.owner.vpc p.owner.own; value = p.public }
+public_entry p = record { key = key_of p.owner.vpc.0 p.owner.own; value = p.public }
 
 -- the owner by its public address
 abbrev pub owner_entry : Pair → Entry Owner
@@ -44,7 +41,7 @@ owner_entry p = record { key = p.public; value = p.owner }
 
 -- the public address of a private one in a VPC
 abbrev pub public_at : List (Entry ℕ) → VpcNo → ℕ → Option ℕ
-public_at publics v own = value_at (key_of v own) publics
+public_at publics v own = value_at (key_of v.0 own) publics
 
 -- the VPC of a public address, and the private address there
 abbrev pub owner_at : List (Entry Owner) → ℕ → Option (VpcNo × ℕ)

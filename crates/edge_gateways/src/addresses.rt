@@ -1,20 +1,13 @@
 // Public addresses by private ones, and the other way round.
 ghost use Rattle.std.specs.Prelude.{◌≡◌, IfOk, map, ℕ};
 ghost use Rattle.number_tables.specs.Entries.{value_at};
-ghost use Rattle.edge_gateways.specs.Pairs.{HasPairsOf, key_of, owner_at, owner_entry, public_at, public_entry};
+ghost use Rattle.edge_gateways.specs.Pairs.{HasPairsOf, owner_at, owner_entry, public_at, public_entry};
 
 use crate::pairs::{Owner, Pair, pairs_of};
-use number_tables::{Entry, NumberTable};
+use number_tables::{Entry, NumberTable, key_of};
 use reference_check::Network;
 use std::alloc::{AllocError, Global};
 use vpc_model::VpcNo;
-
-// The number that stands for a private address of a VPC.
-fn key_of(vpc: VpcNo, own: u32) -> u64
-    ensures { result ≡ key_of vpc own }
-{
-    u64::from(vpc.0) * 4_294_967_296 + u64::from(own)
-}
 
 // The public addresses by their VPCs and private addresses.
 fn public_entries(alloc: Global, pairs: &[Pair]) -> Result<Vec<Entry<u32>>, AllocError>
@@ -23,7 +16,7 @@ fn public_entries(alloc: Global, pairs: &[Pair]) -> Result<Vec<Entry<u32>>, Allo
     let mut entries = Vec::with_capacity(alloc, pairs.len())?;
     for pair in pairs {
         entries.push(Entry {
-            key: key_of(pair.owner.vpc, pair.owner.own),
+            key: key_of(pair.owner.vpc.0, pair.owner.own),
             value: pair.public,
         })?;
     }
@@ -82,7 +75,7 @@ impl AddressMaps {
     pub fn public(&self, v: VpcNo, own: u32) -> Option<u32>
         ensures { result ≡ public_at self.now.publics v own }
     {
-        self.publics.get(key_of(v, own))
+        self.publics.get(key_of(v.0, own))
     }
 
     pub fn owner(&self, public: u32) -> Option<(VpcNo, u32)>
