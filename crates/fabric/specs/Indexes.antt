@@ -1,0 +1,39 @@
+-- What the indexes of a network's tables and ACLs are.
+use Rattle.std.specs.Prelude.{◌≡◌, ◌≤◌, ◌<◌, ◌+◌, ◌*◌, ◌^◌, ◌⊎◌, Contains, List, length, ℕ}
+use Rattle.std.specs.List.{AllZip}
+use Rattle.edge_gateways.specs.Edges.{AreEdgesOf, EdgeLists}
+use Rattle.network_acls.specs.Tried.{SortsRows, TriedRows}
+use Rattle.piece_table.specs.Pieces.{PieceLists, told_at}
+use Rattle.route_tables.specs.Rows.{blocks_in}
+use Rattle.security_groups.specs.Index.{GroupLists, HasRulesOf}
+use Rattle.transit_gateway.specs.Index.{IsTransitOf}
+use Rattle.transit_gateway.specs.Lists.{TransitLists}
+use Rattle.vpc_laws.specs.Types.{Acl, Description, RouteTable}
+use Rattle.vpc_model.specs.Cuts.{cuts_of_table}
+use Rattle.vpc_model.specs.Routes.{chosen_route}
+
+-- the pieces of a table: what each address chooses, how many there are, and where they begin
+pub record IsRouteIndex (d : Description) (t : RouteTable) (x : PieceLists) : Type 0 where
+  pub chosen : (a : ℕ) → a < 2 ^ 32 → told_at x a ≡ chosen_route d t.routes a
+  pub few : length x.firsts ≤ 2 * length (blocks_in d t.routes) + 1
+  pub firsts : (f : ℕ) → Contains x.firsts f → (f ≡ 0) ⊎ Contains (cuts_of_table d t).addr f
+
+-- the sorted rows of an ACL
+abbrev pub IsAclIndex : Acl → TriedRows → Type 0
+IsAclIndex a x = SortsRows a.rows x
+
+-- the indexes of all ACLs, groups and route tables, of the edges, and of the transit gateways
+pub record IndexLists : Type 0 where
+  pub acls : List TriedRows
+  pub groups : GroupLists
+  pub routes : List PieceLists
+  pub edges : EdgeLists
+  pub transit : TransitLists
+
+-- they are those of the description
+pub record AreIndexesOf (d : Description) (x : IndexLists) : Type 0 where
+  pub acls : AllZip IsAclIndex d.acls x.acls
+  pub groups : HasRulesOf d x.groups
+  pub routes : AllZip (IsRouteIndex d) d.tables x.routes
+  pub edges : AreEdgesOf d x.edges
+  pub transit : IsTransitOf d x.transit

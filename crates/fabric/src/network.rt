@@ -1,0 +1,184 @@
+// A network with its indexes.
+ghost use Rattle.std.specs.Prelude.{◌≡◌, IfOk};
+ghost use Rattle.edge_gateways.specs.Edges.{AreEdgesOf};
+ghost use Rattle.security_groups.specs.Index.{HasRulesOf};
+ghost use Rattle.transit_gateway.specs.Index.{IsTransitOf};
+ghost use Rattle.fabric.specs.Indexes.{AreIndexesOf, IsAclIndex, IsRouteIndex};
+
+use crate::acls::acl_indexes;
+use crate::routes::route_indexes;
+use edge_gateways::EdgeMaps;
+use network_acls::AclIndex;
+use reference_check::Network;
+use route_tables::RouteIndex;
+use security_groups::GroupIndex;
+use std::alloc::Global;
+use std::marker::Model;
+use transit_gateway::TransitIndex;
+use vpc_base::NoMemory;
+use vpc_model::{AclNo, TableNo};
+
+// What lets packets pass, and what leads them on.
+#[derive(Drop)]
+struct Indexes {
+    acls: Vec<AclIndex>,
+    groups: GroupIndex,
+    routes: Vec<RouteIndex>,
+    edges: EdgeMaps,
+    transit: TransitIndex,
+}
+
+impl Model for Indexes {
+    ghost use Rattle.fabric.specs.Indexes.{IndexLists};
+
+    ghost Value = { IndexLists };
+
+    ghost view = { λ x. record {
+      acls = x.acls.items;
+      groups = x.groups;
+      routes = x.routes.items;
+      edges = x.edges;
+      transit = x.transit;
+    } };
+}
+
+fn indexes_of(alloc: Global, n: &Network) -> Result<Indexes, NoMemory>
+    ensures { IfOk result (AreIndexesOf n.now) }
+{
+    let acls = acl_indexes(alloc, n)?;
+    let groups = GroupIndex::of(alloc, n)?;
+    let routes = route_indexes(alloc, n)?;
+    let edges = EdgeMaps::of(alloc, n)?;
+    let transit = TransitIndex::of(alloc, n)?;
+    Ok(Indexes {
+        acls,
+        groups,
+        routes,
+        edges,
+        transit,
+    })
+}
+
+impl Indexes {
+    ghost use Rattle.std.specs.Prelude.{◌<◌, length, slice_index_or};
+    ghost use Rattle.network_acls.specs.Tried.{TriedRows};
+    ghost use Rattle.piece_table.specs.Pieces.{PieceLists};
+
+    fn acl(&self, a: AclNo) -> &AclIndex
+        requires { a.0 < length self.now.acls }
+        ensures { (none : TriedRows) → result.now ≡ slice_index_or self.now.acls a.0 none }
+    {
+        &self.acls[a.0 as usize]
+    }
+
+    fn routes(&self, t: TableNo) -> &RouteIndex
+        requires { t.0 < length self.now.routes }
+        ensures { (none : PieceLists) → result.now ≡ slice_index_or self.now.routes t.0 none }
+    {
+        &self.routes[t.0 as usize]
+    }
+
+    fn groups(&self) -> &GroupIndex
+        ensures { result.now ≡ self.now.groups }
+    {
+        &self.groups
+    }
+
+    fn edges(&self) -> &EdgeMaps
+        ensures { result.now ≡ self.now.edges }
+    {
+        &self.edges
+    }
+
+    fn transit(&self) -> &TransitIndex
+        ensures { result.now ≡ self.now.transit }
+    {
+        &self.transit
+    }
+}
+
+fn let_go(_network: Network) {}
+
+/// An accepted network with the indexes of everything that a walk asks. Contracts see its description.
+#[derive(Drop)]
+pub struct Fabric {
+    network: Network,
+    indexes: Indexes,
+}
+
+impl Model for Fabric {
+    ghost use Rattle.vpc_model.specs.declared.rows.Description.{Description};
+    ghost use Rattle.fabric.specs.Indexes.{AreIndexesOf};
+
+    ghost Value = { Description };
+
+    ghost view = { λ f. f.network };
+
+    ghost invariant = { λ f. AreIndexesOf f.network f.indexes };
+}
+
+impl Fabric {
+    ghost use Rattle.std.specs.Prelude.{IsTrue};
+    ghost use Rattle.vpc_model.specs.Lookup.{acl_at, table_at};
+    ghost use Rattle.vpc_model.specs.Sound.{is_acl, is_table};
+
+    /// The network with its indexes. It takes time n log n in the rows and in the pairs of a group and an
+    /// address that interfaces have.
+    pub fn of(alloc: Global, n: Network) -> Result<Fabric, NoMemory>
+        ensures { IfOk result (λ f. f ≡ n) }
+    {
+        match indexes_of(alloc, &n) {
+            Ok(indexes) => Ok(Fabric {
+                network: n,
+                indexes,
+            }),
+            Err(no_memory) => {
+                let_go(n);
+                Err(no_memory)
+            }
+        }
+    }
+
+    pub fn network(&self) -> &Network
+        ensures { result.now ≡ self.now }
+    {
+        &self.network
+    }
+
+    /// The index of a route table.
+    pub fn routes(&self, t: TableNo) -> &RouteIndex
+        requires { IsTrue (is_table self.now t) }
+        ensures { IsRouteIndex self.now (table_at self.now t) result.now }
+    {
+        self.indexes.routes(t)
+    }
+
+    /// The index of a network ACL.
+    pub fn acl(&self, a: AclNo) -> &AclIndex
+        requires { IsTrue (is_acl self.now a) }
+        ensures { IsAclIndex (acl_at self.now a) result.now }
+    {
+        self.indexes.acl(a)
+    }
+
+    /// The rules of the security groups.
+    pub fn groups(&self) -> &GroupIndex
+        ensures { HasRulesOf self.now result.now }
+    {
+        self.indexes.groups()
+    }
+
+    /// The public addresses, and what peerings carry.
+    pub fn edges(&self) -> &EdgeMaps
+        ensures { AreEdgesOf self.now result.now }
+    {
+        self.indexes.edges()
+    }
+
+    /// The transit gateways.
+    pub fn transit(&self) -> &TransitIndex
+        ensures { IsTransitOf self.now result.now }
+    {
+        self.indexes.transit()
+    }
+}

@@ -1,0 +1,5 @@
+mod edges;
+mod groups;
+mod routes;
+mod transit;
+mod whole;

@@ -1,0 +1,132 @@
+-- Which groups count, and rows whose ids differ.
+use Rattle.std.proofs.Common.{◌≡◌, ◌∙◌, ◌&&◌, ◌++◌, ◌+◌, ◌<◌, ◌||◌, ◌∷◌, [], ℕ, Bool, List, None, Option, Some, ap, arith, bytes_eq, cond, false, get_or, inl, inr, length, map, not, option_and_then, option_map, position, refl, subst, suc, sym, take, true, zero}
+use Rattle.std.specs.List.{AllByRecursion, IsDistinct, list_any}
+use Rattle.std.proofs.lemmas.Bool.{cases_Bool, or_from}
+use Rattle.std.proofs.lemmas.List.{get_or-map, take-map}
+use Rattle.std.proofs.lemmas.List.Elements.{Contains-get_or}
+use Rattle.std.proofs.lemmas.Map.Keys.{IsDistinct-head, IsDistinct-tail}
+use Rattle.vpc_model.specs.declared.numbers.GroupNo.{GroupNo}
+use Rattle.vpc_model.specs.declared.numbers.VpcNo.{VpcNo}
+use Rattle.vpc_model.specs.declared.rows.Description.{Description}
+use Rattle.vpc_model.specs.declared.rows.Group.{Group}
+use Rattle.vpc_model.specs.declared.rows.PrefixList.{PrefixList}
+use Rattle.vpc_model.specs.declared.rows.Vpc.{Vpc}
+use Rattle.vpc_model.specs.Accepted.{IsAccepted}
+use Rattle.vpc_model.specs.Groups.{are_peers, reference_counts}
+use Rattle.vpc_model.specs.Lookup.{group_at, group_of_id, has_vpc, no_group, vpc_at, vpc_no}
+use Rattle.vpc_model.specs.Sound.{is_vpc}
+use Rattle.vpc_laws.proofs.Accepting.{accepted_has_all_named, accepted_has_nothing_twice}
+use Rattle.vpc_laws.proofs.Members.{AllByRecursion-at, member-list_any}
+use Rattle.vpc_laws.proofs.Numbering.{accepted_numbers_are_own, bytes_self, position-at, row-member, same_bytes}
+use Rattle.reference_check.proofs.Maps.{bytes_eq_swap}
+use Rattle.security_groups.specs.Peers.{ArePeers, are_joined}
+use Rattle.security_groups.specs.Resolved.{counted}
+use Rattle.security_groups.proofs.Numbered.{position-cons}
+use Rattle.security_groups.proofs.OnceEach.{or_false}
+use Rattle.security_groups.proofs.PeerPairs.{joined-is}
+use Rattle.security_groups.proofs.Steps.{map-next}
+
+-- ---- ids that differ
+
+-- an id of some that differ isn't among the earlier ones
+is_new : (xs : List (List ℕ)) (i : ℕ) (d : List ℕ) → IsDistinct bytes_eq xs → i < length xs → list_any (bytes_eq (get_or xs i d)) (take i xs) ≡ false
+is_new [] i d differ within = absurd (omega arith)
+is_new (x ∷ xs) zero d differ within = refl
+is_new (x ∷ xs) (suc i) d differ within =
+    let apart = AllByRecursion-at (λ y. bytes_eq x y ≡ false) xs (get_or xs i d) (IsDistinct-head bytes_eq x xs differ) (Contains-get_or xs i d (omega arith)) in
+    or_from (bytes_eq (get_or xs i d) x) (list_any (bytes_eq (get_or xs i d)) (take i xs)) (bytes_eq_swap (get_or xs i d) x ∙ apart) (is_new xs i d (IsDistinct-tail bytes_eq x xs differ) (omega arith))
+
+-- the id of a prefix list isn't among the earlier ones
+pub list-is_new : (d : Description) (i : ℕ) (l : PrefixList) → IsAccepted d → i < length d.lists → l ≡ get_or d.lists i l → list_any (bytes_eq l.id) (map (λ (x : PrefixList). x.id) (take i d.lists)) ≡ false
+list-is_new d i l accepted within is =
+    let ids = (accepted_has_nothing_twice d accepted).ids in
+    let id_of : (PrefixList → List ℕ) = λ x. x.id in
+    let at : get_or (map id_of d.lists) i l.id ≡ l.id = get_or-map id_of d.lists i l l.id within ∙ ap id_of (sym is) in
+    ap (λ (y : List ℕ). list_any (bytes_eq y) (map id_of (take i d.lists))) (sym at)
+    ∙ ap (list_any (bytes_eq (get_or (map id_of d.lists) i l.id))) (sym (take-map id_of i d.lists))
+    ∙ is_new (map id_of d.lists) i l.id (((((ids.1).1).1).1).0) (subst (λ n. i < n) (sym (mapped id_of d.lists)) within)
+  where
+    mapped : (f : PrefixList → List ℕ) (xs : List PrefixList) → length (map f xs) ≡ length xs
+    mapped f [] = refl
+    mapped f (x ∷ xs) = ap (λ n. suc n) (mapped f xs)
+
+-- so it is added at the end
+pub lists-next : (d : Description) (i : ℕ) (l : PrefixList) (bytes : List ℕ) (now next : List (List ℕ)) (fresh : Bool) → IsAccepted d → i < length d.lists → l ≡ get_or d.lists i l → bytes ≡ l.id
+    → now ≡ map (λ (x : PrefixList). x.id) (take i d.lists)
+    → fresh ≡ not (list_any (bytes_eq bytes) now) → next ≡ cond fresh (now ++ bytes ∷ []) now
+    → next ≡ map (λ (x : PrefixList). x.id) (take (i + 1) d.lists)
+lists-next d i l bytes now next fresh accepted within is same so_far tells added =
+    let id_of : (PrefixList → List ℕ) = λ x. x.id in
+    let new : list_any (bytes_eq bytes) now ≡ false = ap (λ (b : List ℕ). list_any (bytes_eq b) now) same ∙ ap (list_any (bytes_eq l.id)) so_far ∙ list-is_new d i l accepted within is in
+    let kept : fresh ≡ true = tells ∙ ap not new in
+    map-next id_of d.lists i l now next within is so_far (added ∙ ap (λ (b : Bool). cond b (now ++ bytes ∷ []) now) kept ∙ ap (λ (b : List ℕ). now ++ b ∷ []) same)
+
+-- ---- the group that is named
+
+-- none after it has its id
+no-other : (p : Group → Bool) (id : List ℕ) (gs : List Group) → AllByRecursion (λ (y : List ℕ). bytes_eq id y ≡ false) (map (λ (g : Group). g.id) gs) → list_any (λ (g : Group). bytes_eq g.id id && p g) gs ≡ false
+no-other p id [] differ = refl
+no-other p id (g ∷ gs) differ = rw (bytes_eq_swap g.id id, differ.0) (no-other p id gs differ.1)
+
+-- so a test of those with an id is the test of the one that is found
+only-found : (p : Group → Bool) (id : List ℕ) (gs : List Group) (k : ℕ) → IsDistinct bytes_eq (map (λ (g : Group). g.id) gs) → position (λ (g : Group). bytes_eq g.id id) gs ≡ Some k
+    → list_any (λ (g : Group). bytes_eq g.id id && p g) gs ≡ p (get_or gs k no_group)
+only-found p id [] k differ found = absurd cc
+only-found p id (g ∷ gs) k differ found =
+    elim (cases_Bool (bytes_eq g.id id)) [
+      | inl here ↦
+          let at : Some 0 ≡ Some k = subst (λ (b : Bool). cond b (Some 0) (option_map (λ j. suc j) (position (λ (x : Group). bytes_eq x.id id) gs)) ≡ Some k) here (sym (position-cons (λ (x : Group). bytes_eq x.id id) g gs) ∙ found) in
+          let first : 0 ≡ k = cc in
+          let same : g.id ≡ id = same_bytes g.id id here in
+          let apart = IsDistinct-head bytes_eq g.id (map (λ (x : Group). x.id) gs) differ in
+          let rest = no-other p id gs (subst (λ (i : List ℕ). AllByRecursion (λ (y : List ℕ). bytes_eq i y ≡ false) (map (λ (x : Group). x.id) gs)) same apart) in
+          rw (here, rest, ← first) (or_false (p g))
+      | inr other ↦
+          let at : option_map (λ j. suc j) (position (λ (x : Group). bytes_eq x.id id) gs) ≡ Some k =
+          subst (λ (b : Bool). cond b (Some 0) (option_map (λ j. suc j) (position (λ (x : Group). bytes_eq x.id id) gs)) ≡ Some k) other (sym (position-cons (λ (x : Group). bytes_eq x.id id) g gs) ∙ found) in
+          rw other (later (λ j. only-found p id gs j (IsDistinct-tail bytes_eq g.id (map (λ (x : Group). x.id) gs) differ)) (position (λ (x : Group). bytes_eq x.id id) gs) refl at)
+    ]
+  where
+    later : ((j : ℕ) → position (λ (x : Group). bytes_eq x.id id) gs ≡ Some j → list_any (λ (x : Group). bytes_eq x.id id && p x) gs ≡ p (get_or gs j no_group)) → (o : Option ℕ) → position (λ (x : Group). bytes_eq x.id id) gs ≡ o
+        → option_map (λ j. suc j) o ≡ Some k
+        → list_any (λ (x : Group). bytes_eq x.id id && p x) gs ≡ p (get_or (g ∷ gs) k no_group)
+    later rest None none at = absurd cc
+    later rest (Some j) some at =
+        let next : suc j ≡ k = cc in
+        rw (← next) (rest j some)
+
+-- the number that a row's number holds
+numbered : (o : Option ℕ) (g : GroupNo) → option_map (λ k. record { 0 = k }) o ≡ Some g → o ≡ Some g.0
+numbered None g e = absurd cc
+numbered (Some k) g e = ap (option_map (λ (x : GroupNo). x.0)) e
+
+-- what the code asks of the group that a rule names
+pub counted-found : (d : Description) (peers : List ℕ) (v : VpcNo) (id : List ℕ) (g : GroupNo) → IsAccepted d → is_vpc d v ≡ true → ArePeers d peers → group_of_id d id ≡ Some g
+    → counted d (vpc_at d v).id id ≡ cond (are_joined peers (vpc_no d (group_at d g).vpc) v) (Some g.0) None
+counted-found d peers v id g accepted lies are found =
+    let none : Vpc = record { id = []; blocks = [] } in
+    let vpc = (vpc_at d v).id in
+    let theirs = (group_at d g).vpc in
+    let place = numbered (position (λ (x : Group). bytes_eq x.id id) d.groups) g found in
+    let within = (position-at (λ (x : Group). bytes_eq x.id id) d.groups g.0 no_group place).0 in
+    let has_theirs : has_vpc d theirs ≡ true = (accepted_has_all_named d accepted).vpc_of_group (group_at d g) (row-member d.groups g.0 no_group within) in
+    let has_own : has_vpc d vpc ≡ true = member-list_any (λ (x : Vpc). bytes_eq x.id vpc) d.vpcs (vpc_at d v) (row-member d.vpcs v.0 none lies) (bytes_self vpc) in
+    let own : vpc_no d vpc ≡ v = (accepted_numbers_are_own d accepted).vpc v lies in
+    let ids = (accepted_has_nothing_twice d accepted).ids in
+    let counts : reference_counts d vpc id ≡ (bytes_eq theirs vpc || are_peers d theirs vpc) = only-found (λ (x : Group). bytes_eq x.vpc vpc || are_peers d x.vpc vpc) id d.groups g.0 (((((((ids.1).1).1).1).1).1).0) place in
+    let joins : reference_counts d vpc id ≡ are_joined peers (vpc_no d theirs) v = counts ∙ sym (joined-is d peers theirs vpc accepted are has_theirs has_own) ∙ ap (are_joined peers (vpc_no d theirs)) own in
+    ap (option_and_then (λ (x : GroupNo). cond (reference_counts d vpc id) (Some x.0) None)) found ∙ ap (λ (b : Bool). cond b (Some g.0) None) joins
+
+-- a group that isn't described doesn't count
+pub counted-missing : (d : Description) (vpc id : List ℕ) → group_of_id d id ≡ None → counted d vpc id ≡ None
+counted-missing d vpc id missing = ap (option_and_then (λ (x : GroupNo). cond (reference_counts d vpc id) (Some x.0) None)) missing
+
+-- told by what was found on the way
+pub counted-by : (d : Description) (peers : List ℕ) (v : VpcNo) (id bytes : List ℕ) (g : GroupNo) (w : VpcNo) (joined told : Bool) → IsAccepted d → is_vpc d v ≡ true → ArePeers d peers → bytes ≡ id → Some g ≡ group_of_id d bytes
+    → w ≡ vpc_no d (group_at d g).vpc → joined ≡ are_joined peers w v → joined ≡ told
+    → cond told (Some g.0) None ≡ counted d (vpc_at d v).id id
+counted-by d peers v id bytes g w joined told accepted lies are same found theirs tells is =
+    sym
+    (counted-found d peers v id g accepted lies are (ap (group_of_id d) (sym same) ∙ sym found)
+    ∙ ap (λ (x : VpcNo). cond (are_joined peers x v) (Some g.0) None) (sym theirs)
+    ∙ ap (λ (b : Bool). cond b (Some g.0) None) (sym tells ∙ is))

@@ -1,0 +1,11 @@
+pub mod Steps
+pub mod Zips
+pub mod OnceEach
+pub mod MemberSteps
+pub mod Numbered
+pub mod PeerPairs
+pub mod Counting
+pub mod RuleRows
+pub mod Least
+pub mod Runs
+pub mod Meaning

@@ -1,0 +1,147 @@
+-- Rules that are asked run by run.
+use Rattle.std.proofs.Common.{◌≡◌, ◌∙◌, ◌&&◌, ◌*◌, ◌++◌, ◌+◌, ◌-◌, ◌<◌, ◌≤◌, ◌∷◌, ◌⊎◌, [], ℕ, Bool, List, None, ap, arith, drop, false, get_or, inl, inr, length, nat_le, refl, subst, sym, take, true}
+use Rattle.std.specs.List.Sorted.{IsPartitionPoint}
+use Rattle.std.proofs.lemmas.Bool.{cases_lt, lt-leb}
+use Rattle.std.proofs.lemmas.List.{drop-take, get_or-drop, get_or-take, get_or_append_left, get_or_push, length-drop, length-take, length-take-le, length_push, take-append-drop, take-take, take_all, take_rest}
+use Rattle.std.proofs.lemmas.List.Elements.{All-more}
+use Rattle.address_sets.specs.declared.sets.Run.{Run}
+use Rattle.vpc_base.specs.declared.headers.Dir.{Dir}
+use Rattle.vpc_base.specs.declared.headers.Header.{Header}
+use Rattle.security_groups.specs.declared.rules.Rule.{Rule}
+use Rattle.vpc_model.specs.Filter.{far_address, matches_proto}
+use Rattle.security_groups.specs.Asking.{allows, least, lesser, names}
+use Rattle.security_groups.specs.Tables.{AreLasts, EndBy, run_of}
+use Rattle.security_groups.proofs.Least.{least-append, least-none, lesser-none}
+
+-- two parts, one after the other
+take-add : {X : Type 0} (m n : ℕ) (xs : List X) → take (m + n) xs ≡ take m xs ++ take n (drop m xs)
+take-add m n xs =
+    sym (take-append-drop m (take (m + n) xs))
+    ∙ ap (λ ys. ys ++ drop m (take (m + n) xs)) (take-take m (m + n) xs (omega arith))
+    ∙ ap (λ ys. take m xs ++ ys) (drop-take m n xs)
+
+-- one more run
+pub least-run : (p : Rule → Bool) (rules : List Rule) (k : ℕ) → least p (take (64 * (k + 1)) rules) ≡ lesser (least p (take (64 * k) rules)) (least p (run_of k rules))
+least-run p rules k =
+    let more : 64 * (k + 1) ≡ 64 * k + 64 = omega arith in
+    ap (λ n. least p (take n rules)) more ∙ ap (least p) (take-add (64 * k) 64 rules) ∙ least-append p (take (64 * k) rules) (run_of k rules)
+
+-- ---- rules that can't allow the packet
+
+-- they end before its port
+pub least-ended : (lists : List (List Run)) (members : List ℕ) (dir : Dir) (h : Header) (last : ℕ) (rules : List Rule) → EndBy last rules → last < h.q → least (allows lists members dir h) rules ≡ None
+least-ended lists members dir h last rules ends before =
+    least-none (allows lists members dir h) rules
+    (λ k d within.
+    let end = ends k d within in
+    let fails : nat_le h.q (get_or rules k d).q_to ≡ false = lt-leb h.q (get_or rules k d).q_to (omega arith) in
+    rw fails (nowhere (nat_le (get_or rules k d).q_from h.q) (names lists members (far_address dir h) (get_or rules k d)) (matches_proto (get_or rules k d).proto h.proto)))
+  where
+    nowhere : (a b c : Bool) → (c && ((a && false) && b)) ≡ false
+    nowhere true true true = refl
+    nowhere true true false = refl
+    nowhere true false true = refl
+    nowhere true false false = refl
+    nowhere false b true = refl
+    nowhere false b false = refl
+
+-- they begin after it
+pub least-begun : (lists : List (List Run)) (members : List ℕ) (dir : Dir) (h : Header) (rules seen : List Rule) (begun : ℕ) → seen ≡ rules
+    → IsPartitionPoint (λ r. nat_le r.q_from h.q ≡ true) (λ r. nat_le r.q_from h.q ≡ false) seen begun
+    → least (allows lists members dir h) (take begun rules) ≡ least (allows lists members dir h) rules
+least-begun lists members dir h rules seen begun same point =
+    let p = allows lists members dir h in
+    let after : least p (drop begun rules) ≡ None = least-none p (drop begun rules) (λ k d within. later k d within) in
+    sym
+    (ap (least p) (sym (take-append-drop begun rules))
+    ∙ least-append p (take begun rules) (drop begun rules)
+    ∙ ap (lesser (least p (take begun rules))) after
+    ∙ lesser-none (least p (take begun rules)))
+  where
+    nowhere : (a b c : Bool) → (c && ((false && a) && b)) ≡ false
+    nowhere a b true = refl
+    nowhere a b false = refl
+
+    later : (k : ℕ) (d : Rule) → k < length (drop begun rules) → allows lists members dir h (get_or (drop begun rules) k d) ≡ false
+    later k d within =
+        let long = length-drop begun rules in
+        let whole : length seen ≡ length rules = ap length same in
+        let at = get_or-drop begun rules k d in
+        let here : nat_le (get_or seen (begun + k) d).q_from h.q ≡ false = point.1 (begun + k) d (omega arith) (omega arith) in
+        let fails : nat_le (get_or rules (begun + k) d).q_from h.q ≡ false = subst (λ (rs : List Rule). nat_le (get_or rs (begun + k) d).q_from h.q ≡ false) same here in
+        let r = get_or rules (begun + k) d in
+        ap (allows lists members dir h) at ∙ (rw fails (nowhere (nat_le h.q r.q_to) (names lists members (far_address dir h) r) (matches_proto r.proto h.proto)))
+
+-- ---- the runs up to a rule
+
+-- some runs of the first rules
+pub lasts-take : (rules : List Rule) (lasts : List ℕ) (b c : ℕ) → AreLasts rules lasts → b ≤ length rules → b ≤ 64 * c → 64 * c < b + 64 → AreLasts (take b rules) (take c lasts)
+lasts-take rules lasts b c are within cover tight =
+    let few = are.cover in
+    let runs : c ≤ length lasts = omega arith in
+    let long = length-take-le b rules within in
+    let many = length-take-le c lasts runs in
+    record { cover = omega arith; tight = omega arith; ends = λ k below i d inside. by k i d (omega arith) runs inside }
+  where
+    by : (k i : ℕ) (d : Rule) → k < c → c ≤ length lasts → i < length (run_of k (take b rules)) → (get_or (run_of k (take b rules)) i d).q_to ≤ get_or (take c lasts) k 0
+    by k i d below runs inside =
+        let long = length-take-le b rules within in
+        let cut = length-take 64 (drop (64 * k) (take b rules)) in
+        let left = length-drop (64 * k) (take b rules) in
+        let in_run : i < 64 = omega arith in
+        let in_rules : 64 * k + i < b = omega arith in
+        let cut_all = length-take 64 (drop (64 * k) rules) in
+        let left_all = length-drop (64 * k) rules in
+        let end = are.ends k (omega arith) i d (omega arith) in
+        let last = get_or-take c lasts k 0 below in
+        let at : get_or (run_of k (take b rules)) i d ≡ get_or (run_of k rules) i d =
+        get_or-take 64 (drop (64 * k) (take b rules)) i d in_run
+        ∙ get_or-drop (64 * k) (take b rules) i d
+        ∙ get_or-take b rules (64 * k + i) d in_rules
+        ∙ sym (get_or-drop (64 * k) rules i d)
+        ∙ sym (get_or-take 64 (drop (64 * k) rules) i d in_run) in
+        let ports = ap (λ (r : Rule). r.q_to) at in
+        omega arith
+
+-- ---- the greatest last ports
+
+-- of one more rule
+pub ends-next : (rules : List Rule) (i : ℕ) (r : Rule) (last next : ℕ) → i < length rules → r ≡ get_or rules i r → EndBy last (take i rules) → last ≤ next → r.q_to ≤ next → EndBy next (take (i + 1) rules)
+ends-next rules i r last next within is ends more fits =
+    All-more (λ (x : Rule). x.q_to ≤ next) rules i r within (λ k d lies. let end = ends k d lies in omega arith) (subst (λ (x : Rule). x.q_to ≤ next) is fits)
+
+-- of all rules
+pub ends-all : (rules : List Rule) (i last : ℕ) → length rules ≤ i → EndBy last (take i rules) → EndBy last rules
+ends-all rules i last ended ends = subst (λ (rs : List Rule). EndBy last rs) (take_all i rules ended) ends
+
+-- of one more run
+pub runs-next : (rules : List Rule) (lasts now : List ℕ) (k last : ℕ) → length lasts ≡ k → ((j : ℕ) → j < k → EndBy (get_or lasts j 0) (run_of j rules)) → EndBy last (run_of k rules) → now ≡ lasts ++ last ∷ []
+    → (length now ≡ k + 1) × ((j : ℕ) → j < k + 1 → EndBy (get_or now j 0) (run_of j rules))
+runs-next rules lasts now k last long ends end added =
+    let count : length now ≡ k + 1 = ap length added ∙ length_push lasts last ∙ ap (λ n. n + 1) long in
+    (count, λ j below. by j below (cases_lt j k))
+  where
+    by : (j : ℕ) → j < k + 1 → (j < k) ⊎ (k ≤ j) → EndBy (get_or now j 0) (run_of j rules)
+    by j below (inl before) =
+        let at : get_or now j 0 ≡ get_or lasts j 0 = ap (λ ns. get_or ns j 0) added ∙ get_or_append_left lasts (last ∷ []) 0 j (omega arith) in
+        subst (λ n. EndBy n (run_of j rules)) (sym at) (ends j before)
+    by j below (inr after) =
+        let same : k ≡ j = omega arith in
+        let at : get_or now j 0 ≡ last = ap (λ ns. get_or ns j 0) added ∙ get_or_push lasts last 0 j (omega arith) in
+        subst (λ n. EndBy n (run_of j rules)) (sym at) (subst (λ i. EndBy last (run_of i rules)) same end)
+
+-- of all runs
+pub runs-all : (rules : List Rule) (lasts : List ℕ) (k : ℕ) → length rules ≤ 64 * k → 64 * k < length rules + 64 → length lasts ≡ k → ((j : ℕ) → j < k → EndBy (get_or lasts j 0) (run_of j rules)) → AreLasts rules lasts
+runs-all rules lasts k cover tight long ends = record { cover = omega arith; tight = omega arith; ends = λ j below. ends j (omega arith) }
+
+-- the last run
+pub run-rest : (rules : List Rule) (k : ℕ) → length (take (length rules - 64 * k) (drop (64 * k) rules)) < 64 → take (length rules - 64 * k) (drop (64 * k) rules) ≡ run_of k rules
+run-rest rules k short =
+    let rest = take_rest rules (64 * k) in
+    let long = ap length rest in
+    rest ∙ sym (take_all 64 (drop (64 * k) rules) (omega arith))
+
+-- what a table hands to the search of its runs
+pub lasts-begun : (rules seen : List Rule) (lasts ports : List ℕ) (b c : ℕ) → seen ≡ rules → ports ≡ lasts → AreLasts rules lasts → b ≤ length rules → b ≤ 64 * c → 64 * c < b + 64 → AreLasts (take b seen) (take c ports)
+lasts-begun rules seen lasts ports b c same alike are within cover tight =
+    subst (λ (ns : List ℕ). AreLasts (take b seen) (take c ns)) (sym alike) (subst (λ (rs : List Rule). AreLasts (take b rs) (take c lasts)) (sym same) (lasts-take rules lasts b c are within cover tight))

@@ -1,0 +1,59 @@
+-- Which rule allows a packet, where what rules name was resolved (VPC User Guide, "Security group rules").
+use Rattle.std.specs.List.{list_any}
+use Rattle.std.specs.Prelude.{◌&&◌, ◌==◌, ◌||◌, ◌∷◌, [], if◌then◌else◌, Bool, List, None, Option, Some, nat_lt, option_map, slice_index_or, ℕ}
+use Rattle.address_sets.specs.Runs.{is_in}
+use Rattle.address_sets.specs.declared.sets.Run.{Run}
+use Rattle.number_tables.specs.Keys.{key_of}
+use Rattle.vpc_base.specs.declared.headers.Dir.{Dir}
+use Rattle.vpc_base.specs.declared.headers.Dir.TheVariants as dirs
+use Rattle.vpc_base.specs.declared.headers.Header.{Header}
+use Rattle.vpc_model.specs.declared.outcomes.RuleRef.{RuleRef}
+use Rattle.vpc_model.specs.Choice.{or_else}
+use Rattle.vpc_model.specs.Filter.{far_address, is_between, matches_proto}
+use Rattle.security_groups.specs.declared.groups.GroupRules.{GroupRules}
+use Rattle.security_groups.specs.declared.rules.Rule.{Rule}
+
+-- an entry of the prefix list holds the address
+abbrev pub has_entry : List (List Run) → ℕ → ℕ → Bool
+has_entry lists a l = is_in a (slice_index_or lists l [])
+
+-- a member of the group has it
+abbrev pub has_member : List ℕ → ℕ → ℕ → Bool
+has_member members a g = list_any (λ n. n == key_of g a) members
+
+-- the rule names it
+abbrev pub names : List (List Run) → List ℕ → ℕ → Rule → Bool
+names lists members a r = is_in a r.blocks || (list_any (has_entry lists a) r.lists || list_any (has_member members a) r.groups)
+
+-- protocol, port range and far address match
+abbrev pub allows : List (List Run) → List ℕ → Dir → Header → Rule → Bool
+allows lists members dir h r = matches_proto r.proto h.proto && (is_between r.q_from r.q_to h.q && names lists members (far_address dir h) r)
+
+-- the rules of a direction
+abbrev pub rules_of : Dir → GroupRules → List Rule
+rules_of dirs.Inward g = g.inward
+rules_of dirs.Outward g = g.outward
+
+abbrev pub no_rules : GroupRules
+no_rules = record { inward = []; outward = [] }
+
+-- the lesser of two numbers, where there are
+abbrev pub lesser : Option ℕ → Option ℕ → Option ℕ
+lesser None o = o
+lesser (Some m) None = Some m
+lesser (Some m) (Some n) = if nat_lt n m then Some n else Some m
+
+-- the least number of a rule that passes the test
+abbrev pub least : (Rule → Bool) → List Rule → Option ℕ
+least p [] = None
+least p (r ∷ rs) = lesser (if p r then Some r.number else None) (least p rs)
+
+-- the rule of a group with the least number that allows the packet
+abbrev pub first_in_group : List (List Run) → List ℕ → List GroupRules → Dir → Header → ℕ → Option RuleRef
+first_in_group lists members groups dir h n =
+    option_map (λ k. record { group = record { 0 = n }; dir = dir; number = k }) (least (allows lists members dir h) (rules_of dir (slice_index_or groups n no_rules)))
+
+-- the first rule of some groups that does, in their order
+abbrev pub first_of : List (List Run) → List ℕ → List GroupRules → Dir → Header → List ℕ → Option RuleRef
+first_of lists members groups dir h [] = None
+first_of lists members groups dir h (n ∷ ns) = or_else (first_in_group lists members groups dir h n) (first_of lists members groups dir h ns)

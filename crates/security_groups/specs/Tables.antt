@@ -1,0 +1,24 @@
+-- Rules in runs, with the greatest last port of each.
+use Rattle.std.specs.List.{All}
+use Rattle.std.specs.List.Sorted.{IsNonDecreasingBy}
+use Rattle.std.specs.Prelude.{◌*◌, ◌+◌, ◌<◌, ◌≤◌, List, drop, length, slice_index_or, take, ℕ}
+use Rattle.security_groups.specs.declared.rules.Rule.{Rule}
+
+-- the rules of a run
+abbrev pub run_of : ℕ → List Rule → List Rule
+run_of k rules = take 64 (drop (64 * k) rules)
+
+-- no rule's ports end after this one
+abbrev pub EndBy : ℕ → List Rule → Type 0
+EndBy last rules = All (λ r. r.q_to ≤ last) rules
+
+-- a port for each run, by which its rules end
+pub record AreLasts (rules : List Rule) (lasts : List ℕ) : Type 0 where
+  pub cover : length rules ≤ 64 * length lasts
+  pub tight : 64 * length lasts < length rules + 64
+  pub ends : (k : ℕ) → k < length lasts → EndBy (slice_index_or lasts k 0) (run_of k rules)
+
+-- they ascend by their first ports
+pub record IsTable (rules : List Rule) (ports : List ℕ) : Type 0 where
+  pub ascend : IsNonDecreasingBy (λ r. r.q_from) rules
+  pub lasts : AreLasts rules ports

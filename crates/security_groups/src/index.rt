@@ -1,0 +1,87 @@
+// The index of a network's security groups.
+ghost use Rattle.std.specs.Prelude.{◌≡◌, IfOk};
+ghost use Rattle.std.specs.List.{AllZip};
+ghost use Rattle.security_groups.specs.Resolved.{HasListsOf, IsGroupOf};
+
+use crate::building::{Named, group_rules};
+use crate::groups::{GroupRules, first_of};
+use crate::lists::entries_of;
+use crate::members::Membership;
+use address_sets::AddressSet;
+use reference_check::Network;
+use std::alloc::{AllocError, Global};
+use std::marker::Model;
+use vpc_base::{Dir, Header, NoMemory};
+use vpc_model::{EniNo, RuleRef};
+
+fn resolved_rules(alloc: Global, n: &Network) -> Result<Vec<GroupRules>, AllocError>
+    ensures { IfOk result (λ v. AllZip (IsGroupOf n.now) n.now.groups v.items) }
+{
+    let named = Named::of(alloc, n)?;
+    group_rules(alloc, n, &named, n.description().groups.as_slice())
+}
+
+// The entries of each prefix list, and the rules of each group.
+#[derive(Drop)]
+struct RuleLists {
+    lists: Vec<AddressSet>,
+    groups: Vec<GroupRules>,
+}
+
+impl RuleLists {
+    fn of(alloc: Global, n: &Network) -> Result<RuleLists, AllocError>
+        ensures { IfOk result (λ r. HasListsOf n.now r.lists.items r.groups.items) }
+    {
+        let lists = entries_of(alloc, n.description().lists.as_slice())?;
+        let groups = resolved_rules(alloc, n)?;
+        Ok(RuleLists { lists, groups })
+    }
+}
+
+/// The rules of a network's security groups, with what they name resolved, and each interface's groups.
+/// Prefix lists and members of groups are shared by all rules that name them. Contracts see these lists, and
+/// `of` says what the description has in their place.
+#[derive(Drop)]
+pub struct GroupIndex {
+    rules: RuleLists,
+    membership: Membership,
+}
+
+impl Model for GroupIndex {
+    ghost use Rattle.security_groups.specs.Index.{GroupLists};
+
+    ghost Value = { GroupLists };
+
+    ghost view = { λ i. record { lists = i.rules.lists.items; members = i.membership.members; groups = i.rules.groups.items; interfaces = i.membership.interfaces.items } };
+}
+
+impl GroupIndex {
+    ghost use Rattle.std.specs.Prelude.{IfOk};
+    ghost use Rattle.security_groups.specs.Index.{HasRulesOf, allowed};
+
+    /// The index of a network. It takes time n log n in the rows and in the pairs of a group and an address
+    /// that interfaces have.
+    pub fn of(alloc: Global, n: &Network) -> Result<GroupIndex, NoMemory>
+        ensures { IfOk result (HasRulesOf n.now) }
+    {
+        let rules = RuleLists::of(alloc, n)?;
+        let membership = Membership::of(alloc, n)?;
+        Ok(GroupIndex { rules, membership })
+    }
+
+    /// The first rule that allows a packet at an interface, in the order of the interface's groups and of
+    /// their rules; none where no rule allows it (VPC User Guide, "Security group rules"). It takes no memory.
+    pub fn allows(&self, e: EniNo, dir: Dir, h: &Header) -> Option<RuleRef>
+        ensures { result ≡ allowed self.now e dir h.now }
+    {
+        let interfaces = self.membership.interfaces.as_slice();
+        let e = e.0 as usize;
+        if e >= interfaces.len() {
+            return None;
+        }
+        let named = interfaces[e].as_slice();
+        let lists = self.rules.lists.as_slice();
+        let groups = self.rules.groups.as_slice();
+        first_of(lists, &self.membership.members, groups, named, dir, h)
+    }
+}

@@ -1,0 +1,19 @@
+//! What security groups allow: the first rule of an interface's groups that allows a packet, by rules whose
+//! references were resolved once.
+#![tactic(auto)]
+
+mod asking;
+mod building;
+mod groups;
+mod index;
+mod lists;
+mod members;
+mod once;
+mod peers;
+mod rules;
+mod tables;
+
+pub use groups::GroupRules;
+pub use index::GroupIndex;
+pub use rules::Rule;
+pub use tables::RuleTable;

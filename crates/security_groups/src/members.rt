@@ -1,0 +1,130 @@
+// The groups of interfaces, and the members of groups.
+ghost use Rattle.std.specs.Prelude.{◌≡◌, ◌<◌, ◌^◌, ◌++◌, ◌∷◌, [], IfOk, OnOk, map, option_to_list};
+ghost use Rattle.std.specs.List.{filter_map};
+ghost use Rattle.security_groups.specs.Members.{AreFit, HasMembersOf, groups_with, key_with, keys_with, number_of};
+
+use crate::once::once;
+use number_tables::{NumberSet, key_of};
+use reference_check::Network;
+use std::alloc::{AllocError, Global};
+use vpc_base::OwnList;
+use vpc_model::{Id, Interface};
+
+/// Adds a number where there is one.
+pub fn push_some(numbers: &mut Vec<u32>, number: Option<u32>) -> Result<(), AllocError>
+    ensures { OnOk result (numbers.new.items ≡ numbers.old.items ++ option_to_list number) }
+{
+    match number {
+        Some(number) => {
+            numbers.push(number)?;
+            Ok(())
+        }
+        None => Ok(()),
+    }
+}
+
+fn number_of(n: &Network, id: &Id) -> Option<u32>
+    ensures { result ≡ number_of n.now id.now }
+{
+    match n.group(id.bytes()) {
+        Some(group) => Some(group.0),
+        None => None,
+    }
+}
+
+// The numbers of the described groups among these.
+fn group_numbers(alloc: Global, n: &Network, ids: &[Id]) -> Result<Vec<u32>, AllocError>
+    ensures { IfOk result (λ v. v.items ≡ filter_map (number_of n.now) ids.now) }
+{
+    let mut numbers = Vec::new(alloc);
+    for id in ids {
+        push_some(&mut numbers, number_of(n, id))?;
+    }
+    Ok(numbers)
+}
+
+// The groups of an interface, each once.
+fn groups_with(
+    alloc: Global,
+    n: &Network,
+    interface: &Interface,
+) -> Result<OwnList<u32>, AllocError>
+    ensures { IfOk result (λ v. v ≡ groups_with n.now interface.now) }
+{
+    let numbers = group_numbers(alloc, n, interface.groups.as_slice())?;
+    let kept = once(alloc, numbers.as_slice())?;
+    Ok(OwnList::of(kept))
+}
+
+// Adds an address as a member of some groups.
+fn add_member(keys: &mut Vec<u64>, groups: &[u32], address: u32) -> Result<(), AllocError>
+    ensures added { OnOk result
+        (keys.new.items ≡ keys.old.items ++ map (key_with address) groups.now) }
+    ensures fits { address < 2 ^ 32 }
+{
+    for group in groups {
+        keys.push(key_of(*group, address))?;
+    }
+    Ok(())
+}
+
+// Adds addresses as members of some groups.
+fn add_members(
+    keys: &mut Vec<u64>,
+    groups: &[u32],
+    addresses: &[(u32, Option<u32>)],
+) -> Result<(), AllocError>
+    ensures added { OnOk result
+        (keys.new.items ≡ keys.old.items ++ keys_with groups.now addresses.now) }
+    ensures fit { OnOk result (AreFit addresses.now) }
+{
+    for address in addresses {
+        add_member(keys, groups, address.0)?;
+    }
+    Ok(())
+}
+
+// Adds the groups of an interface, and its addresses as their members.
+fn add_interface(
+    alloc: Global,
+    n: &Network,
+    interface: &Interface,
+    interfaces: &mut Vec<OwnList<u32>>,
+    keys: &mut Vec<u64>,
+) -> Result<(), AllocError>
+    ensures named { OnOk result
+        (interfaces.new.items ≡ interfaces.old.items ++ groups_with n.now interface.now ∷ []) }
+    ensures added { OnOk result (keys.new.items
+        ≡ keys.old.items ++ keys_with (groups_with n.now interface.now) interface.now.addresses) }
+    ensures fit { OnOk result (AreFit interface.now.addresses) }
+{
+    let groups = groups_with(alloc, n, interface)?;
+    add_members(keys, groups.as_slice(), interface.addresses.as_slice())?;
+    interfaces.push(groups)?;
+    Ok(())
+}
+
+/// The groups of each interface, by their numbers, each once; and the private addresses of the interfaces that
+/// have each group, as its members.
+#[derive(Drop)]
+pub struct Membership {
+    pub interfaces: Vec<OwnList<u32>>,
+    pub members: NumberSet,
+}
+
+impl Membership {
+    pub fn of(alloc: Global, n: &Network) -> Result<Membership, AllocError>
+        ensures { IfOk result (λ m. HasMembersOf n.now m.interfaces.items m.members) }
+    {
+        let mut interfaces = Vec::new(alloc);
+        let mut keys = Vec::new(alloc);
+        for interface in n.description().interfaces.as_slice() {
+            add_interface(alloc, n, interface, &mut interfaces, &mut keys)?;
+        }
+        let members = NumberSet::of(keys);
+        Ok(Membership {
+            interfaces,
+            members,
+        })
+    }
+}

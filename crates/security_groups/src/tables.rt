@@ -1,0 +1,154 @@
+// Rules in ascending order of their first ports.
+ghost use Rattle.std.specs.Prelude.{◌≡◌, ◌*◌, ◌<◌, ◌≤◌, IfOk, IsPermutation, length};
+ghost use Rattle.std.specs.List.Sorted.{IsNonDecreasingBy};
+ghost use Rattle.security_groups.specs.Asking.{allows, least, lesser};
+ghost use Rattle.security_groups.specs.Tables.{AreLasts, EndBy, run_of};
+
+use crate::asking::allows;
+use crate::rules::Rule;
+use address_sets::AddressSet;
+use number_tables::NumberSet;
+use std::alloc::{AllocError, Global};
+use std::marker::Model;
+use vpc_base::{Dir, Header};
+
+fn sort(rules: &mut Vec<Rule>)
+    ensures same { IsPermutation rules.old.items rules.new.items }
+    ensures ascend { IsNonDecreasingBy (λ r. r.q_from) rules.new.items }
+{
+    rules.sort_unstable_by_key(|rule| rule.q_from);
+}
+
+// 64 rules, or those that are left.
+fn run_of(rules: &[Rule], k: usize) -> &[Rule]
+    requires { 64 * k ≤ length rules.now }
+    ensures { result.now ≡ run_of k rules.now }
+{
+    let rest = &rules[64 * k..];
+    if rest.len() < 64 { rest } else { &rest[..64] }
+}
+
+// The greatest last port.
+fn last_of(rules: &[Rule]) -> u16
+    ensures { EndBy result rules.now }
+{
+    let mut last = 0;
+    for rule in rules {
+        if last < rule.q_to {
+            last = rule.q_to;
+        }
+    }
+    last
+}
+
+// The greatest last port of each run.
+fn lasts_of(alloc: Global, rules: &[Rule]) -> Result<Vec<u16>, AllocError>
+    ensures { IfOk result (λ v. AreLasts rules.now v.items) }
+{
+    let mut lasts = Vec::new(alloc);
+    for k in 0..rules.len().div_ceil(64) {
+        lasts.push(last_of(run_of(rules, k)))?;
+    }
+    Ok(lasts)
+}
+
+fn lesser(one: Option<u32>, other: Option<u32>) -> Option<u32>
+    ensures { result ≡ lesser one other }
+{
+    match one {
+        None => other,
+        Some(a) => match other {
+            None => Some(a),
+            Some(b) => { if b < a { Some(b) } else { Some(a) } }
+        },
+    }
+}
+
+// The least number of a rule that allows the packet.
+fn least_in(
+    lists: &[AddressSet],
+    members: &NumberSet,
+    rules: &[Rule],
+    dir: Dir,
+    h: &Header,
+) -> Option<u32>
+    ensures { result ≡ least (allows lists.now members.now dir h.now) rules.now }
+{
+    let mut least = None;
+    for rule in rules {
+        if allows(lists, members, rule, dir, h) {
+            least = lesser(least, Some(rule.number));
+        }
+    }
+    least
+}
+
+// The same among the runs that don't end before the port.
+fn least_in_runs(
+    lists: &[AddressSet],
+    members: &NumberSet,
+    rules: &[Rule],
+    lasts: &[u16],
+    dir: Dir,
+    h: &Header,
+) -> Option<u32>
+    requires { AreLasts rules.now lasts.now }
+    ensures { result ≡ least (allows lists.now members.now dir h.now) rules.now }
+{
+    let mut least = None;
+    for (k, last) in lasts.iter().enumerate() {
+        if h.q <= *last {
+            least = lesser(least, least_in(lists, members, run_of(rules, k), dir, h));
+        }
+    }
+    least
+}
+
+/// The rules of a group and direction, with the greatest last port of each run of 64. Contracts see them in
+/// ascending order of their first ports.
+#[derive(Debug, Drop)]
+pub struct RuleTable {
+    rules: Vec<Rule>,
+    lasts: Vec<u16>,
+}
+
+impl Model for RuleTable {
+    ghost use Rattle.std.specs.Prelude.{List};
+    ghost use Rattle.security_groups.specs.declared.rules.Rule.{Rule};
+    ghost use Rattle.security_groups.specs.Tables.{IsTable};
+
+    ghost Value = { List Rule };
+
+    ghost view = { λ t. t.rules.items };
+
+    ghost invariant = { λ t. IsTable t.rules.items t.lasts.items };
+}
+
+impl RuleTable {
+    /// The table of some rules, in any order. It takes time n log n.
+    pub fn of(alloc: Global, mut rules: Vec<Rule>) -> Result<RuleTable, AllocError>
+        ensures { IfOk result (IsPermutation rules.items) }
+    {
+        sort(&mut rules);
+        let lasts = lasts_of(alloc, rules.as_slice())?;
+        Ok(RuleTable { rules, lasts })
+    }
+
+    /// The least number of a rule that allows the packet. It asks the rules that begin at or before its
+    /// port, run by run, but no run of which all rules end before it.
+    pub fn least_allowing(
+        &self,
+        lists: &[AddressSet],
+        members: &NumberSet,
+        dir: Dir,
+        h: &Header,
+    ) -> Option<u32>
+        ensures { result ≡ least (allows lists.now members.now dir h.now) self.now }
+    {
+        let q = h.q;
+        let begun = self.rules.partition_point(|rule| rule.q_from <= q);
+        let runs = begun.div_ceil(64);
+        let rules = &self.rules[..begun];
+        least_in_runs(lists, members, rules, &self.lasts[..runs], dir, h)
+    }
+}

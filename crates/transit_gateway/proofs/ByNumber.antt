@@ -1,0 +1,128 @@
+-- Rows by their numbers, and what stands in an index at them.
+use Rattle.std.proofs.Common.{◌≡◌, ◌<◌, ◌≤◌, ◌+◌, ◌*◌, ◌^◌, ◌∙◌, ℕ, Contains, List, Option, [], ap, arith, bytes_eq, get_or, length, position, subst, sym, true}
+use Rattle.std.specs.Prelude.{option_and_then}
+use Rattle.std.specs.List.{All, slice_get}
+use Rattle.std.proofs.lemmas.Bool.{lt-ltb, ltb-true}
+use Rattle.std.proofs.lemmas.List.{get_or-map, get_or_default, length-map}
+use Rattle.std.proofs.lemmas.List.Elements.{Contains-get_or}
+use Rattle.number_tables.specs.declared.tables.Entry.{Entry}
+use Rattle.piece_table.specs.Pieces.{PieceLists}
+use Rattle.vpc_laws.proofs.Lengths.{accepted_has_short_lists}
+use Rattle.vpc_laws.proofs.Numbering.{ids_are_found, no_subnet, row-member}
+use Rattle.vpc_laws.specs.Types.{Association, AttNo, Attachment, Description, Subnet, SubnetNo, TgwTableNo}
+use Rattle.vpc_model.specs.Accepted.{IsAccepted}
+use Rattle.vpc_model.specs.Lookup.{has_subnet, subnet_at, subnet_no, tgw_table_of_id}
+use Rattle.vpc_model.specs.Sound.{is_attachment, is_subnet, is_tgw_table}
+use Rattle.vpc_model.specs.Transit.{table_of_attachment}
+use Rattle.transit_gateway.specs.Index.{HasAttachment, HasSubnet, HasTable, IsTransitOf, routes_of}
+use Rattle.transit_gateway.specs.FirstNumbers.{number_in}
+use Rattle.number_tables.specs.Keys.{key_of}
+use Rattle.transit_gateway.specs.Lists.{TransitLists}
+use Rattle.transit_gateway.specs.Rows.{IsRouteTable}
+use Rattle.transit_gateway.specs.Tables.{table_of_row}
+use Rattle.transit_gateway.specs.Sites.{zone_no}
+use Rattle.transit_gateway.specs.Zones.{zone_entry}
+use Rattle.transit_gateway.proofs.Entering.{no_attachment}
+use Rattle.transit_gateway.proofs.NumberLemmas.{row-position}
+
+-- ---- lists that numbers of 32 bits count
+
+pub short-subnets : (d e : Description) (rows : List Subnet) → IsAccepted d → e ≡ d → rows ≡ e.subnets → length rows < 2 ^ 32
+short-subnets d e rows accepted whole is =
+    let short = (accepted_has_short_lists d accepted).subnets in
+    let all = ap length (is ∙ ap (λ (x : Description). x.subnets) whole) in
+    omega arith
+
+pub short-attachments : (d e : Description) (rows : List Attachment) → IsAccepted d → e ≡ d → rows ≡ e.attachments → length rows < 2 ^ 32
+short-attachments d e rows accepted whole is =
+    let short = (accepted_has_short_lists d accepted).attachments in
+    let all = ap length (is ∙ ap (λ (x : Description). x.attachments) whole) in
+    omega arith
+
+pub short-associations : (d e : Description) (rows : List Association) → IsAccepted d → e ≡ d → rows ≡ e.associations → length rows < 2 ^ 32
+short-associations d e rows accepted whole is =
+    let short = (accepted_has_short_lists d accepted).associations in
+    let all = ap length (is ∙ ap (λ (x : Description). x.associations) whole) in
+    omega arith
+
+pub short-tables : (d : Description) → IsAccepted d → All (λ t. length t.routes < 2 ^ 32) d.tgw_tables
+short-tables d accepted k t within =
+    let lists = accepted_has_short_lists d accepted in
+    let short = lists.routes_of_tgw_table (get_or d.tgw_tables k t) (Contains-get_or d.tgw_tables k t within) in
+    omega arith
+
+-- ---- rows
+
+-- the row of a described subnet
+pub row-within : (d e : Description) (id : List ℕ) (s : SubnetNo) (rows : List Subnet) → has_subnet d id ≡ true → s ≡ subnet_no d id → e ≡ d → rows ≡ e.subnets → s.0 < length rows
+row-within d e id s rows has number whole is =
+    let found = ltb-true (subnet_no d id).0 (length d.subnets) ((ids_are_found d).subnet id has).0 in
+    let at = ap (λ (x : SubnetNo). x.0) number in
+    let all = ap length (is ∙ ap (λ (x : Description). x.subnets) whole) in
+    omega arith
+
+pub row-is : (d e : Description) (id : List ℕ) (s : SubnetNo) (rows : List Subnet) (row : Subnet) → has_subnet d id ≡ true → s ≡ subnet_no d id → e ≡ d → rows ≡ e.subnets → row ≡ get_or rows s.0 row → row ≡ subnet_at d (subnet_no d id)
+row-is d e id s rows row has number whole is read =
+    let all : rows ≡ d.subnets = is ∙ ap (λ (x : Description). x.subnets) whole in
+    read
+    ∙ get_or_default rows s.0 row no_subnet (row-within d e id s rows has number whole is)
+    ∙ ap (λ (xs : List Subnet). get_or xs s.0 no_subnet) all
+    ∙ ap (λ (x : SubnetNo). get_or d.subnets x.0 no_subnet) number
+
+pub row-listed : (d : Description) (id : List ℕ) (row : Subnet) → has_subnet d id ≡ true → row ≡ subnet_at d (subnet_no d id) → Contains d.subnets row
+row-listed d id row has is = subst (Contains d.subnets) (sym is) (row-member d.subnets (subnet_no d id).0 no_subnet ((ids_are_found d).subnet id has).0)
+
+-- the entry of a subnet, by its parts
+pub entry-is : (d : Description) (k : ℕ) (id : List ℕ) (s : SubnetNo) (row : Subnet) (zone key : ℕ) → s ≡ subnet_no d id → row ≡ subnet_at d (subnet_no d id) → zone ≡ zone_no d row.zone → key ≡ key_of k zone
+    → ◌≡◌ {A = Entry SubnetNo} (record { key = key; value = s }) (zone_entry d k id)
+entry-is d k id s row zone key number is located keyed =
+    ap (λ (n : ℕ). record { key = n; value = s }) (keyed ∙ ap (key_of k) (located ∙ ap (λ (x : Subnet). zone_no d x.zone) is))
+    ∙ ap (λ (x : SubnetNo). record { key = key_of k (zone_no d (subnet_at d (subnet_no d id)).zone); value = x }) number
+
+-- the table that the association with an attachment's number names
+pub row-table : (d e : Description) (att : Attachment) (rows : List Association) (numbers : List (List ℕ × ℕ)) (id : List ℕ) (number : Option ℕ) → e ≡ d → rows ≡ e.associations → id ≡ att.id → number ≡ number_in numbers id
+    → ((i : List ℕ) → number_in numbers i ≡ position (λ x. bytes_eq x.attachment i) d.associations)
+    → option_and_then (λ x. tgw_table_of_id d x.table) (option_and_then (slice_get rows) number) ≡ table_of_row d att
+row-table d e att rows numbers id number whole is named told are =
+    let table : (Option Association → Option TgwTableNo) = option_and_then (λ x. tgw_table_of_id d x.table) in
+    ap (λ l. table (option_and_then (slice_get l) number)) (is ∙ ap (λ (x : Description). x.associations) whole)
+    ∙ ap (λ o. table (option_and_then (slice_get d.associations) o)) (told ∙ ap (number_in numbers) named ∙ are att.id)
+    ∙ ap table (row-position (λ (x : Association). bytes_eq x.attachment att.id) d.associations)
+
+-- ---- what stands in the index
+
+-- the pieces at a table's number are the table's
+pub pieces-at : (d : Description) (x : TransitLists) (t : TgwTableNo) (p : PieceLists) → IsTransitOf d x → HasTable x t → p ≡ get_or x.routes t.0 p → IsRouteTable (routes_of d t) p
+pieces-at d x t p of within is = subst (IsRouteTable (routes_of d t)) (sym is) (of.routes.each t.0 (record { id = []; routes = [] }) p (omega (arith, of.routes.all)))
+
+-- a search in them takes few steps
+pub few-steps : (d : Description) (t : TgwTableNo) (p : PieceLists) (s : ℕ) → IsRouteTable (routes_of d t) p → 2 ^ s ≤ 4 * length p.firsts → 2 ^ s ≤ 8 * length (routes_of d t) + 4
+few-steps d t p s is few = omega (arith, is.few)
+
+-- what stands at an attachment's number is the attachment's table
+pub table-at : (d : Description) (x : TransitLists) (a : AttNo) (t : Option TgwTableNo) → IsTransitOf d x → a.0 < length x.tables → t ≡ get_or x.tables a.0 t → t ≡ table_of_attachment d a
+table-at d x a t of within is =
+    let count = ap length of.tables ∙ length-map d.attachments (table_of_row d) in
+    is ∙ (ap (λ l. get_or l a.0 t) of.tables ∙ get_or-map (table_of_row d) d.attachments a.0 no_attachment t (omega arith))
+
+-- what the index has is described
+pub subnet-lies : (d : Description) (x : TransitLists) (s : SubnetNo) → IsTransitOf d x → HasSubnet x s → is_subnet d s ≡ true
+subnet-lies d x s of within = lt-ltb s.0 (length d.subnets) (omega (arith, of.subnets))
+
+pub attachment-lies : (d : Description) (x : TransitLists) (a : AttNo) → IsTransitOf d x → HasAttachment x a → is_attachment d a ≡ true
+attachment-lies d x a of within = lt-ltb a.0 (length d.attachments) (omega (arith, of.firsts, within.1))
+
+-- what is described the index has
+pub subnet-has : (d : Description) (x : TransitLists) (s : SubnetNo) → IsTransitOf d x → is_subnet d s ≡ true → HasSubnet x s
+subnet-has d x s of lies = let within = ltb-true s.0 (length d.subnets) lies in omega (arith, of.subnets)
+
+pub attachment-has : (d : Description) (x : TransitLists) (a : AttNo) → IsTransitOf d x → is_attachment d a ≡ true → HasAttachment x a
+attachment-has d x a of lies =
+    let within = ltb-true a.0 (length d.attachments) lies in
+    let count = ap length of.tables ∙ length-map d.attachments (table_of_row d) in (
+      omega arith,
+      omega (arith, of.firsts),
+    )
+
+pub table-has : (d : Description) (x : TransitLists) (t : TgwTableNo) → IsTransitOf d x → is_tgw_table d t ≡ true → HasTable x t
+table-has d x t of lies = let within = ltb-true t.0 (length d.tgw_tables) lies in omega (arith, of.routes.all)

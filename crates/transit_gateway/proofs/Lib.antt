@@ -1,0 +1,8 @@
+pub mod Choosing
+pub mod Steps
+pub mod NumberLemmas
+pub mod KeyLemmas
+pub mod Entering
+pub mod InZones
+pub mod Crossing
+pub mod ByNumber

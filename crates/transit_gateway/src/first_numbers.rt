@@ -1,0 +1,116 @@
+// Rows, found by the ids that they name.
+ghost use Rattle.std.specs.Prelude.{◌≡◌, ◌<◌, ◌^◌, ℕ, IfOk, List, bytes_eq, length, map, position};
+ghost use Rattle.transit_gateway.specs.FirstNumbers.{number_in};
+
+use indexmap::IndexMap;
+use std::alloc::{AllocError, Global};
+use std::marker::Model;
+use vpc_model::{Association, Attachment, Id, Subnet};
+
+/// A row that names something by its id.
+pub trait Naming {
+    ghost name_of: { Self → List ℕ };
+
+    fn name(&self) -> &Id
+        ensures { result.now ≡ name_of self.now };
+}
+
+impl Naming for Association {
+    ghost name_of = { λ r. r.attachment };
+
+    fn name(&self) -> &Id {
+        &self.attachment
+    }
+}
+
+impl Naming for Attachment {
+    ghost name_of = { λ r. r.gateway };
+
+    fn name(&self) -> &Id {
+        &self.gateway
+    }
+}
+
+impl Naming for Subnet {
+    ghost name_of = { λ r. r.zone };
+
+    fn name(&self) -> &Id {
+        &self.zone
+    }
+}
+
+/// The number of the first row that names each id. Contracts see the ids, each with its number.
+#[derive(Debug, Drop)]
+pub struct FirstNumbers {
+    numbers: IndexMap<Vec<u8>, u32>,
+}
+
+impl Model for FirstNumbers {
+    ghost use Rattle.std.specs.Prelude.{List, ℕ, map};
+
+    ghost Value = { List (List ℕ × ℕ) };
+
+    ghost view = { λ s. map (λ e. (e.0.items, e.1)) s.numbers.entries };
+}
+
+impl FirstNumbers {
+    ghost use Rattle.std.specs.Prelude.{None, Some, [], ◌++◌, ◌∷◌, if◌then◌else◌, IsTrue, is_some, OnOk};
+
+    fn new(alloc: Global) -> FirstNumbers
+        ensures { result ≡ [] }
+    {
+        FirstNumbers {
+            numbers: IndexMap::new(alloc),
+        }
+    }
+
+    /// The number of the first row that names an id. It takes no memory.
+    pub fn get(&self, id: &[u8]) -> Option<u32>
+        ensures { result ≡ number_in self.now id.now }
+    {
+        self.numbers.get(id).copied()
+    }
+
+    /// The number of an id that a row names.
+    pub fn number(&self, id: &Id) -> u32
+        requires { IsTrue (is_some (number_in self.now id.now)) }
+        ensures { number_in self.now id.now ≡ Some result }
+    {
+        match self.get(id.bytes()) {
+            Some(number) => number,
+            None => unreachable!(),
+        }
+    }
+
+    fn append(&mut self, id: Vec<u8>, number: u32) -> Result<(), AllocError>
+        requires { number_in self.old id.items ≡ None }
+        ensures { OnOk result (self.new ≡ self.old ++ (id.items, number) ∷ []) }
+    {
+        self.numbers.insert(id, number)?;
+        Ok(())
+    }
+
+    // An id that is there keeps its number.
+    fn add(&mut self, alloc: Global, id: &Id, number: u32) -> Result<(), AllocError>
+        ensures { OnOk result (self.new ≡ (if is_some (number_in self.old id.now) then self.old
+            else self.old ++ (id.now, number) ∷ [])) }
+    {
+        match self.get(id.bytes()) {
+            Some(_) => Ok(()),
+            None => self.append(id.bytes().to_vec(alloc)?, number),
+        }
+    }
+
+    /// The numbers of the rows, from 0. Of those that name one id the first counts.
+    pub fn of<R: Naming>(alloc: Global, rows: &[R]) -> Result<FirstNumbers, AllocError>
+        requires { length rows.now < 2 ^ 32 }
+        ensures { IfOk result (λ n. (id : List ℕ) → number_in n id
+            ≡ position (λ r. bytes_eq (R.name_of r) id) rows.now) }
+    {
+        let mut numbers = FirstNumbers::new(alloc);
+        for (number, row) in rows.iter().enumerate() {
+            numbers.add(alloc, row.name(), number as u32)?;
+        }
+        Ok(numbers)
+    }
+}

@@ -1,0 +1,84 @@
+// The attachments of each gateway.
+ghost use Rattle.std.specs.Prelude.{◌≡◌, ◌++◌, ◌∷◌, [], Contains, IfOk, OnOk};
+ghost use Rattle.transit_gateway.specs.Gateways.{AreGateways, HasGatewaysOf, attachment_entries, attachment_entry, attachment_in};
+
+use crate::first_numbers::FirstNumbers;
+use number_tables::{Entry, NumberTable, key_of};
+use reference_check::Network;
+use std::alloc::{AllocError, Global};
+use vpc_model::{AttNo, Attachment, VpcNo};
+
+fn add(entries: &mut Vec<Entry<AttNo>>, key: u64, value: AttNo) -> Result<(), AllocError>
+    ensures { OnOk result
+        (entries.new.items ≡ entries.old.items ++ record { key = key; value = value } ∷ []) }
+{
+    entries.push(Entry { key, value })?;
+    Ok(())
+}
+
+// Adds an attachment where its VPC is described: no subnet is in another one.
+fn add_attachment(
+    entries: &mut Vec<Entry<AttNo>>,
+    n: &Network,
+    gateways: &FirstNumbers,
+    number: u32,
+    attachment: &Attachment,
+) -> Result<(), AllocError>
+    requires gateways { AreGateways n.now gateways.now }
+    requires listed { Contains n.now.attachments attachment.now }
+    ensures { OnOk result
+        (entries.new.items ≡ entries.old.items ++ attachment_entry n.now number attachment.now) }
+{
+    let gateway = gateways.number(&attachment.gateway);
+    match n.vpc(attachment.vpc.bytes()) {
+        Some(vpc) => add(entries, key_of(gateway, vpc.0), AttNo(number)),
+        None => Ok(()),
+    }
+}
+
+fn attachment_entries(
+    alloc: Global,
+    n: &Network,
+    gateways: &FirstNumbers,
+) -> Result<Vec<Entry<AttNo>>, AllocError>
+    requires { AreGateways n.now gateways.now }
+    ensures { IfOk result (λ v. v.items ≡ attachment_entries n.now 0 n.now.attachments) }
+{
+    let mut entries = Vec::new(alloc);
+    let attachments = n.description().attachments.as_slice();
+    for (number, attachment) in attachments.iter().enumerate() {
+        add_attachment(&mut entries, n, gateways, number as u32, attachment)?;
+    }
+    Ok(entries)
+}
+
+/// The gateways by their ids, and the attachments by their gateways and VPCs.
+#[derive(Debug, Drop)]
+pub struct Gateways {
+    pub numbers: FirstNumbers,
+    pub attachments: NumberTable<AttNo>,
+}
+
+impl Gateways {
+    /// The gateways of a network. It takes time n log n in its attachments.
+    pub fn of(alloc: Global, n: &Network) -> Result<Gateways, AllocError>
+        ensures { IfOk result (λ g. HasGatewaysOf n.now g.numbers g.attachments) }
+    {
+        let d = n.description();
+        let numbers = FirstNumbers::of(alloc, d.attachments.as_slice())?;
+        let entries = attachment_entries(alloc, n, &numbers)?;
+        let attachments = NumberTable::of(entries)?;
+        Ok(Gateways {
+            numbers,
+            attachments,
+        })
+    }
+
+    /// The first attachment of a gateway to a VPC. It takes no memory.
+    pub fn attachment(&self, gateway: &[u8], vpc: VpcNo) -> Option<AttNo>
+        ensures { result ≡ attachment_in self.now.numbers self.now.attachments gateway.now vpc }
+    {
+        let gateway = self.numbers.get(gateway)?;
+        self.attachments.get(key_of(gateway, vpc.0))
+    }
+}

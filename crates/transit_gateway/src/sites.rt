@@ -1,0 +1,62 @@
+// Where subnets are.
+ghost use Rattle.std.specs.Prelude.{◌≡◌, Contains, IfOk, IsTrue, map};
+ghost use Rattle.vpc_model.specs.Lookup.{has_vpc, vpc_no};
+ghost use Rattle.transit_gateway.specs.Sites.{AreZones, site_of, zone_no};
+
+use crate::first_numbers::FirstNumbers;
+use reference_check::Network;
+use std::alloc::{AllocError, Global};
+use vpc_model::{Id, Subnet, VpcNo};
+
+/// Where a subnet is: its VPC, and its zone by the number of the first subnet there.
+#[derive(Clone, Copy, Debug, PartialEq, Eq)]
+pub struct Site {
+    pub vpc: VpcNo,
+    pub zone: u32,
+}
+
+fn vpc_of(n: &Network, id: &Id) -> VpcNo
+    requires { IsTrue (has_vpc n.now id.now) }
+    ensures { result ≡ vpc_no n.now id.now }
+{
+    match n.vpc(id.bytes()) {
+        Some(vpc) => vpc,
+        None => unreachable!(),
+    }
+}
+
+/// The number of a subnet's zone.
+pub fn zone_of(n: &Network, zones: &FirstNumbers, subnet: &Subnet) -> u32
+    requires zones { AreZones n.now zones.now }
+    requires listed { Contains n.now.subnets subnet.now }
+    ensures { result ≡ zone_no n.now subnet.now.zone }
+{
+    // The clauses alone speak of the network.
+    let _ = n;
+    zones.number(&subnet.zone)
+}
+
+fn site_of(n: &Network, zones: &FirstNumbers, subnet: &Subnet) -> Site
+    requires zones { AreZones n.now zones.now }
+    requires listed { Contains n.now.subnets subnet.now }
+    ensures { result ≡ site_of n.now subnet.now }
+{
+    let _ = n.description();
+    Site {
+        vpc: vpc_of(n, &subnet.vpc),
+        zone: zone_of(n, zones, subnet),
+    }
+}
+
+/// The sites of the subnets, in their order.
+pub fn sites_of(alloc: Global, n: &Network, zones: &FirstNumbers) -> Result<Vec<Site>, AllocError>
+    requires { AreZones n.now zones.now }
+    ensures { IfOk result (λ v. v.items ≡ map (site_of n.now) n.now.subnets) }
+{
+    let subnets = n.description().subnets.as_slice();
+    let mut sites = Vec::with_capacity(alloc, subnets.len())?;
+    for subnet in subnets {
+        sites.push(site_of(n, zones, subnet))?;
+    }
+    Ok(sites)
+}
