@@ -15,15 +15,15 @@ def program():
     return sys.argv[1] if len(sys.argv) > 1 else os.path.join(TOP, "out/vpc")
 
 
-def written(name, make, count):
-    """What is made of the count, as a JSON file in bench/out. A child makes it, since a process that is started
-    is first counted with the memory of the one that starts it."""
+def written(name, make, count, **form):
+    """What is made of the count, as a JSON file in bench/out, in the form that json.dump is told. A child makes it,
+    since a process that is started is first counted with the memory of the one that starts it."""
     os.makedirs(OUT, exist_ok=True)
     path = os.path.join(OUT, name)
     child = os.fork()
     if child == 0:
         with open(path, "w") as file:
-            json.dump(make(count), file)
+            json.dump(make(count), file, **form)
         os._exit(0)
     os.waitpid(child, 0)
     return path
