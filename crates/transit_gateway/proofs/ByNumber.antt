@@ -1,9 +1,9 @@
 -- Rows by their numbers, and what stands in an index at them.
-use Rattle.std.proofs.Common.{◌≡◌, ◌<◌, ◌≤◌, ◌+◌, ◌*◌, ◌^◌, ◌∙◌, ℕ, Contains, List, Option, [], ap, arith, bytes_eq, get_or, length, position, subst, sym, true}
+use Rattle.std.proofs.Common.{◌≡◌, ◌<◌, ◌^◌, ◌∙◌, ℕ, Contains, List, Option, [], ap, arith, bytes_eq, get_or, length, position, subst, sym, true}
 use Rattle.std.specs.Prelude.{option_and_then}
 use Rattle.std.specs.List.{All, slice_get}
-use Rattle.std.proofs.lemmas.Bool.{lt-ltb, ltb-true}
-use Rattle.std.proofs.lemmas.List.{get_or-map, get_or_default, length-map}
+use Rattle.std.proofs.lemmas.Bool.{ltb-true}
+use Rattle.std.proofs.lemmas.List.{get_or_default, length-map}
 use Rattle.std.proofs.lemmas.List.Elements.{Contains-get_or}
 use Rattle.number_tables.specs.declared.tables.Entry.{Entry}
 use Rattle.piece_table.specs.Pieces.{PieceLists}
@@ -13,7 +13,6 @@ use Rattle.vpc_laws.specs.Types.{Association, AttNo, Attachment, Description, Su
 use Rattle.vpc_model.specs.Accepted.{IsAccepted}
 use Rattle.vpc_model.specs.Lookup.{has_subnet, subnet_at, subnet_no, tgw_table_of_id}
 use Rattle.vpc_model.specs.Sound.{is_attachment, is_subnet, is_tgw_table}
-use Rattle.vpc_model.specs.Transit.{table_of_attachment}
 use Rattle.transit_gateway.specs.Index.{HasAttachment, HasSubnet, HasTable, IsTransitOf, routes_of}
 use Rattle.transit_gateway.specs.FirstNumbers.{number_in}
 use Rattle.number_tables.specs.Keys.{key_of}
@@ -22,7 +21,6 @@ use Rattle.transit_gateway.specs.Rows.{IsRouteTable}
 use Rattle.transit_gateway.specs.Tables.{table_of_row}
 use Rattle.transit_gateway.specs.Sites.{zone_no}
 use Rattle.transit_gateway.specs.Zones.{zone_entry}
-use Rattle.transit_gateway.proofs.Entering.{no_attachment}
 use Rattle.transit_gateway.proofs.NumberLemmas.{row-position}
 
 -- ---- lists that numbers of 32 bits count
@@ -95,24 +93,8 @@ row-table d e att rows numbers id number whole is named told are =
 pub pieces-at : (d : Description) (x : TransitLists) (t : TgwTableNo) (p : PieceLists) → IsTransitOf d x → HasTable x t → p ≡ get_or x.routes t.0 p → IsRouteTable (routes_of d t) p
 pieces-at d x t p of within is = subst (IsRouteTable (routes_of d t)) (sym is) (of.routes.each t.0 (record { id = []; routes = [] }) p (omega (arith, of.routes.all)))
 
--- a search in them takes few steps
-pub few-steps : (d : Description) (t : TgwTableNo) (p : PieceLists) (s : ℕ) → IsRouteTable (routes_of d t) p → 2 ^ s ≤ 4 * length p.firsts → 2 ^ s ≤ 8 * length (routes_of d t) + 4
-few-steps d t p s is few = omega (arith, is.few)
+-- ---- for callers: what is described the index has
 
--- what stands at an attachment's number is the attachment's table
-pub table-at : (d : Description) (x : TransitLists) (a : AttNo) (t : Option TgwTableNo) → IsTransitOf d x → a.0 < length x.tables → t ≡ get_or x.tables a.0 t → t ≡ table_of_attachment d a
-table-at d x a t of within is =
-    let count = ap length of.tables ∙ length-map d.attachments (table_of_row d) in
-    is ∙ (ap (λ l. get_or l a.0 t) of.tables ∙ get_or-map (table_of_row d) d.attachments a.0 no_attachment t (omega arith))
-
--- what the index has is described
-pub subnet-lies : (d : Description) (x : TransitLists) (s : SubnetNo) → IsTransitOf d x → HasSubnet x s → is_subnet d s ≡ true
-subnet-lies d x s of within = lt-ltb s.0 (length d.subnets) (omega (arith, of.subnets))
-
-pub attachment-lies : (d : Description) (x : TransitLists) (a : AttNo) → IsTransitOf d x → HasAttachment x a → is_attachment d a ≡ true
-attachment-lies d x a of within = lt-ltb a.0 (length d.attachments) (omega (arith, of.firsts, within.1))
-
--- what is described the index has
 pub subnet-has : (d : Description) (x : TransitLists) (s : SubnetNo) → IsTransitOf d x → is_subnet d s ≡ true → HasSubnet x s
 subnet-has d x s of lies = let within = ltb-true s.0 (length d.subnets) lies in omega (arith, of.subnets)
 
