@@ -3,12 +3,14 @@ use Rattle.std.specs.Prelude.{◌≡◌, ◌≤◌, ◌<◌, ◌+◌, ◌*◌, �
 use Rattle.std.specs.List.{AllZip}
 use Rattle.edge_gateways.specs.Edges.{AreEdgesOf, EdgeLists}
 use Rattle.network_acls.specs.Tried.{SortsRows, TriedRows}
+use Rattle.number_tables.specs.declared.tables.Entry.{Entry}
 use Rattle.piece_table.specs.Pieces.{PieceLists, told_at}
 use Rattle.route_tables.specs.Rows.{blocks_in}
 use Rattle.security_groups.specs.Index.{GroupLists, HasRulesOf}
 use Rattle.transit_gateway.specs.Index.{IsTransitOf}
 use Rattle.transit_gateway.specs.Lists.{TransitLists}
-use Rattle.vpc_laws.specs.Types.{Acl, Description, RouteTable}
+use Rattle.vpc_laws.specs.Types.{Acl, Description, NatNo, RouteTable}
+use Rattle.fabric.specs.Nats.{AreNats}
 use Rattle.vpc_model.specs.Cuts.{cuts_of_table}
 use Rattle.vpc_model.specs.Routes.{chosen_route}
 
@@ -22,13 +24,14 @@ pub record IsRouteIndex (d : Description) (t : RouteTable) (x : PieceLists) : Ty
 abbrev pub IsAclIndex : Acl → TriedRows → Type 0
 IsAclIndex a x = SortsRows a.rows x
 
--- the indexes of all ACLs, groups and route tables, of the edges, and of the transit gateways
+-- the indexes of all ACLs, groups and route tables, of the edges, of the transit gateways, and NAT gateways by their interfaces
 pub record IndexLists : Type 0 where
   pub acls : List TriedRows
   pub groups : GroupLists
   pub routes : List PieceLists
   pub edges : EdgeLists
   pub transit : TransitLists
+  pub nats : List (Entry NatNo)
 
 -- they are those of the description
 pub record AreIndexesOf (d : Description) (x : IndexLists) : Type 0 where
@@ -37,3 +40,4 @@ pub record AreIndexesOf (d : Description) (x : IndexLists) : Type 0 where
   pub routes : AllZip (IsRouteIndex d) d.tables x.routes
   pub edges : AreEdgesOf d x.edges
   pub transit : IsTransitOf d x.transit
+  pub nats : AreNats d x.nats

@@ -2,6 +2,7 @@
 #![tactic(auto)]
 
 mod acls;
+mod nats;
 mod network;
 mod routes;
 

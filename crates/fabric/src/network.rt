@@ -6,9 +6,11 @@ ghost use Rattle.transit_gateway.specs.Index.{IsTransitOf};
 ghost use Rattle.fabric.specs.Indexes.{AreIndexesOf, IsAclIndex, IsRouteIndex};
 
 use crate::acls::acl_indexes;
+use crate::nats::nats_by_interface;
 use crate::routes::route_indexes;
 use edge_gateways::EdgeMaps;
 use network_acls::AclIndex;
+use number_tables::NumberTable;
 use reference_check::Network;
 use route_tables::RouteIndex;
 use security_groups::GroupIndex;
@@ -16,7 +18,7 @@ use std::alloc::Global;
 use std::marker::Model;
 use transit_gateway::TransitIndex;
 use vpc_base::NoMemory;
-use vpc_model::{AclNo, TableNo};
+use vpc_model::{AclNo, EniNo, NatNo, TableNo};
 
 // What lets packets pass, and what leads them on.
 #[derive(Drop)]
@@ -26,6 +28,7 @@ struct Indexes {
     routes: Vec<RouteIndex>,
     edges: EdgeMaps,
     transit: TransitIndex,
+    nats: NumberTable<NatNo>,
 }
 
 impl Model for Indexes {
@@ -39,6 +42,7 @@ impl Model for Indexes {
       routes = x.routes.items;
       edges = x.edges;
       transit = x.transit;
+      nats = x.nats;
     } };
 }
 
@@ -50,16 +54,19 @@ fn indexes_of(alloc: Global, n: &Network) -> Result<Indexes, NoMemory>
     let routes = route_indexes(alloc, n)?;
     let edges = EdgeMaps::of(alloc, n)?;
     let transit = TransitIndex::of(alloc, n)?;
+    let nats = nats_by_interface(alloc, n)?;
     Ok(Indexes {
         acls,
         groups,
         routes,
         edges,
         transit,
+        nats,
     })
 }
 
 impl Indexes {
+    ghost use Rattle.number_tables.specs.Entries.{value_at};
     ghost use Rattle.std.specs.Prelude.{◌<◌, length, slice_index_or};
     ghost use Rattle.network_acls.specs.Tried.{TriedRows};
     ghost use Rattle.piece_table.specs.Pieces.{PieceLists};
@@ -95,6 +102,12 @@ impl Indexes {
     {
         &self.transit
     }
+
+    fn nat_of(&self, i: EniNo) -> Option<NatNo>
+        ensures { result ≡ value_at i.0 self.now.nats }
+    {
+        self.nats.get(u64::from(i.0))
+    }
 }
 
 fn let_go(_network: Network) {}
@@ -120,7 +133,8 @@ impl Model for Fabric {
 impl Fabric {
     ghost use Rattle.std.specs.Prelude.{IsTrue};
     ghost use Rattle.vpc_model.specs.Lookup.{acl_at, table_at};
-    ghost use Rattle.vpc_model.specs.Sound.{is_acl, is_table};
+    ghost use Rattle.vpc_model.specs.Sound.{is_acl, is_eni, is_table};
+    ghost use Rattle.vpc_model.specs.Step.Crossing.{nat_of};
 
     /// The network with its indexes. It takes time n log n in the rows and in the pairs of a group and an
     /// address that interfaces have.
@@ -180,5 +194,13 @@ impl Fabric {
         ensures { IsTransitOf self.now result.now }
     {
         self.indexes.transit()
+    }
+
+    /// The first live NAT gateway whose interface this is.
+    pub fn nat_of(&self, i: EniNo) -> Option<NatNo>
+        requires { IsTrue (is_eni self.now i) }
+        ensures { result ≡ nat_of self.now i }
+    {
+        self.indexes.nat_of(i)
     }
 }
