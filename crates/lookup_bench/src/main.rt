@@ -4,8 +4,9 @@
 //!   `transit`, `acl`, `groups` or `addresses`.
 //! - `lookup_bench FILE WHAT-scan TIMES`: asks the described rows one after another in its place.
 //! - `lookup_bench FILE fabric`, `lookup_bench FILE nothing`: makes all look-ups, or none.
-//! - `lookup_bench connections OPENS`, `lookup_bench nat OPENS`, `lookup_bench colliding OPENS`: so many opens of a
-//!   session, the last ones of two hosts that use the same ports; each is asked for once more.
+//! - `lookup_bench connections OPENS`: tracks so many opens, then asks for the reply of each.
+//! - `lookup_bench nat OPENS`, `lookup_bench colliding OPENS`: sends so many opens out by a NAT gateway, each from a
+//!   port of its own, or from two hosts that use the same ports.
 //!
 //! It prints how many were found. Exit code 2: the words are none of these; 1: there is no network.
 #![tactic(auto)]
