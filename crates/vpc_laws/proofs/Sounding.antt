@@ -47,7 +47,7 @@ use Rattle.vpc_laws.proofs.Numbering.{accepted_numbers_are_in_range, ids_are_fou
 use Rattle.vpc_laws.proofs.Passing.{packets_pass_by_groups}
 
 -- what is known of a description
-record IsKnown (d : Description) : Type 0 where
+pub record IsKnown (d : Description) : Type 0 where
   pub named : HasAllNamed d
   pub ids : IdsHaveNumbers d
   pub range : NumbersAreInRange d
@@ -55,7 +55,7 @@ record IsKnown (d : Description) : Type 0 where
 -- ---- numbers that look-ups find
 
 -- what a look-up finds passes a test
-abbrev IfFound : {N : Type 0} → (N → Bool) → Option N → Type 0
+abbrev pub IfFound : {N : Type 0} → (N → Bool) → Option N → Type 0
 IfFound test None = Unit {0}
 IfFound test (Some n) = test n ≡ true
 
@@ -122,14 +122,14 @@ zone-by d known a inside there zone (Some id) e =
     let att = attachment_at d a in
     attached-subnet d known a inside there id (find-member (is_in_zone d zone) att.subnets id e).1
 
-zone-found : (d : Description) → IsKnown d → (a : AttNo) (s : SubnetNo) → is_attachment d a ≡ true → (let att = attachment_at d a in has_vpc d att.vpc ≡ true) → IfFound (is_subnet d) (zone_subnet d a s)
+pub zone-found : (d : Description) → IsKnown d → (a : AttNo) (s : SubnetNo) → is_attachment d a ≡ true → (let att = attachment_at d a in has_vpc d att.vpc ≡ true) → IfFound (is_subnet d) (zone_subnet d a s)
 zone-found d known a s inside there = let row = subnet_at d s in let att = attachment_at d a in zone-by d known a inside there row.zone (find (is_in_zone d row.zone) att.subnets) refl
 
 -- an attachment that is described, and whose VPC is
-abbrev is_inner : Description → AttNo → Bool
+abbrev pub is_inner : Description → AttNo → Bool
 is_inner d a = let att = attachment_at d a in is_attachment d a && has_vpc d att.vpc
 
-attachment-found : (d : Description) (id : List ℕ) (s : SubnetNo) → (let row = subnet_at d s in has_vpc d row.vpc ≡ true) → IfFound (is_inner d) (attachment_for d id s)
+pub attachment-found : (d : Description) (id : List ℕ) (s : SubnetNo) → (let row = subnet_at d s in has_vpc d row.vpc ≡ true) → IfFound (is_inner d) (attachment_for d id s)
 attachment-found d id s there =
     let row = subnet_at d s in
     let p : Attachment → Bool = λ a. bytes_eq a.gateway id && bytes_eq a.vpc row.vpc in
@@ -163,7 +163,7 @@ first_subnet-found : (d : Description) → IsKnown d → (a : AttNo) → is_atta
 first_subnet-found d known a inside there [] e = tt
 first_subnet-found d known a inside there (id ∷ ids) e = attached-subnet d known a inside there id (subst (λ l. Contains l id) (sym e) (Contains-here id ids))
 
-leave-found : (d : Description) → IsKnown d → (a : AttNo) (s : SubnetNo) → is_attachment d a ≡ true → IfFound (is_subnet d) (leave_subnet d a s)
+pub leave-found : (d : Description) → IsKnown d → (a : AttNo) (s : SubnetNo) → is_attachment d a ≡ true → IfFound (is_subnet d) (leave_subnet d a s)
 leave-found d known a s inside =
     let att = attachment_at d a in
     cond_both (has_vpc d att.vpc) (or_else (zone_subnet d a s) (first_subnet d att.subnets)) None (IfFound (is_subnet d))
@@ -367,7 +367,7 @@ map-member : {X Y : Type 0} (f : X → Y) (xs : List X) (y : Y) → Contains (ma
 map-member f [] y has = absurd (Contains-none y has)
 map-member f (x ∷ xs) y has = elim (Contains-cases (f x) y (map f xs) has) [ inl same ↦ (x, same) | inr later ↦ map-member f xs y later ]
 
-owner-by : (d : Description) → IsKnown d → (public : ℕ) (o : Option (VpcNo × ℕ)) → find (λ (o : VpcNo × ℕ). o.1 == public) (flat_map (owned_by d) d.interfaces) ≡ o → IfFound (is_vpc d) (option_map (λ (o : VpcNo × ℕ). o.0) o)
+pub owner-by : (d : Description) → IsKnown d → (public : ℕ) (o : Option (VpcNo × ℕ)) → find (λ (o : VpcNo × ℕ). o.1 == public) (flat_map (owned_by d) d.interfaces) ≡ o → IfFound (is_vpc d) (option_map (λ (o : VpcNo × ℕ). o.0) o)
 owner-by d known public None e = tt
 owner-by d known public (Some owner) e =
     let named = known.named in
@@ -580,7 +580,7 @@ asks-rule : (d : Description) (label : Label) (conns : List Connection) (own : O
 asks-rule d label conns None by asks = subst (λ b. has_rule d b ≡ true) (sym asks) refl
 asks-rule d label conns (Some c) by asks = lets-rule d label conns c by asks
 
-known-accepted : (d : Description) → IsAccepted d → IsKnown d
+pub known-accepted : (d : Description) → IsAccepted d → IsKnown d
 known-accepted d accepted = record { named = accepted_has_all_named d accepted; ids = ids_are_found d; range = accepted_numbers_are_in_range d accepted }
 
 pub steps_are_sound : (d : Description) (appliances : Appliances) (label : Label) (m : Moment) → IsAccepted d → is_sound d m.place ≡ true → let s = step_of d appliances label m in LeadsWell d s.next × (has_rule d s.by ≡ true)

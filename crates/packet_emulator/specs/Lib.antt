@@ -1,0 +1,3 @@
+pub mod Comes
+pub mod Moments
+pub mod Replies

@@ -1,0 +1,26 @@
+//! The walk of one packet over a network's look-ups.
+//!
+//! `walk` gives the walk that the definitions of `vpc_model` describe: its hops, how it ends, and what
+//! the network remembers after it. `both` walks a request and its reply. One file serves each section of
+//! the walk.
+#![tactic(auto)]
+
+mod choosing;
+mod crossing;
+mod enter;
+mod groups;
+mod interface;
+mod internet;
+mod nat;
+mod next;
+mod peering;
+mod places;
+mod router;
+mod rows;
+mod step;
+mod transit;
+mod verdict;
+mod walks;
+
+pub use verdict::{both, round};
+pub use walks::{Hops, walk};

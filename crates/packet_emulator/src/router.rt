@@ -1,0 +1,188 @@
+// The implicit router of a subnet: by the target of the chosen route.
+ghost use Rattle.std.specs.Prelude.{◌≡◌, IfSome, IsTrue, Some};
+ghost use Rattle.packet_emulator.specs.Comes.{comes};
+ghost use Rattle.vpc_laws.specs.Accepted.{HasTarget};
+ghost use Rattle.vpc_model.specs.Lookup.{nat_at, peering_at, table_at, table_of, vpc_of_subnet};
+ghost use Rattle.vpc_model.specs.Routes.{chosen_route};
+ghost use Rattle.vpc_model.specs.Sound.{is_eni, is_nat, is_peering, is_route, is_subnet, is_vpc};
+ghost use Rattle.vpc_model.specs.Step.Router as model;
+ghost use Rattle.vpc_model.specs.Transit.{attachment_for};
+
+use crate::choosing::route_of;
+use crate::crossing::{crossing, deliver, entering, is_gateway, leaving};
+use crate::next::{Next, unless_stopped};
+use crate::peering::other_side;
+use crate::rows::{
+    eni_named, igw_named, interface_at, nat_at, nat_named, peering_at, peering_named, subnet_named,
+    subnet_of, table_at, vpc_at, vpc_of,
+};
+use fabric::Fabric;
+use transit_gateway::EnterStop;
+use vpc_base::Header;
+use vpc_model::{
+    AttNo, EniNo, Foreign, Id, IgwNo, NatLife, NatNo, PeerNo, Place, Stop, SubnetNo, TableNo,
+    Target, VpcNo,
+};
+
+// A local route: to the interface that has the destination.
+fn to_host(f: &Fabric, s: SubnetNo, h: &Header, host: Option<EniNo>, v: VpcNo) -> Next
+    requires subnet { IsTrue (is_subnet f.now s) }
+    requires vpc { v ≡ vpc_of_subnet f.now s }
+    requires host { IfSome host (λ i. IsTrue (is_eni f.now i)) }
+    ensures { comes result ≡ model.to_host f.now s h.now host }
+{
+    match host {
+        Some(i) => unless_stopped(crossing(f, s, subnet_of(f, i), h), deliver(f, i, h)),
+        None => Next::Stop(Stop::NoHost(v)),
+    }
+}
+
+// A route to an interface, such as an instance that forwards.
+fn to_interface(f: &Fabric, s: SubnetNo, h: &Header, i: EniNo) -> Next
+    requires subnet { IsTrue (is_subnet f.now s) }
+    requires eni { IsTrue (is_eni f.now i) }
+    ensures { comes result ≡ model.to_interface f.now s h.now i }
+{
+    let next = if is_gateway(interface_at(f, i).kind) {
+        Next::Stop(Stop::NotAHost(i))
+    } else {
+        Next::Go(Place::Into(i), *h)
+    };
+    unless_stopped(crossing(f, s, subnet_of(f, i), h), next)
+}
+
+// Into the attachment's subnet, whose ACL is asked even if it is the sender's.
+fn to_zone(f: &Fabric, s: SubnetNo, h: &Header, a: AttNo, zone: Option<SubnetNo>) -> Next
+    requires subnet { IsTrue (is_subnet f.now s) }
+    requires zone { IfSome zone (λ t. IsTrue (is_subnet f.now t)) }
+    ensures { comes result ≡ model.to_zone f.now s h.now a zone }
+{
+    let Some(t) = zone else {
+        return Next::Stop(Stop::TgwNoZone(a));
+    };
+    match leaving(f, s, h) {
+        Some(stop) => Next::Stop(stop),
+        None => unless_stopped(entering(f, t, h), Next::Go(Place::Tgw(a, t), *h)),
+    }
+}
+
+// Whether the first gateway is attached, and is the second.
+fn is_attached(g: IgwNo, attached: Option<IgwNo>) -> bool
+    ensures { result ≡ model.is_attached g attached }
+{
+    match attached {
+        None => false,
+        Some(attached) => attached.0 == g.0,
+    }
+}
+
+// A route to an internet gateway, which is attached to the VPC.
+fn to_internet(f: &Fabric, s: SubnetNo, v: VpcNo, h: &Header, g: IgwNo) -> Next
+    requires subnet { IsTrue (is_subnet f.now s) }
+    requires vpc { IsTrue (is_vpc f.now v) }
+    requires own { v ≡ vpc_of_subnet f.now s }
+    ensures { comes result ≡ model.to_internet f.now s h.now g }
+{
+    if is_attached(g, f.network().gateway_of(v)) {
+        unless_stopped(leaving(f, s, h), Next::Go(Place::IgwOut(v), *h))
+    } else {
+        Next::Stop(Stop::GatewayDetached(g))
+    }
+}
+
+// A route to a NAT gateway, which is available.
+fn to_nat(f: &Fabric, s: SubnetNo, h: &Header, n: NatNo) -> Next
+    requires subnet { IsTrue (is_subnet f.now s) }
+    requires nat { IsTrue (is_nat f.now n) }
+    ensures { let row = nat_at f.now n in comes result ≡ model.to_nat f.now s h.now n row.life }
+{
+    let network = f.network();
+    let _ = network.description();
+    match &nat_at(f, n).life {
+        NatLife::Gone => Next::Stop(Stop::NatNotAvailable(n)),
+        NatLife::Unmodelled => Next::Stop(Stop::Unmodelled(Foreign::Nat(n))),
+        NatLife::Live { subnet, .. } => {
+            let t = subnet_named(network, subnet);
+            unless_stopped(crossing(f, s, t, h), Next::Go(Place::NatOut(n), *h))
+        }
+    }
+}
+
+// A route to a peering, which is active and whose other VPC is described.
+fn to_peer(f: &Fabric, s: SubnetNo, v: VpcNo, h: &Header, x: PeerNo) -> Next
+    requires subnet { IsTrue (is_subnet f.now s) }
+    requires vpc { IsTrue (is_vpc f.now v) }
+    requires own { v ≡ vpc_of_subnet f.now s }
+    requires peering { IsTrue (is_peering f.now x) }
+    ensures { let row = peering_at f.now x in comes result ≡ model.to_peer f.now s h.now x row.pair }
+{
+    let Some(pair) = &peering_at(f, x).pair else {
+        return Next::Stop(Stop::PeerNotActive(x));
+    };
+    let other = other_side(vpc_at(f, v).id.bytes(), pair);
+    match f.network().vpc(other.bytes()) {
+        Some(_) => unless_stopped(leaving(f, s, h), Next::Go(Place::Peer(x, v), *h)),
+        None => Next::Stop(Stop::Unmodelled(Foreign::Peering(x))),
+    }
+}
+
+// A route to a transit gateway, which has an attachment here.
+fn to_transit(f: &Fabric, s: SubnetNo, h: &Header, t: TableNo, k: u32, gateway: &Id) -> Next
+    requires { IsTrue (is_subnet f.now s) }
+    ensures { comes result ≡ model.to_transit f.now s h.now t k (attachment_for f.now gateway.now s) }
+{
+    let _ = f.network().description();
+    match f.transit().enter(gateway.bytes(), s) {
+        Ok((a, zone)) => to_zone(f, s, h, a, Some(zone)),
+        Err(EnterStop::NoZone(a)) => to_zone(f, s, h, a, None),
+        Err(EnterStop::NoAttachment) => Next::Stop(Stop::TgwNoAttachment(t, k)),
+    }
+}
+
+// By the target of the route.
+fn to_target(f: &Fabric, s: SubnetNo, h: &Header, t: TableNo, k: u32, target: &Target) -> Next
+    requires subnet { IsTrue (is_subnet f.now s) }
+    requires there { let table = table_at f.now t in HasTarget f.now table.vpc target.now }
+    ensures { comes result ≡ model.to_target f.now s h.now t k target.now }
+{
+    let n = f.network();
+    let v = vpc_of(f, s);
+    match target {
+        Target::Local => to_host(f, s, h, n.host(v, h.dst), v),
+        Target::Internet(id) => to_internet(f, s, v, h, igw_named(n, id)),
+        Target::Nat(id) => to_nat(f, s, h, nat_named(n, id)),
+        Target::Peer(id) => to_peer(f, s, v, h, peering_named(n, id)),
+        Target::Transit(id) => to_transit(f, s, h, t, k, id),
+        Target::Interface(id) => to_interface(f, s, h, eni_named(n, id)),
+        Target::Other(_) => Next::Stop(Stop::Unmodelled(Foreign::Target(t, k))),
+    }
+}
+
+// By the chosen route; a blackhole stops the packet.
+fn by_route(f: &Fabric, s: SubnetNo, h: &Header, t: TableNo, k: u32) -> Next
+    requires subnet { IsTrue (is_subnet f.now s) }
+    requires route { IsTrue (is_route f.now t k) }
+    ensures { comes result ≡ model.by_route f.now s h.now t (Some k) }
+{
+    let _ = f.network().description();
+    let route = &table_at(f, t).routes.as_slice()[k as usize];
+    if route.blackhole {
+        return Next::Stop(Stop::Blackhole(t, k));
+    }
+    to_target(f, s, h, t, k, &route.target)
+}
+
+/// From the router of a subnet, by its route table (VPC User Guide, "Route tables").
+pub fn router(f: &Fabric, s: SubnetNo, h: &Header) -> Next
+    requires { IsTrue (is_subnet f.now s) }
+    ensures { let t = table_of f.now s in let table = table_at f.now t in
+        comes result ≡ model.by_route f.now s h.now t (chosen_route f.now table.routes h.now.dst) }
+{
+    let n = f.network();
+    let _ = n.description();
+    let t = n.table_of(s);
+    match route_of(f, t, h.dst) {
+        Some(k) => by_route(f, s, h, t, k),
+        None => Next::Stop(Stop::NoRoute(t)),
+    }
+}
