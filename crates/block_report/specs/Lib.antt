@@ -1,0 +1,6 @@
+pub mod Words
+pub mod Hops
+pub mod Walks
+pub mod Refusals
+pub mod Reports
+pub mod Queries

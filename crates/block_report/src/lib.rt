@@ -1,12 +1,25 @@
 //! Printed texts. Each call appends one text to what is there, or wants memory.
 #![tactic(auto)]
 
+mod hops;
+mod places;
+mod queries;
 mod refusals;
+mod reports;
+mod rows;
+mod stops;
+mod walks;
 mod words;
 
+pub use hops::{print_hops, put_by_group, put_hops, put_place};
+pub use queries::put_query_refusal;
 pub use refusals::put_cause;
+pub use reports::{print_more, print_report, put_more, put_report, put_row, put_told};
+pub use stops::stop_text;
+pub use walks::{put_arrived, put_stop_words, put_stopped, put_walk};
 pub use words::{
-    put, put_addr_word, put_end, put_header, put_header_word, put_number_word, put_word,
+    put, put_addr_word, put_end, put_header, put_header_line, put_header_word, put_line,
+    put_number_line, put_number_word, put_word,
 };
 
 #[cfg(test)]

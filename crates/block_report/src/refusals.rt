@@ -1,10 +1,11 @@
 // Prints why a bundle describes no network.
 ghost use Rattle.std.specs.Prelude.{◌≡◌, ◌++◌, OnOk, codes};
 ghost use Rattle.prefix_text.specs.Addr.{addr_text};
-ghost use Rattle.vpc_model.specs.Text.{list_text, refusal_text, word};
-ghost use Rattle.bundle.specs.Text.{cause_text};
+ghost use Rattle.block_report.specs.Refusals.{list_text, refusal_text};
+ghost use Rattle.block_report.specs.Words.{word};
+ghost use Rattle.block_report.specs.Refusals.{cause_text};
 
-use crate::{put, put_addr_word, put_word};
+use crate::words::{put, put_addr_word, put_word};
 use bundle::BundleRefusal;
 use vpc_base::NoMemory;
 use vpc_model::{ListName, Refusal};

@@ -1,4 +1,3 @@
 pub mod Json
 pub mod Meaning
-pub mod Text
 pub mod Types

@@ -9,7 +9,7 @@ use Rattle.vpc_model.specs.declared.places.End.TheVariants as ends
 use Rattle.header_boxes.specs.Rows.{IsFirstThrough}
 use Rattle.vpc_model.specs.Appliances.{Appliances, appliances_of}
 use Rattle.vpc_model.specs.Report.{IsOrderedReport, IsPartReport, meaning_of}
-use Rattle.vpc_model.specs.Text.{told_stop}
+use Rattle.vpc_model.specs.Told.{told_stop}
 use Rattle.one_subnet.specs.declared.site.Site.{Site}
 use Rattle.one_subnet.specs.Site.{description_of}
 use Rattle.subnet_walk.specs.declared.barrier.Barrier.{Barrier}

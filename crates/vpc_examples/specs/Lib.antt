@@ -2,12 +2,9 @@ pub mod Types
 pub mod Networks
 pub mod Examples
 pub mod Stops
-pub mod Printed
-pub mod Reported
 pub mod Choices
 pub mod Crossings
 pub mod Middleboxes
-pub mod Told
 pub mod CutRows
 pub mod Refused
 pub mod Replayed

@@ -10,5 +10,3 @@ pub mod refusals;
 pub mod refused;
 pub mod replayed;
 pub mod subnets;
-pub mod texts;
-pub mod told;

@@ -7,7 +7,7 @@ use Rattle.vpc_model.specs.declared.same.Carried.{Carried}
 use Rattle.vpc_model.specs.declared.same.Carried.TheVariants as carried
 use Rattle.vpc_model.specs.declared.same.Row.TheVariants as row
 use Rattle.vpc_model.specs.Same.{carried_by, number_of_name}
-use Rattle.vpc_model.specs.Text.{name_of}
+use Rattle.vpc_model.specs.Told.{name_of}
 
 abbrev all_names : List StopName
 all_names = names.Detached ∷ names.SourceCheck ∷ names.DestCheck ∷ names.GroupsOut ∷ names.GroupsIn ∷ names.NotAHost ∷ names.ApplianceDrop ∷ names.NoRoute ∷ names.Blackhole ∷ names.AclOut ∷ names.AclIn ∷ names.NoHost ∷ names.NoGateway ∷ names.GatewayDetached ∷ names.NoPublic ∷ names.PrivateAddress ∷ names.NatNotAvailable ∷ names.NatAnswer ∷ names.NatProtocol ∷ names.NatFull ∷ names.NatUnsolicited ∷ names.PeerNotActive ∷ names.PeerSource ∷ names.PeerDestination ∷ names.TgwNoAttachment ∷ names.TgwNoZone ∷ names.TgwNoTable ∷ names.TgwNoRoute ∷ names.TgwBlackhole ∷ names.Unmodelled ∷ names.Loop ∷ names.TooFar ∷ names.WrongPlace ∷ names.WrongReturn ∷ names.NoReply ∷ []

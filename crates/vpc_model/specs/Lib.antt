@@ -20,7 +20,6 @@ pub mod Replay
 pub mod Accepted
 pub mod Cuts
 pub mod Sound
-pub mod Text
+pub mod Told
 pub mod Report
-pub mod ReportText
 pub mod Same

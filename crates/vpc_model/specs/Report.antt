@@ -10,7 +10,7 @@ use Rattle.vpc_base.specs.Cuts.{AreAmong, CutLists}
 use Rattle.vpc_base.specs.Header.{IsBefore}
 use Rattle.vpc_model.specs.Appliances.{Appliances}
 use Rattle.vpc_model.specs.Cuts.{cuts_of}
-use Rattle.vpc_model.specs.Text.{told_stop}
+use Rattle.vpc_model.specs.Told.{told_stop}
 use Rattle.vpc_model.specs.Verdict.{verdict_of}
 
 -- what stops a request or its reply; none where the request gets through

@@ -1,6 +1,6 @@
 // Why a packet is stopped.
 ghost use Rattle.std.specs.Prelude.{◌≡◌};
-ghost use Rattle.vpc_model.specs.Text.{name_of};
+ghost use Rattle.vpc_model.specs.Told.{name_of};
 
 use crate::{AclNo, AttNo, End, EniNo, IgwNo, NatNo, PeerNo, Place, TableNo, TgwTableNo, VpcNo};
 

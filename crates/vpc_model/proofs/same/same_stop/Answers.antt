@@ -1,6 +1,6 @@
 use Rattle.std.proofs.Common.{◌≡◌, sym, ◌∙◌, ap}
 use Rattle.vpc_model.specs.Same.{carried_by}
-use Rattle.vpc_model.specs.Text.{name_of}
+use Rattle.vpc_model.specs.Told.{name_of}
 use Rattle.vpc_model.proofs.Parts.{same_parts}
 use Rattle.vpc_model.proofs.same.same_stop.Goals as goal
 

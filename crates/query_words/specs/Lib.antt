@@ -1,0 +1,5 @@
+pub mod Ends
+pub mod Packet
+pub mod Refusal
+pub mod Words
+pub mod Worked

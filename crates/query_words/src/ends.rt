@@ -1,0 +1,55 @@
+// Where packets start and arrive.
+ghost use Rattle.std.specs.Prelude.{◌≡◌, ◌≤◌, IfOk, IsTrue, length, map, string_bytes};
+ghost use Rattle.vpc_model.specs.Lookup.{interface_at};
+ghost use Rattle.vpc_model.specs.Sound.{is_end, is_eni};
+ghost use Rattle.query_words.specs.Ends.{end_at, end_of};
+ghost use Rattle.query_words.specs.Refusal.{Answers};
+
+use crate::QueryRefusal;
+use crate::words::word;
+use reference_check::Network;
+use std::alloc::Global;
+use vpc_model::{End, EniNo, Interface, InterfaceKind};
+
+fn interface_at(n: &Network, eni: EniNo) -> &Interface
+    requires { IsTrue (is_eni n.now eni) }
+    ensures { result.now ≡ interface_at n.now eni }
+{
+    &n.description().interfaces.as_slice()[eni.0 as usize]
+}
+
+// An interface as an end, where it belongs to no gateway.
+fn end_at(alloc: Global, n: &Network, eni: EniNo) -> Result<End, QueryRefusal>
+    requires { IsTrue (is_eni n.now eni) }
+    ensures answer { Answers (end_at n.now eni) result }
+    ensures described { IfOk result (λ e. IsTrue (is_end n.now e)) }
+{
+    let row = interface_at(n, eni);
+    match row.kind {
+        InterfaceKind::Host => Ok(End::Interface(eni)),
+        InterfaceKind::Gateway => Err(QueryRefusal::NotAnEnd(row.id.copied(alloc)?)),
+    }
+}
+
+/// The end that a word names. The word `internet` always means the internet, also where an interface
+/// has that id.
+pub fn read_end(
+    alloc: Global,
+    n: &Network,
+    words: &[String],
+    number: usize,
+) -> Result<End, QueryRefusal>
+    requires first { 1 ≤ number }
+    requires last { number ≤ length words.now }
+    ensures answer { Answers (end_of n.now (map string_bytes words.now) number) result }
+    ensures described { IfOk result (λ e. IsTrue (is_end n.now e)) }
+{
+    let word = word(words, number);
+    if word == "internet" {
+        return Ok(End::Internet);
+    }
+    match n.eni(word.as_bytes()) {
+        Some(eni) => end_at(alloc, n, eni),
+        None => Err(QueryRefusal::UnknownId(number as u64)),
+    }
+}

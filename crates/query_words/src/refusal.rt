@@ -1,0 +1,30 @@
+// Why words are refused.
+ghost use Rattle.std.specs.Prelude.{◌≡◌};
+ghost use Rattle.query_words.specs.declared.refusal.QueryRefusal.TheVariants.{Memory};
+
+use vpc_base::NoMemory;
+use vpc_model::Id;
+
+/// Why words give no query or packet. Words are counted from 1, the command's own name included; only
+/// the first cause from the left is told.
+#[derive(Debug, Drop)]
+pub enum QueryRefusal {
+    /// The word with this number is none that may stand in its place.
+    BadWord(u64),
+    /// The word with this number stands for an end, and is neither `internet` nor the id of an
+    /// interface (DescribeNetworkInterfaces).
+    UnknownId(u64),
+    /// The interface with this id belongs to a NAT gateway or a transit gateway, so that no packet
+    /// starts or ends there.
+    NotAnEnd(Id),
+    /// Memory was refused.
+    Memory,
+}
+
+impl From<NoMemory> for QueryRefusal {
+    ghost from_gives = { λ _ r. r ≡ Memory };
+
+    fn from(_error: NoMemory) -> QueryRefusal {
+        QueryRefusal::Memory
+    }
+}

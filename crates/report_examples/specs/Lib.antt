@@ -1,0 +1,4 @@
+pub mod Printed
+pub mod Reported
+pub mod Stops
+pub mod Middleboxes

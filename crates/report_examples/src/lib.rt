@@ -1,0 +1,6 @@
+//! What is printed of packets in small networks, computed with the definitions of `block_report`.
+#![tactic(auto)]
+
+pub mod middleboxes;
+pub mod stops;
+pub mod texts;

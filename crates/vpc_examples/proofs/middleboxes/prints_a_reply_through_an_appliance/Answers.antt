@@ -1,8 +1,0 @@
--- It computes, once the digits of numbers do.
-use Rattle.std.proofs.Common.{refl}
-use Rattle.std.specs.Fmt.{digits}
-use Rattle.vpc_examples.proofs.middleboxes.prints_a_reply_through_an_appliance.Goals as goal
-
-pub returns : goal.returns
-unfolding digits
-returns c = (refl, refl)

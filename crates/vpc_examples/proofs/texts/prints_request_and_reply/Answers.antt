@@ -1,8 +1,0 @@
--- It computes, once the digits of numbers do.
-use Rattle.std.proofs.Common.{refl}
-use Rattle.std.specs.Fmt.{digits}
-use Rattle.vpc_examples.proofs.texts.prints_request_and_reply.Goals as goal
-
-pub returns : goal.returns
-unfolding digits
-returns c = (refl, refl)
