@@ -1,34 +1,44 @@
--- What is due decides a query.
-use Rattle.std.proofs.Common.{◌≡◌, ◌<◌, ◌≤◌, ◌⊎◌, ◌∷◌, ◌||◌, ℕ, Bool, true, false, zero, suc, List, [], Option, Some, None, Err, Ok, inl, inr, refl, sym, ap, subst, ◌∙◌, arith}
+-- What is due is complete, and reads and writes fail in their own cases alone.
+use Rattle.std.proofs.Common.{◌≡◌, ◌<◌, ◌≤◌, ◌⊎◌, ◌∷◌, ◌||◌, ℕ, Bool, true, false, zero, suc, List, [], Option, Some, None, Err, Ok, inl, inr, refl, sym, ap, subst, ◌∙◌, arith, length}
 use Rattle.std.specs.List.{All, AllPairs, Contains}
 use Rattle.std.proofs.lemmas.List.Kept.{AllPairs-from_increasing}
 use Rattle.serde_json.specs.Data.{Data}
 use Rattle.serde_json.specs.Read.{read}
 use Rattle.vpc_base.specs.Cuts.{CutLists}
+use Rattle.vpc_base.specs.declared.headers.Header.{Header}
 use Rattle.header_boxes.specs.Boxes.{holds}
 use Rattle.header_boxes.specs.Cells.{cells_of}
 use Rattle.header_boxes.specs.Rows.{HasWord, is_covered}
-use Rattle.vpc_model.specs.Report.{IsCellCount, ending_of}
 use Rattle.header_boxes.specs.declared.boxes.Box5.{Box5}
-use Rattle.vpc_model.specs.declared.rows.Description.{Description}
-use Rattle.vpc_base.specs.declared.headers.Header.{Header}
 use Rattle.header_boxes.specs.declared.rows.Row.{Row}
+use Rattle.vpc_io.specs.Told.{IfTold}
+use Rattle.vpc_model.specs.Report.{IsCellCount, ending_of}
+use Rattle.vpc_model.specs.declared.outcomes.Event.{Event}
+use Rattle.vpc_model.specs.declared.outcomes.Outcome.{Outcome}
+use Rattle.vpc_model.specs.declared.outcomes.Outcome.TheVariants as outcome
+use Rattle.vpc_model.specs.declared.rows.Description.{Description}
 use Rattle.vpc_model.specs.declared.stop_texts.StopText.{StopText}
-use Rattle.one_subnet.specs.Site.{description_of}
-use Rattle.subnet_reach.specs.Query.{box_of, meaning_in}
-use Rattle.one_subnet.specs.declared.site.Site.{Site}
-use Rattle.subnet_reach.specs.declared.query.Query.{Query as Asked}
-use Rattle.vpc_cli.specs.Asked.{IsAskAnswer, IsDecided, IsQueryAnswer, IsReachable, IsReported, IsReportedInPart}
 use Rattle.bundle.specs.Meaning.{IsCause, Means, meaning_of}
 use Rattle.bundle.specs.declared.refusal.BundleRefusal.{BundleRefusal}
 use Rattle.bundle.specs.declared.refusal.BundleRefusal.TheVariants as causes
-use Rattle.vpc_cli.specs.Described.{Describes, IsRefused, by_cause, by_form, form_of, too_big}
-use Rattle.vpc_cli.specs.Due.{file_name, IsAnswer, IsAnswerBy, IsAnswered, IsComplete, IsDue, IsDueBy, IsDueForBytes, IsDueForFile, IsFault}
+use Rattle.one_subnet.specs.Site.{description_of}
+use Rattle.one_subnet.specs.declared.site.Site.{Site}
+use Rattle.query_words.specs.Packet.{packet_of}
+use Rattle.subnet_reach.specs.Query.{box_of, meaning_in}
+use Rattle.subnet_reach.specs.declared.query.Query.{Query}
+use Rattle.vpc_cli.specs.Asked.{IsAsked, IsDecided, IsReachable, IsReported, IsReportedInPart, form_of}
+use Rattle.vpc_cli.specs.Asked as asks
+use Rattle.vpc_cli.specs.Described.{Describes, file_limit}
+use Rattle.vpc_cli.specs.Due.{IsAnswered, IsComplete, IsDue, IsDueForBytes, IsFault}
+use Rattle.vpc_cli.specs.Due as due
 use Rattle.vpc_cli.specs.Query.{query_of}
-use Rattle.vpc_cli.specs.Words.{is_ask, words_fault}
+use Rattle.vpc_cli.specs.Traced.{IsTraced, status_of, traced_status}
+use Rattle.vpc_cli.specs.Traced as traces
+use Rattle.vpc_cli.specs.Words.{command_of, file_name}
 use Rattle.vpc_cli.specs.declared.status.Status.{Status}
-use Rattle.vpc_cli.specs.declared.status.Status.TheVariants.{Yes, No, Words, Description as Refused, Query, More, Read, Write, Memory}
-use Rattle.vpc_io.specs.Sink.{with_text}
+use Rattle.vpc_cli.specs.declared.status.Status.TheVariants as ends
+use Rattle.vpc_cli.specs.declared.words.Mode.{Mode}
+use Rattle.vpc_cli.specs.declared.words.Mode.TheVariants as modes
 
 -- ---- cuts are told by their members
 
@@ -122,59 +132,85 @@ same_value bytes v w a b = let same : Some v ≡ Some w = sym a ∙ b in cc
 same_network : (v w : Data) (d e : Description) → v ≡ w → meaning_of v ≡ Ok d → meaning_of w ≡ Ok e → d ≡ e
 same_network v w d e value a b = let same : Ok d ≡ Ok e = sym a ∙ (ap meaning_of value ∙ b) in cc
 
-same_form : (v w : Data) (d e : Description) → v ≡ w → d ≡ e → form_of d v ≡ form_of e w
-same_form v w d e value network = ap (λ (x : Description). form_of x v) network ∙ ap (form_of e) value
+described_value : (bytes : List ℕ) (d e : Description) (a : Describes bytes d) (b : Describes bytes e) → a.value ≡ b.value
+described_value bytes d e a b = same_value bytes a.value b.value a.json.1 b.json.1
 
-same_site : (bytes : List ℕ) (s t : Site) → Describes bytes s → Describes bytes t → s ≡ t
-same_site bytes s t a b =
-    let value = same_value bytes a.value b.value a.json.1 b.json.1 in
-    let network = same_network a.value b.value a.network b.network value a.accepted b.accepted in
-    let same : Some s ≡ Some t = sym a.form ∙ (same_form a.value b.value a.network b.network value network ∙ b.form) in
-    cc
+described_network : (bytes : List ℕ) (d e : Description) → Describes bytes d → Describes bytes e → d ≡ e
+described_network bytes d e a b = same_network a.value b.value d e (described_value bytes d e a b) a.accepted b.accepted
 
 -- a bundle that is accepted has no cause against it
-not_accepted : (bytes : List ℕ) (cause : BundleRefusal) (site : Site) → Means bytes (Err cause) → Describes bytes site → ⊥
-not_accepted bytes cause site is described =
+not_accepted : (bytes : List ℕ) (cause : BundleRefusal) (d : Description) → Means bytes (Err cause) → Describes bytes d → ⊥
+not_accepted bytes cause d is described =
     let value = same_value bytes is.value described.value is.json.1 described.json.1 in
-    let same : Err cause ≡ Ok described.network = sym is.meaning ∙ (ap meaning_of value ∙ described.accepted) in
+    let same : Err cause ≡ Ok d = sym is.meaning ∙ (ap meaning_of value ∙ described.accepted) in
     cc
 
-no_cause : (bytes : List ℕ) (cause : BundleRefusal) (site : Site) → IsCause bytes cause → Describes bytes site → ⊥
-no_cause bytes causes.NotJson site is described = let same : None ≡ Some described.value = sym (is described.json.0) ∙ described.json.1 in cc
-no_cause bytes (causes.WrongShape path) site is described = not_accepted bytes (causes.WrongShape path) site is described
-no_cause bytes (causes.BadText path) site is described = not_accepted bytes (causes.BadText path) site is described
-no_cause bytes (causes.Rows cause) site is described = not_accepted bytes (causes.Rows cause) site is described
-no_cause bytes causes.Memory site is described = is
+no_cause : (bytes : List ℕ) (cause : BundleRefusal) (d : Description) → IsCause bytes cause → Describes bytes d → ⊥
+no_cause bytes causes.NotJson d is described = let same : None ≡ Some described.value = sym (is described.json.0) ∙ described.json.1 in cc
+no_cause bytes (causes.WrongShape path) d is described = not_accepted bytes (causes.WrongShape path) d is described
+no_cause bytes (causes.BadText path) d is described = not_accepted bytes (causes.BadText path) d is described
+no_cause bytes (causes.Rows cause) d is described = not_accepted bytes (causes.Rows cause) d is described
+no_cause bytes causes.Memory d is described = is
 
-not_refused : (bytes text : List ℕ) (site : Site) → IsRefused bytes text → Describes bytes site → ⊥
-not_refused bytes text site (too_big long text_is) described = let few = described.few in absurd (omega arith)
-not_refused bytes text site (by_cause cause few is text_is) described = no_cause bytes cause site is described
-not_refused bytes text site (by_form few other text_is) described =
-    let value = same_value bytes other.value described.value other.json.1 described.json.1 in
-    let network = same_network other.value described.value other.network described.network value other.accepted described.accepted in
-    let same : None ≡ Some site = sym other.form ∙ (same_form other.value described.value other.network described.network value network ∙ described.form) in
-    cc
+-- what is due for bytes that describe a network is the answer in it
+answer_for : (command : Mode) (words : List (List ℕ)) (bytes : List ℕ) (d : Description) (status : Status) (text : List ℕ)
+    → IsDueForBytes command words bytes status text → (described : Describes bytes d) → IsAnswered command described.value d words status text
+answer_for command words bytes d status text (due.refused cause is status_is text_is) described = absurd (no_cause bytes cause d is described)
+answer_for command words bytes d status text (due.answered e other answer) described =
+    let network = described_network bytes e d other described in
+    let value = described_value bytes e d other described in
+    subst (λ (v : Data). IsAnswered command v d words status text) value (subst (λ (n : Description). IsAnswered command other.value n words status text) network answer)
 
--- ---- an answer decides the query
+-- ---- what is due for a told file
 
-asked : (words : List (List ℕ)) (bytes : List ℕ) (site : Site) (query : Asked) (status : Status) (text : List ℕ)
-    → IsAnswered words bytes status text → is_ask words ≡ true → Describes bytes site → query_of site.hosts words ≡ Some query → IsQueryAnswer site query status text
-asked words bytes site query status text x asks described query_is =
-    let same = same_site bytes x.site site x.described described in
-    let answer : IsAnswerBy true words x.site status text = subst (λ (b : Bool). IsAnswerBy b words x.site status text) asks x.answer in
-    let answer_here : IsAskAnswer site (query_of site.hosts words) status text = subst (λ (s : Site). IsAskAnswer s (query_of s.hosts words) status text) same answer in
-    subst (λ (o : Option Asked). IsAskAnswer site o status text) query_is answer_here
+same_command : (words : List (List ℕ)) (m n : Mode) → command_of words ≡ Ok m → command_of words ≡ Ok n → m ≡ n
+same_command words m n a b = let same : Ok m ≡ Ok n = sym a ∙ b in cc
 
-yes_decides : (site : Site) (query : Asked) (text : List ℕ) → IsReachable site query text → IsDecided site query Yes
+told_is : (told : Option (List ℕ)) (a b : List ℕ) → told ≡ Some a → IfTold told (λ x. x ≡ b) → b ≡ a
+told_is None a b is same = cc
+told_is (Some x) a b is same = let e : Some x ≡ Some a = is in cc
+
+-- a fault, or the answer in the network that the told bytes describe
+fault_or_answer : (command : Mode) (words : List (List ℕ)) (told : List ℕ → Option (List ℕ)) (failed : List ℕ → Type 0) (bytes : List ℕ) (d : Description) (status : Status) (text : List ℕ)
+    → IsDue words told failed status text → command_of words ≡ Ok command → told (file_name words) ≡ Some bytes → (described : Describes bytes d)
+    → IsFault status ⊎ IsAnswered command described.value d words status text
+fault_or_answer command words told failed bytes d status text (due.not_words refusal is status_is text_is) named at described =
+    let same : Err refusal ≡ Ok command = sym is ∙ named in cc
+fault_or_answer command words told failed bytes d status text (due.no_memory status_is text_is) named at described = inl (inr (inr status_is))
+fault_or_answer command words told failed bytes d status text (due.not_read other is failure status_is text_is) named at described = inl (inl status_is)
+fault_or_answer command words told failed bytes d status text (due.too_big other more is same long status_is text_is) named at described =
+    let few = described.few in
+    let all = ap length (told_is (told (file_name words)) bytes more at same) in
+    absurd (too_many (length more) (length bytes) file_limit long few all)
+  where
+    too_many : (more few limit : ℕ) → limit < more → few ≤ limit → more ≡ few → ⊥
+    too_many more few limit long short same = omega arith
+fault_or_answer command words told failed bytes d status text (due.of_bytes other these is same few answer) named at described =
+    let by_command : IsDueForBytes command words these status text = subst (λ (m : Mode). IsDueForBytes m words these status text) (same_command words other command is named) answer in
+    let by_bytes : IsDueForBytes command words bytes status text = subst (λ (b : List ℕ). IsDueForBytes command words b status text) (told_is (told (file_name words)) bytes these at same) by_command in
+    inr (answer_for command words bytes d status text by_bytes described)
+
+-- ---- `trace` ends as its walk does
+
+same_event : (d : Description) (words : List (List ℕ)) (e f : Event) → packet_of d words ≡ Ok e → packet_of d words ≡ Ok f → e ≡ f
+same_event d words e f a b = let same : Ok e ≡ Ok f = sym a ∙ b in cc
+
+traced : (d : Description) (words : List (List ℕ)) (e : Event) (status : Status) (text : List ℕ) → IsTraced d words status text → packet_of d words ≡ Ok e → status ≡ traced_status d e
+traced d words e status text (traces.refused refusal is status_is text_is) packet = let same : Err refusal ≡ Ok e = sym is ∙ packet in cc
+traced d words e status text (traces.walked f is status_is text_is) packet = status_is ∙ ap (traced_status d) (same_event d words f e is packet)
+
+-- ---- `ask` decides its query
+
+yes_decides : (site : Site) (query : Query) (text : List ℕ) → IsReachable site query text → IsDecided site query ends.Yes
 yes_decides site query text x = record { yes = λ some. refl; no = λ few. absurd (few.none x.header x.first.inside x.first.through) }
 
-no_decides : (site : Site) (query : Asked) (text : List ℕ) → IsReported site query text → IsDecided site query No
+no_decides : (site : Site) (query : Query) (text : List ℕ) → IsReported site query text → IsDecided site query ends.No
 no_decides site query text x = record {
   yes = λ some. absurd (not_through (meaning_in site query) x.rows some.header x.report.report.are_true.word (x.report.report.holds_all some.header some.inside) (ap (ending_of (description_of site)) some.through));
   no = λ few. refl;
 }
 
-more_decides : (site : Site) (query : Asked) (text : List ℕ) → IsReportedInPart site query text → IsDecided site query More
+more_decides : (site : Site) (query : Query) (text : List ℕ) → IsReportedInPart site query text → IsDecided site query ends.More
 more_decides site query text x = record {
   yes = λ some. absurd (x.report.none some.header some.inside (ap (ending_of (description_of site)) some.through));
   no = λ few. absurd (too_few query.max x.cells few.cells x.report.many few.few (cells_are (description_of site) (box_of site query) few.cells x.cells few.cells_are x.report.cells_are));
@@ -183,51 +219,129 @@ more_decides site query text x = record {
     too_few : (max cells few : ℕ) → max < cells → few ≤ max → few ≡ cells → ⊥
     too_few max cells few many at_most same = omega arith
 
-decided_by : (words : List (List ℕ)) (bytes : List ℕ) (site : Site) (query : Asked) (status : Status) (text : List ℕ)
-    → IsDueForBytes words bytes status text → is_ask words ≡ true → Describes bytes site → query_of site.hosts words ≡ Some query → IsFault status ⊎ IsDecided site query status
-decided_by words bytes site query Yes text due asks described query_is = inr (yes_decides site query text (asked words bytes site query Yes text due asks described query_is))
-decided_by words bytes site query No text due asks described query_is = inr (no_decides site query text (asked words bytes site query No text due asks described query_is))
-decided_by words bytes site query Words text due asks described query_is = absurd due
-decided_by words bytes site query Refused text due asks described query_is = absurd (not_refused bytes text site due described)
-decided_by words bytes site query Query text due asks described query_is = absurd (asked words bytes site query Query text due asks described query_is)
-decided_by words bytes site query More text due asks described query_is = inr (more_decides site query text (asked words bytes site query More text due asks described query_is))
-decided_by words bytes site query Read text due asks described query_is = absurd due
-decided_by words bytes site query Write text due asks described query_is = absurd due
-decided_by words bytes site query Memory text due asks described query_is = absurd due
+same_site : (found : Option Site) (s t : Site) → found ≡ Some s → found ≡ Some t → s ≡ t
+same_site found s t a b = let same : Some s ≡ Some t = sym a ∙ b in cc
 
-decided_for : (words : List (List ℕ)) (bytes : List ℕ) (failed : Type 0) (site : Site) (query : Asked) (status : Status) (text : List ℕ)
-    → IsDueForFile words (Some bytes) failed status text → is_ask words ≡ true → Describes bytes site → query_of site.hosts words ≡ Some query → IsFault status ⊎ IsDecided site query status
-decided_for words bytes failed site query Yes text due = decided_by words bytes site query Yes text due
-decided_for words bytes failed site query No text due = decided_by words bytes site query No text due
-decided_for words bytes failed site query Words text due = absurd due
-decided_for words bytes failed site query Refused text due = decided_by words bytes site query Refused text due.1
-decided_for words bytes failed site query Query text due = decided_by words bytes site query Query text due.1
-decided_for words bytes failed site query More text due = decided_by words bytes site query More text due
-decided_for words bytes failed site query Read text due = λ asks described query_is. inl (inl refl)
-decided_for words bytes failed site query Write text due = absurd due
-decided_for words bytes failed site query Memory text due = λ asks described query_is. inl (inr (inr refl))
+same_query : (s t : Site) (words : List (List ℕ)) (x y : Query) → s ≡ t → query_of s.hosts words ≡ Some x → query_of t.hosts words ≡ Some y → x ≡ y
+same_query s t words x y site a b = let same : Some x ≡ Some y = sym a ∙ (ap (λ (u : Site). query_of u.hosts words) site ∙ b) in cc
 
--- a pair that is due is complete
-pub complete_if_due : (words : List (List ℕ)) (told : List ℕ → Option (List ℕ)) (failed : List ℕ → Type 0) (status : Status) (text : List ℕ) → IsDue words told failed status text → IsComplete words told status
-complete_if_due words told failed status text due bytes site query right asks told_is described query_is =
-    let by_words : IsDueBy None words told failed status text = subst (λ (o : Option ℕ). IsDueBy o words told failed status text) right due in
-    let by_bytes : IsDueForFile words (Some bytes) (failed (file_name words)) status text = subst (λ (o : Option (List ℕ)). IsDueForFile words o (failed (file_name words)) status text) told_is by_words in
-    decided_for words bytes (failed (file_name words)) site query status text by_bytes asks described query_is
+no_query : (s t : Site) (words : List (List ℕ)) (y : Query) → s ≡ t → query_of s.hosts words ≡ None → query_of t.hosts words ≡ Some y → ⊥
+no_query s t words y site a b = let same : None ≡ Some y = sym a ∙ (ap (λ (u : Site). query_of u.hosts words) site ∙ b) in cc
 
--- ---- a due pair whose text was added is an answer
+-- what is known of a query is known of the same one
+decided_here : (s t : Site) (x y : Query) (status end : Status) → s ≡ t → x ≡ y → status ≡ end → IsDecided s x end → IsDecided t y status
+decided_here s t x y status end site query status_is decided =
+    subst (λ (e : Status). IsDecided t y e) (sym status_is) (subst (λ (q : Query). IsDecided t q end) query (subst (λ (u : Site). IsDecided u x end) site decided))
 
-never_write : (fault : Option ℕ) (words : List (List ℕ)) (told : List ℕ → Option (List ℕ)) (failed : List ℕ → Type 0) (text : List ℕ) → IsDueBy fault words told failed Write text → ⊥
-never_write None words told failed text due = due
-never_write (Some n) words told failed text due = due
+asked : (value : Data) (d : Description) (words : List (List ℕ)) (site : Site) (query : Query) (status : Status) (text : List ℕ)
+    → IsAsked value d words status text → form_of d value ≡ Some site → query_of site.hosts words ≡ Some query → IsDecided site query status
+asked value d words site query status text (asks.of_other_form none status_is text_is) form meant = let same : None ≡ Some site = sym none ∙ form in cc
+asked value d words site query status text (asks.refused s found none status_is text_is) form meant = absurd (no_query s site words query (same_site (form_of d value) s site found form) none meant)
+asked value d words site query status text (asks.through s x found read status_is answer) form meant =
+    let here = same_site (form_of d value) s site found form in
+    decided_here s site x query status ends.Yes here (same_query s site words x query here read meant) status_is (yes_decides s x text answer)
+asked value d words site query status text (asks.blocked s x found read status_is answer) form meant =
+    let here = same_site (form_of d value) s site found form in
+    decided_here s site x query status ends.No here (same_query s site words x query here read meant) status_is (no_decides s x text answer)
+asked value d words site query status text (asks.more s x found read status_is answer) form meant =
+    let here = same_site (form_of d value) s site found form in
+    decided_here s site x query status ends.More here (same_query s site words x query here read meant) status_is (more_decides s x text answer)
 
-pub answer_if_due : (words : List (List ℕ)) (told : List ℕ → Option (List ℕ)) (failed : List ℕ → Type 0) (old new : Option (List ℕ)) (unwritten : Type 0) (status : Status) (text : List ℕ)
-    → IsDue words told failed status text → new ≡ with_text old text → IsAnswer (IsDue words told failed) old new unwritten status
-answer_if_due words told failed old new unwritten Yes text due added = (text, due, added)
-answer_if_due words told failed old new unwritten No text due added = (text, due, added)
-answer_if_due words told failed old new unwritten Words text due added = (text, due, added)
-answer_if_due words told failed old new unwritten Refused text due added = (text, due, added)
-answer_if_due words told failed old new unwritten Query text due added = (text, due, added)
-answer_if_due words told failed old new unwritten More text due added = (text, due, added)
-answer_if_due words told failed old new unwritten Read text due added = (text, due, added)
-answer_if_due words told failed old new unwritten Write text due added = absurd (never_write (words_fault words) words told failed text due)
-answer_if_due words told failed old new unwritten Memory text due added = (text, due, added)
+-- ---- a pair that is due is complete
+
+or_known : {A B C : Type 0} → (B → C) → A ⊎ B → A ⊎ C
+or_known follows (inl a) = inl a
+or_known follows (inr b) = inr (follows b)
+
+pub complete_if_due : (words : List (List ℕ)) (told : List ℕ → Option (List ℕ)) (failed : List ℕ → Type 0) (status : Status) (text : List ℕ)
+    → IsDue words told failed status text → IsComplete words told status
+complete_if_due words told failed status text answer = record {
+  trace = λ bytes network e named at described packet.
+      or_known (λ known. traced network words e status text known packet) (fault_or_answer modes.Trace words told failed bytes network status text answer named at described);
+  ask = λ bytes network site query named at described form meant.
+      or_known (λ known. asked described.value network words site query status text known form meant) (fault_or_answer modes.Ask words told failed bytes network status text answer named at described);
+}
+
+-- ---- where reading failed
+
+-- a status that tells of a device
+abbrev IsOfDevice : Status → Type 0
+IsOfDevice status = (status ≡ ends.Read) ⊎ (status ≡ ends.Write)
+
+-- no status of another kind tells of one
+no_device : (status end : Status) → status ≡ end → (IsOfDevice end → ⊥) → IsOfDevice status → ⊥
+no_device status end is not h = not (subst IsOfDevice is h)
+
+words_are_none : IsOfDevice ends.Words → ⊥
+words_are_none (inl e) = cc
+words_are_none (inr e) = cc
+
+memory_is_none : IsOfDevice ends.Memory → ⊥
+memory_is_none (inl e) = cc
+memory_is_none (inr e) = cc
+
+description_is_none : IsOfDevice ends.Description → ⊥
+description_is_none (inl e) = cc
+description_is_none (inr e) = cc
+
+query_is_none : IsOfDevice ends.Query → ⊥
+query_is_none (inl e) = cc
+query_is_none (inr e) = cc
+
+yes_is_none : IsOfDevice ends.Yes → ⊥
+yes_is_none (inl e) = cc
+yes_is_none (inr e) = cc
+
+no_is_none : IsOfDevice ends.No → ⊥
+no_is_none (inl e) = cc
+no_is_none (inr e) = cc
+
+more_is_none : IsOfDevice ends.More → ⊥
+more_is_none (inl e) = cc
+more_is_none (inr e) = cc
+
+walk_is_none : (o : Outcome) → IsOfDevice (status_of o) → ⊥
+walk_is_none (outcome.Arrived end h) is = yes_is_none is
+walk_is_none (outcome.Stopped s) is = no_is_none is
+
+trace_is_none : (d : Description) (words : List (List ℕ)) (status : Status) (text : List ℕ) → IsTraced d words status text → IsOfDevice status → ⊥
+trace_is_none d words status text (traces.refused refusal is status_is text_is) h = no_device status ends.Query status_is query_is_none h
+trace_is_none d words status text (traces.walked e is status_is text_is) h =
+    no_device status (traced_status d e) status_is (walk_is_none (let walk = traces.walk_of_event d e in walk.outcome)) h
+
+ask_is_none : (value : Data) (d : Description) (words : List (List ℕ)) (status : Status) (text : List ℕ) → IsAsked value d words status text → IsOfDevice status → ⊥
+ask_is_none value d words status text (asks.of_other_form none status_is text_is) h = no_device status ends.Description status_is description_is_none h
+ask_is_none value d words status text (asks.refused s found none status_is text_is) h = no_device status ends.Query status_is query_is_none h
+ask_is_none value d words status text (asks.through s x found read status_is answer) h = no_device status ends.Yes status_is yes_is_none h
+ask_is_none value d words status text (asks.blocked s x found read status_is answer) h = no_device status ends.No status_is no_is_none h
+ask_is_none value d words status text (asks.more s x found read status_is answer) h = no_device status ends.More status_is more_is_none h
+
+answer_is_none : (command : Mode) (value : Data) (d : Description) (words : List (List ℕ)) (status : Status) (text : List ℕ) → IsAnswered command value d words status text → IsOfDevice status → ⊥
+answer_is_none modes.Trace value d words status text answer = trace_is_none d words status text answer
+answer_is_none modes.Ask value d words status text answer = ask_is_none value d words status text answer
+
+bytes_are_none : (command : Mode) (words : List (List ℕ)) (bytes : List ℕ) (status : Status) (text : List ℕ) → IsDueForBytes command words bytes status text → IsOfDevice status → ⊥
+bytes_are_none command words bytes status text (due.refused cause is status_is text_is) h = no_device status ends.Description status_is description_is_none h
+bytes_are_none command words bytes status text (due.answered d described answer) h = answer_is_none command described.value d words status text answer h
+
+-- a device is told of where reading failed, and of reading alone
+device_is_read : (words : List (List ℕ)) (told : List ℕ → Option (List ℕ)) (failed : List ℕ → Type 0) (status : Status) (text : List ℕ)
+    → IsDue words told failed status text → IsOfDevice status → (status ≡ ends.Read) × failed (file_name words)
+device_is_read words told failed status text (due.not_words refusal is status_is text_is) h = absurd (no_device status ends.Words status_is words_are_none h)
+device_is_read words told failed status text (due.no_memory status_is text_is) h = absurd (no_device status ends.Memory status_is memory_is_none h)
+device_is_read words told failed status text (due.not_read command is failure status_is text_is) h = (status_is, failure)
+device_is_read words told failed status text (due.too_big command bytes is same long status_is text_is) h = absurd (no_device status ends.Description status_is description_is_none h)
+device_is_read words told failed status text (due.of_bytes command bytes is same few answer) h = absurd (bytes_are_none command words bytes status text answer h)
+
+-- an answer that tells of a failed read is due where the read failed
+pub failed_if_read : (words : List (List ℕ)) (told : List ℕ → Option (List ℕ)) (failed : List ℕ → Type 0) (status : Status) (text : List ℕ)
+    → IsDue words told failed status text → status ≡ ends.Read → failed (file_name words)
+failed_if_read words told failed status text answer is = let read = device_is_read words told failed status text answer (inl is) in read.1
+
+-- none that is due tells of a failed write
+pub never_write : (words : List (List ℕ)) (told : List ℕ → Option (List ℕ)) (failed : List ℕ → Type 0) (status : Status) (text : List ℕ)
+    → IsDue words told failed status text → status ≡ ends.Write → ⊥
+never_write words told failed status text answer is =
+    let read = device_is_read words told failed status text answer (inr is) in
+    let same : ends.Read ≡ ends.Write = sym read.0 ∙ is in
+    cc

@@ -3,3 +3,4 @@ pub mod AnswerLemmas
 pub mod CompleteLemmas
 pub mod ReachableLemmas
 pub mod RuleNames
+pub mod TraceLemmas

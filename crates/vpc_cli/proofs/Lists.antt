@@ -1,12 +1,7 @@
 -- Mapped lists, and texts put one after the other.
-use Rattle.std.proofs.Common.{◌≡◌, ◌++◌, ℕ, Bool, Result, Ok, Err, OnOk, List, [], ◌∷◌, refl, map, not, position, append_assoc, append-nil, length, ◌<◌, slice_index_or, ap, sym, ◌∙◌}
+use Rattle.std.proofs.Common.{◌≡◌, ◌++◌, ℕ, Bool, List, [], ◌∷◌, refl, map, not, position, append_assoc, append-nil, length, ◌<◌, slice_index_or, ap, sym, ◌∙◌}
 use Rattle.std.specs.List.{prefix_len}
 use Rattle.std.proofs.lemmas.List.{length-map, get_or-map}
-use Rattle.header_boxes.specs.declared.rows.Row.{Row}
-use Rattle.one_subnet.specs.declared.site.Site.{Site}
-use Rattle.subnet_walk.specs.declared.barrier.Barrier.{Barrier}
-use Rattle.subnet_reach.specs.declared.query.Query.{Query}
-use Rattle.subnet_reach.specs.Query.{row_of, rows_of}
 
 pub prefix_len_map : {X Y : Type 0} (f : X → Y) (p : Y → Bool) (xs : List X) → prefix_len p (map f xs) ≡ prefix_len (λ x. p (f x)) xs
 prefix_len_map f p [] = refl
@@ -21,18 +16,5 @@ append_two old a b = rw (append-nil b, append_assoc old a b)
 pub append_three : (old a b c : List ℕ) → ((old ++ a) ++ b) ++ c ≡ old ++ (a ++ (b ++ (c ++ [])))
 append_three old a b c = rw (append-nil c, append_assoc (old ++ a) b c, append_assoc old a (b ++ c))
 
-pub append_parts : (old a b c : List ℕ) → ((old ++ a) ++ b) ++ c ≡ old ++ ((a ++ b) ++ c)
-append_parts old a b c = rw (append_assoc old a b, append_assoc old (a ++ b) c)
-
 pub slice_index_or_map : {X Y : Type 0} (f : X → Y) (xs : List X) (i : ℕ) (d : Y) (x : X) → i < length xs → x ≡ slice_index_or xs i x → slice_index_or (map f xs) i d ≡ f x
 slice_index_or_map f xs i d x within at = get_or-map f xs i x d within ∙ ap f (sym at)
-
--- a text that was added after two others
-pub after_two : {E : Type 0} (r : Result (Unit {0}) E) (old a b c first second third : List ℕ) → first ≡ old ++ a → second ≡ first ++ b → OnOk r (third ≡ second ++ c) → OnOk r (third ≡ old ++ ((a ++ b) ++ c))
-after_two (Ok u) old a b c first second third one two three =
-    three ∙ (ap (λ (t : List ℕ). t ++ c) (two ∙ ap (λ (t : List ℕ). t ++ b) one) ∙ append_parts old a b c)
-after_two (Err e) old a b c first second third one two three = tt
-
--- a report has as many rows as were kept
-pub length_rows_of : (s : Site) (query : Query) (rows : List (Row Barrier)) → length (rows_of s query rows) ≡ length rows
-length_rows_of s query rows = length-map rows (row_of s query)

@@ -10,8 +10,9 @@ use Rattle.vpc_model.specs.declared.outcomes.Verdict.TheVariants.{Through, Stopp
 use Rattle.vpc_model.specs.declared.rows.Description.{Description}
 use Rattle.vpc_model.specs.declared.outcomes.Verdict.{Verdict}
 use Rattle.vpc_model.specs.Report.{ending_of}
-use Rattle.vpc_model.specs.ReportText.{arrived_header, lines_of_walk, reachable_text, reply_lines}
-use Rattle.vpc_model.specs.Text.{header_text, line_end, walk_text, word}
+use Rattle.block_report.specs.Reports.{arrived_header, lines_of_walk, reachable_text, reply_lines}
+use Rattle.block_report.specs.Walks.{walk_text}
+use Rattle.block_report.specs.Words.{header_text, line_end, word}
 use Rattle.vpc_model.specs.Verdict.{request_walk, reply_walk, verdict_of}
 use Rattle.vpc_model.specs.Walk.{Walk}
 use Rattle.one_subnet.specs.Site.{description_of}

@@ -6,7 +6,7 @@ use Rattle.vpc_model.specs.declared.rows.Permission.{Permission}
 use Rattle.vpc_base.specs.declared.headers.Dir.TheVariants as dirs
 use Rattle.vpc_model.specs.Groups.{no_permission, permissions_of}
 use Rattle.vpc_model.specs.Lookup.{no_group}
-use Rattle.vpc_model.specs.Text.{rule_name}
+use Rattle.block_report.specs.Hops.{rule_name}
 use Rattle.one_subnet.specs.Site.{description_of, group_of, permission_of}
 use Rattle.one_subnet.specs.declared.site.Rule.{Rule}
 use Rattle.one_subnet.specs.declared.site.RuleSet.{RuleSet}

@@ -1,21 +1,28 @@
 -- What `ask` answers in a described network.
-use Rattle.std.specs.Prelude.{◌≡◌, ◌≤◌, List, None, Option, Some, codes, length, true, ℕ}
+use Rattle.std.specs.List.{list_any}
+use Rattle.std.specs.Prelude.{◌==◌, ◌&&◌, ◌||◌, ◌≡◌, ◌≤◌, if◌then◌else◌, Bool, List, None, Option, Some, codes, is_some, length, not, true, ℕ}
+use Rattle.serde_json.specs.Data.{Data}
 use Rattle.vpc_base.specs.declared.headers.Header.{Header}
 use Rattle.header_boxes.specs.declared.rows.Row.{Row}
+use Rattle.vpc_model.specs.declared.rows.Description.{Description}
+use Rattle.vpc_model.specs.declared.rows.Group.{Group}
 use Rattle.vpc_model.specs.declared.stop_texts.StopText.{StopText}
 use Rattle.vpc_model.specs.declared.outcomes.Verdict.TheVariants as verdicts
 use Rattle.header_boxes.specs.Boxes.{holds}
 use Rattle.header_boxes.specs.Rows.{IsFirstThrough, NoneThrough}
 use Rattle.vpc_model.specs.Report.{IsCellCount}
-use Rattle.vpc_model.specs.ReportText.{more_text, reachable_text, report_text}
+use Rattle.block_report.specs.Reports.{more_text, reachable_text, report_text}
 use Rattle.vpc_model.specs.Verdict.{verdict_of}
+use Rattle.one_subnet.specs.Form.{site_of}
 use Rattle.one_subnet.specs.declared.site.Site.{Site}
 use Rattle.one_subnet.specs.Site.{description_of}
 use Rattle.subnet_reach.specs.declared.query.Query.{Query}
 use Rattle.subnet_reach.specs.Query.{IsPartReportIn, IsReportIn, appliances_in, box_of, end_at, meaning_in}
 use Rattle.vpc_cli.specs.declared.status.Status.{Status}
-use Rattle.vpc_cli.specs.declared.status.Status.TheVariants.{Yes, No, Words, Description as Refused, Query as QueryRefused, More, Read, Write, Memory}
+use Rattle.vpc_cli.specs.declared.status.Status.TheVariants as ends
+use Rattle.vpc_cli.specs.Described.{refusal_line}
 use Rattle.vpc_cli.specs.Lines.{line}
+use Rattle.vpc_cli.specs.Query.{query_of}
 
 abbrev pub query_text : List ℕ
 query_text = line (codes "refused query NotYet")
@@ -41,22 +48,30 @@ pub record IsReportedInPart (site : Site) (query : Query) (text : List ℕ) : Ty
   pub report : IsPartReportIn site query rows next cells
   pub text_is : text ≡ more_text (description_of site) (end_at query.start) (end_at query.goal) (box_of site query) rows next cells
 
--- what is answered to a query
-abbrev pub IsQueryAnswer : Site → Query → Status → List ℕ → Type 0
-IsQueryAnswer site query Yes text = IsReachable site query text
-IsQueryAnswer site query No text = IsReported site query text
-IsQueryAnswer site query More text = IsReportedInPart site query text
-IsQueryAnswer site query Words text = ⊥
-IsQueryAnswer site query Refused text = ⊥
-IsQueryAnswer site query QueryRefused text = ⊥
-IsQueryAnswer site query Read text = ⊥
-IsQueryAnswer site query Write text = ⊥
-IsQueryAnswer site query Memory text = ⊥
+-- ---- the form that is followed so far
 
--- the words' refusal, or what is answered to their query
-abbrev pub IsAskAnswer : Site → Option Query → Status → List ℕ → Type 0
-IsAskAnswer site None status text = (status ≡ QueryRefused) × (text ≡ query_text)
-IsAskAnswer site (Some query) status text = IsQueryAnswer site query status text
+-- some rule was told apart from its group
+abbrev pub has_rule_rows : Group → Bool
+has_rule_rows g = list_any (λ p. is_some p.id) g.inward || list_any (λ p. is_some p.id) g.outward
+
+-- no rule was told apart from its group, and there are no appliances: the form doesn't look at these lists (profile)
+abbrev pub is_followed : Description → Bool
+is_followed d = not (list_any has_rule_rows d.groups) && (length d.appliances == 0)
+
+-- what an accepted bundle is in the form, where it is of the form
+abbrev pub form_of : Description → Data → Option Site
+form_of d value = if is_followed d then site_of value else None
+
+-- ---- answers
+
+-- what `ask` answers to its words, by the value of the bundle and the network that it describes: that the network is of another form, that the words ask
+-- nothing that is followed so far, the first header that gets through, a report, or rows that leave headers out
+pub data IsAsked (value : Data) (d : Description) (words : List (List ℕ)) (status : Status) (text : List ℕ) : Type 0 where
+  of_other_form : form_of d value ≡ None → status ≡ ends.Description → text ≡ refusal_line (codes "NotYet") → IsAsked value d words status text
+  refused : (site : Site) → form_of d value ≡ Some site → query_of site.hosts words ≡ None → status ≡ ends.Query → text ≡ query_text → IsAsked value d words status text
+  through : (site : Site) (query : Query) → form_of d value ≡ Some site → query_of site.hosts words ≡ Some query → status ≡ ends.Yes → IsReachable site query text → IsAsked value d words status text
+  blocked : (site : Site) (query : Query) → form_of d value ≡ Some site → query_of site.hosts words ≡ Some query → status ≡ ends.No → IsReported site query text → IsAsked value d words status text
+  more : (site : Site) (query : Query) → form_of d value ≡ Some site → query_of site.hosts words ≡ Some query → status ≡ ends.More → IsReportedInPart site query text → IsAsked value d words status text
 
 -- ---- completeness
 
@@ -75,5 +90,5 @@ pub record NoneInFewCells (site : Site) (query : Query) : Type 0 where
 
 -- yes where some header gets through, and no where none does and the cells are few
 pub record IsDecided (site : Site) (query : Query) (status : Status) : Type 0 where
-  pub yes : SomeThrough site query → status ≡ Yes
-  pub no : NoneInFewCells site query → status ≡ No
+  pub yes : SomeThrough site query → status ≡ ends.Yes
+  pub no : NoneInFewCells site query → status ≡ ends.No

@@ -1,6 +1,5 @@
 pub mod Status
 pub mod Words
-pub mod Packet
 pub mod Query
 pub mod Lines
 pub mod Reachable

@@ -1,11 +1,17 @@
 -- The words of a query.
-use Rattle.std.specs.Prelude.{ℕ, nat_le, Bool, true, false, List, [], ◌∷◌, Option, Some, None, bytes_eq, codes, drop, if◌then◌else◌}
+use Rattle.std.specs.Prelude.{ℕ, nat_le, Bool, true, false, List, [], ◌∷◌, Option, Some, None, bytes_eq, codes, drop, if◌then◌else◌, position}
 use Rattle.prefix_text.specs.Number.{number_of}
 use Rattle.prefix_text.specs.Range.{range_of}
 use Rattle.one_subnet.specs.declared.site.Host.{Host}
 use Rattle.one_subnet.specs.Form.{given, only_if}
 use Rattle.subnet_reach.specs.declared.query.Query.{Query}
-use Rattle.vpc_cli.specs.Packet.{host_word, word_at}
+use Rattle.query_words.specs.Words.{word_at}
+
+-- ---- ends
+
+-- the number of the host with the id; the word `internet` always means the internet
+abbrev pub host_word : List Host → List ℕ → Option ℕ
+host_word hosts word = if bytes_eq word (codes "internet") then None else position (λ h. bytes_eq h.id word) hosts
 
 -- ---- pairs of a name and a value
 
@@ -16,7 +22,7 @@ is_pair name _ = false
 
 -- the value of the first pair, where it has this name
 abbrev pub value_of : List ℕ → List (List ℕ) → Option (List ℕ)
-value_of name words = if is_pair name words then Some (word_at words 1) else None
+value_of name words = if is_pair name words then Some (word_at words 2) else None
 
 -- the words after that pair
 abbrev pub after_pair : List ℕ → List (List ℕ) → List (List ℕ)
@@ -66,4 +72,4 @@ query_from hosts from start to goal pairs =
 
 -- the query of the words `ask FILE from END to END` and pairs
 abbrev pub query_of : List Host → List (List ℕ) → Option Query
-query_of hosts words = query_from hosts (word_at words 2) (word_at words 3) (word_at words 4) (word_at words 5) (drop 6 words)
+query_of hosts words = query_from hosts (word_at words 3) (word_at words 4) (word_at words 5) (word_at words 6) (drop 6 words)

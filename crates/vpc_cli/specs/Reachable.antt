@@ -2,7 +2,8 @@
 use Rattle.std.specs.Prelude.{ℕ, ◌++◌, List, codes}
 use Rattle.vpc_base.specs.declared.headers.Header.{Header}
 use Rattle.vpc_model.specs.declared.outcomes.Outcome.TheVariants.{Arrived}
-use Rattle.vpc_model.specs.Text.{header_text, line_end, walk_text, word}
+use Rattle.block_report.specs.Walks.{walk_text}
+use Rattle.block_report.specs.Words.{header_text, line_end, word}
 use Rattle.one_subnet.specs.declared.site.Site.{Site}
 use Rattle.one_subnet.specs.Site.{description_of}
 use Rattle.subnet_reach.specs.Query.{end_at}

@@ -1,8 +1,13 @@
 -- The words of a command.
-use Rattle.std.specs.Prelude.{ℕ, ◌+◌, ◌%◌, ◌==◌, ◌≡◌, ◌≤◌, ◌||◌, not, nat_lt, Bool, true, false, List, [], ◌∷◌, Option, Some, None, bytes_eq, codes, if◌then◌else◌, length, option_map, position}
-use Rattle.vpc_model.specs.Choice.{or_else}
+use Rattle.std.specs.Prelude.{ℕ, ◌+◌, ◌%◌, ◌==◌, ◌≡◌, ◌≤◌, ◌||◌, not, nat_lt, Bool, true, false, List, [], ◌∷◌, Option, Some, None, Result, Err, Ok, bytes_eq, codes, if◌then◌else◌, length, option_map, position}
+use Rattle.query_words.specs.Words.{word_at}
+use Rattle.vpc_cli.specs.declared.words.Mode.{Mode}
+use Rattle.vpc_cli.specs.declared.words.Mode.TheVariants as modes
+use Rattle.vpc_cli.specs.declared.words.WordsRefusal.{WordsRefusal}
 
--- no word is empty or begins with a dash
+-- ---- words that no command has
+
+-- a word that is empty or begins with a dash
 abbrev pub is_bad_word : List ℕ → Bool
 is_bad_word [] = true
 is_bad_word (c ∷ cs) = c == 45
@@ -11,13 +16,22 @@ is_bad_word (c ∷ cs) = c == 45
 abbrev pub bad_word : List (List ℕ) → Option ℕ
 bad_word words = option_map (λ k. k + 1) (position is_bad_word words)
 
+-- ---- commands
+
+-- the command with this name
+abbrev pub mode_named : List ℕ → Option Mode
+mode_named name = if bytes_eq name (codes "trace") then Some modes.Trace else (if bytes_eq name (codes "ask") then Some modes.Ask else None)
+
+-- the command that the first word names
+abbrev pub mode_of : List (List ℕ) → Option Mode
+mode_of [] = None
+mode_of (w ∷ words) = mode_named w
+
+-- ---- how many words a command has
+
 -- how many words `trace` has
 abbrev pub trace_count : ℕ
 trace_count = 10
-
--- where words are missing the number after the last, and where there are too many the first too many
-abbrev pub count_fault : ℕ → ℕ → Option ℕ
-count_fault most count = if nat_lt count most then Some (count + 1) else (if nat_lt most count then Some (most + 1) else None)
 
 -- how many words `ask` has at least, and at most
 abbrev pub ask_least : ℕ
@@ -26,36 +40,49 @@ ask_least = 6
 abbrev pub ask_most : ℕ
 ask_most = 18
 
+-- where words are missing the number after the last, and where there are too many the first too many
+abbrev pub exact_count_fault : ℕ → ℕ → Option ℕ
+exact_count_fault most count = if nat_lt count most then Some (count + 1) else (if nat_lt most count then Some (most + 1) else None)
+
 -- `ask` has an even number of words: where one is missing the number after the last, and where there are too many the first too many
 abbrev pub ask_count_fault : ℕ → Option ℕ
 ask_count_fault count =
     if nat_lt ask_most count then Some (ask_most + 1)
     else (if nat_lt count ask_least || not (count % 2 == 0) then Some (count + 1) else None)
 
--- the words are those of `ask`
-abbrev pub is_ask : List (List ℕ) → Bool
-is_ask [] = false
-is_ask (w ∷ words) = bytes_eq w (codes "ask")
+abbrev pub count_fault : Mode → ℕ → Option ℕ
+count_fault modes.Trace count = exact_count_fault trace_count count
+count_fault modes.Ask count = ask_count_fault count
 
--- the words are those of `trace`
-abbrev pub is_trace : List (List ℕ) → Bool
-is_trace [] = false
-is_trace (w ∷ words) = bytes_eq w (codes "trace")
+-- a command has so many words
+abbrev pub HasCount : Mode → ℕ → Type 0
+HasCount modes.Trace count = count ≡ trace_count
+HasCount modes.Ask count = ask_least ≤ count
 
--- the first word names a command, which may have so many words
-abbrev pub command_fault : List (List ℕ) → Option ℕ
-command_fault words =
-    if is_ask words then ask_count_fault (length words)
-    else (if is_trace words then count_fault trace_count (length words) else Some 1)
+-- ---- the command of some words
 
--- a command has so many words: `ask` (true) at least six, and `trace` ten
-abbrev pub IsCountBy : Bool → ℕ → Type 0
-IsCountBy true count = ask_least ≤ count
-IsCountBy false count = count ≡ trace_count
+abbrev pub refused_at : ℕ → Result Mode WordsRefusal
+refused_at n = Err (record { word = n })
 
-abbrev pub HasCount : List (List ℕ) → Type 0
-HasCount words = IsCountBy (is_ask words) (length words)
+-- the command, unless a word is missing or too many
+abbrev pub counted : Mode → Option ℕ → Result Mode WordsRefusal
+counted mode None = Ok mode
+counted mode (Some n) = refused_at n
 
--- the number of the word at which the words are no command, or none where they are one
-abbrev pub words_fault : List (List ℕ) → Option ℕ
-words_fault words = or_else (bad_word words) (command_fault words)
+-- the named command, if there is one
+abbrev pub named : Option Mode → ℕ → Result Mode WordsRefusal
+named None count = refused_at 1
+named (Some mode) count = counted mode (count_fault mode count)
+
+-- the command, unless a word is bad
+abbrev pub unless_bad : Option ℕ → List (List ℕ) → Result Mode WordsRefusal
+unless_bad (Some n) words = refused_at n
+unless_bad None words = named (mode_of words) (length words)
+
+-- the command that the words give, or the number, from 1, of the first word that is wrong
+abbrev pub command_of : List (List ℕ) → Result Mode WordsRefusal
+command_of words = unless_bad (bad_word words) words
+
+-- the name of the file
+abbrev pub file_name : List (List ℕ) → List ℕ
+file_name words = word_at words 2

@@ -2,15 +2,17 @@
 #![tactic(auto)]
 
 mod answers;
+mod asks;
 mod commands;
-mod packets;
 mod printing;
 mod queries;
 mod reachable;
+mod refusals;
 mod reports;
 mod status;
 #[cfg(test)]
 mod tests;
+mod traces;
 mod words;
 
 use commands::run;

@@ -1,18 +1,22 @@
 // Prints walks.
-ghost use Rattle.std.specs.Prelude.{◌≡◌, ◌<◌, ◌++◌, ◌∷◌, [], OnOk, length};
-ghost use Rattle.vpc_model.specs.Text.{word, line_end, by_text, dir_text, hop_line, hop_lines, outcome_line, rule_name, walk_text};
+ghost use Rattle.std.specs.Prelude.{◌≡◌, ◌<◌, ◌++◌, ◌∷◌, [], OnOk, codes, length};
+ghost use Rattle.block_report.specs.Hops.{by_text, hop_line, hop_lines, place_line, rule_name};
+ghost use Rattle.block_report.specs.Walks.{arrived_line, name_text, outcome_line, stopped_line, walk_text};
+ghost use Rattle.block_report.specs.Words.{line_end, word};
 ghost use Rattle.std.specs.Option.{ForSome};
 ghost use Rattle.vpc_base.specs.declared.headers.Dir.TheVariants.{Inward, Outward};
 ghost use Rattle.subnet_walk.specs.Trace.{by_of, by_if, out_hop, router_hop, in_hop, hops_of, outcome_of};
 ghost use Rattle.subnet_walk.specs.Known.{IsGroupOf, IsKnown};
-ghost use Rattle.vpc_cli.specs.Lines.{arrived_line, place_line, stopped_line};
 ghost use Rattle.one_subnet.specs.Site.{description_of};
 ghost use Rattle.vpc_model.specs.Lookup.{group_at, interface_at};
 
-use block_report::{put, put_end, put_header_word, put_number_word, put_word};
+use block_report::{
+    put, put_arrived, put_by_group, put_end, put_number_word, put_place, put_stopped,
+};
 use one_subnet::Site;
 use subnet_walk::{PassedBy, Trace};
 use vpc_base::{Dir, Header, NoMemory};
+use vpc_model::StopName;
 
 /// A numbered place of a walk, as it is printed.
 #[derive(Clone, Copy)]
@@ -20,23 +24,6 @@ pub struct Place<'a> {
     pub number: u128,
     pub kind: &'a [u8],
     pub id: &'a [u8],
-}
-
-/// Appends what each hop's line has before what the packet passed.
-pub fn put_place(
-    out: &mut Vec<u8>,
-    number: u128,
-    kind: &[u8],
-    id: &[u8],
-    h: &Header,
-) -> Result<(), NoMemory>
-    ensures { OnOk result (out.new.items ≡ out.old.items ++ place_line number kind.now id.now h.now) }
-{
-    put(out, b"hop")?;
-    put_number_word(out, number)?;
-    put_word(out, kind)?;
-    put_word(out, id)?;
-    put_header_word(out, h)
 }
 
 /// The id of a host.
@@ -52,15 +39,6 @@ fn group_id(site: &Site, group: usize) -> &[u8]
     ensures { let g = group_at (description_of site.now) (record { 0 = group }) in result.now ≡ g.id }
 {
     site.groups.as_slice()[group].id.bytes()
-}
-
-fn dir_text(dir: Dir) -> &'static [u8]
-    ensures { result.now ≡ dir_text dir }
-{
-    match dir {
-        Dir::Inward => b"in",
-        Dir::Outward => b"out",
-    }
 }
 
 // The number of a rule, which has no id of its own.
@@ -83,9 +61,7 @@ fn put_by(out: &mut Vec<u8>, site: &Site, dir: Dir, by: PassedBy) -> Result<(), 
     match by {
         PassedBy::NoGroups => put(out, b" by none"),
         PassedBy::Rule(group, number) => {
-            put(out, b" by")?;
-            put_word(out, group_id(site, group))?;
-            put_word(out, dir_text(dir))?;
+            put_by_group(out, group_id(site, group), dir)?;
             put_rule_word(out, site, dir, group, number)
         }
     }
@@ -172,25 +148,6 @@ fn put_in_hop(
     put_hop(out, site, &place, h, Dir::Inward, by)
 }
 
-fn put_arrived(out: &mut Vec<u8>, id: &[u8]) -> Result<(), NoMemory>
-    ensures { OnOk result (out.new.items ≡ out.old.items ++ arrived_line id.now) }
-{
-    put(out, b"arrived")?;
-    put_word(out, id)?;
-    put_end(out)
-}
-
-// A stop that no rule explains.
-fn put_stopped(out: &mut Vec<u8>, name: &[u8], id: &[u8]) -> Result<(), NoMemory>
-    ensures { OnOk result (out.new.items ≡ out.old.items ++ stopped_line name.now id.now) }
-{
-    put(out, b"stopped")?;
-    put_word(out, name)?;
-    put_word(out, id)?;
-    put_word(out, b"-")?;
-    put_end(out)
-}
-
 #[tactic(auto, using(crate::proofs::Lists::append_two, crate::proofs::Lists::append_three))]
 fn put_hops(
     out: &mut Vec<u8>,
@@ -222,12 +179,24 @@ fn put_hops(
     }
 }
 
-// A stop at a host that no rule explains.
-fn put_stopped_at(out: &mut Vec<u8>, name: &[u8], site: &Site, host: usize) -> Result<(), NoMemory>
-    requires { host < length site.now.hosts }
-    ensures { let e = interface_at (description_of site.now) (record { 0 = host }) in OnOk result (out.new.items ≡ out.old.items ++ stopped_line name.now e.id) }
+// A stop that no rule explains.
+fn put_stopped_by(out: &mut Vec<u8>, name: StopName, id: &[u8]) -> Result<(), NoMemory>
+    ensures { OnOk result (out.new.items ≡ out.old.items ++ stopped_line (name_text name) id.now (codes "-")) }
 {
-    put_stopped(out, name, host_id(site, host))
+    put_stopped(out, name, id, b"-")
+}
+
+// A stop at a host that no rule explains.
+fn put_stopped_at(
+    out: &mut Vec<u8>,
+    name: StopName,
+    site: &Site,
+    host: usize,
+) -> Result<(), NoMemory>
+    requires { host < length site.now.hosts }
+    ensures { let e = interface_at (description_of site.now) (record { 0 = host }) in OnOk result (out.new.items ≡ out.old.items ++ stopped_line (name_text name) e.id (codes "-")) }
+{
+    put_stopped_by(out, name, host_id(site, host))
 }
 
 /// Appends the last line of a walk that arrives at a host.
@@ -250,11 +219,16 @@ fn put_outcome(
     ensures { OnOk result (out.new.items ≡ out.old.items ++ outcome_line (description_of site.now) (outcome_of start h.now trace.now)) }
 {
     match trace {
-        Trace::WrongSource => put_stopped_at(out, b"SourceCheck", site, start),
-        Trace::GroupsRefuseOut => put_stopped_at(out, b"GroupsOut", site, start),
-        Trace::OffRoute(_) => put_stopped(out, b"NoRoute", site.table.bytes()),
-        Trace::HostMissing(_) => put_stopped(out, b"NoHost", site.vpc.bytes()),
-        Trace::GroupsRefuseIn(_, receiver) => put_stopped_at(out, b"GroupsIn", site, *receiver),
+        Trace::WrongSource => put_stopped_at(out, StopName::SourceCheck, site, start),
+        Trace::GroupsRefuseOut => put_stopped_at(out, StopName::GroupsOut, site, start),
+        Trace::OffRoute(_) => put_stopped_by(out, StopName::NoRoute, site.table.bytes()),
+        Trace::HostMissing(_) => put_stopped_by(out, StopName::NoHost, site.vpc.bytes()),
+        Trace::GroupsRefuseIn(_, receiver) => put_stopped_at(
+            out,
+            StopName::GroupsIn,
+            site,
+            *receiver,
+        ),
         Trace::Delivered(_, receiver, _) => put_arrived_at(out, site, *receiver),
     }
 }

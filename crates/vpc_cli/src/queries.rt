@@ -2,14 +2,26 @@
 ghost use Rattle.std.specs.Prelude.{◌≡◌, ◌≤◌, ◌<◌, IfSome, codes, length, map, nat_le, string_bytes, true};
 ghost use Rattle.one_subnet.specs.Form.{only_if};
 ghost use Rattle.subnet_reach.specs.Query.{IsQueryIn};
-ghost use Rattle.vpc_cli.specs.Query.{after_pair, is_end, is_pair, max_of_word, ports_of_word, query_by, query_of, value_of};
+ghost use Rattle.vpc_cli.specs.Query.{after_pair, host_word, is_end, is_pair, max_of_word, ports_of_word, query_by, query_of, value_of};
 
-use crate::packets::{host, word};
-use one_subnet::Site;
+use one_subnet::{Hosts, Site};
 use prefix_text::{read_number, read_range};
+use query_words::word;
 use subnet_reach::Query;
 
 const MOST_ROWS: u64 = 20_000;
+
+// The number of the host that the word names.
+fn host(hosts: &Hosts, word: &str) -> Option<usize>
+    ensures value { result ≡ host_word hosts.now word.now }
+    ensures within { IfSome result (λ k. k < length hosts.now) }
+{
+    if word == "internet" {
+        None
+    } else {
+        hosts.place_of_id(word.as_bytes())
+    }
+}
 
 fn is_pair(words: &[String], name: &str) -> bool
     ensures pair { result ≡ is_pair name.now (map string_bytes words.now) }
@@ -103,13 +115,13 @@ pub fn read_query(site: &Site, words: &[String]) -> Option<Query>
 {
     // That the hosts' addresses differ is a clause of this call.
     let _ = site.hosts.as_slice();
-    if word(words, 2) != "from" {
+    if word(words, 3) != "from" {
         return None;
     }
-    let start = host(&site.hosts, word(words, 3))?;
-    if word(words, 4) != "to" {
+    let start = host(&site.hosts, word(words, 4))?;
+    if word(words, 5) != "to" {
         return None;
     }
-    let goal = host(&site.hosts, word(words, 5))?;
+    let goal = host(&site.hosts, word(words, 6))?;
     query(start, goal, &words[6..])
 }

@@ -1,19 +1,18 @@
 // Prints a request that gets through, with its reply.
 ghost use Rattle.std.specs.Prelude.{◌≡◌, ◌<◌, ◌++◌, OnOk, None, Some, codes, length};
 ghost use Rattle.vpc_base.specs.Header.{reply_of};
-ghost use Rattle.vpc_model.specs.ReportText.{reachable_text};
-ghost use Rattle.vpc_model.specs.Text.{by_text, hop_line, hop_lines, line_end};
+ghost use Rattle.block_report.specs.Reports.{reachable_text};
+ghost use Rattle.block_report.specs.Hops.{by_text, hop_line, hop_lines, place_line};
+ghost use Rattle.block_report.specs.Words.{line_end};
 ghost use Rattle.one_subnet.specs.Site.{description_of};
 ghost use Rattle.subnet_reach.specs.Query.{IsQueryIn, appliances_in, end_at, meaning_in};
 ghost use Rattle.subnet_walk.specs.Known.{IsKnown};
 ghost use Rattle.subnet_walk.specs.Reach.{answered_at, return_hops};
 ghost use Rattle.subnet_walk.specs.Trace.{in_hop, out_hop, trace_of};
-ghost use Rattle.vpc_cli.specs.Lines.{place_line};
 ghost use Rattle.vpc_cli.specs.Reachable.{packet_line, packet_text, reply_text, request_text, return_text, through_text};
 
-use crate::printing::{Place, host_id, put_arrived_at, put_place, put_router_hop, put_walk};
-use crate::reports::{put_header_line, put_line};
-use block_report::{put, put_end};
+use crate::printing::{Place, host_id, put_arrived_at, put_router_hop, put_walk};
+use block_report::{put, put_end, put_header_line, put_line, put_place};
 use one_subnet::Site;
 use subnet_reach::Query;
 use subnet_walk::{Trace, walk_from};

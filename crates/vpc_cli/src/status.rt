@@ -1,4 +1,4 @@
-// How a command ends.
+// How a command ends, and what it answers.
 ghost use Rattle.std.specs.Prelude.{◌≡◌};
 
 /// How a command ends. The program's exit code is the variant's number.
@@ -43,4 +43,11 @@ impl Status {
             Status::Memory => 8,
         }
     }
+}
+
+/// A status with its text.
+#[derive(Debug, Drop)]
+pub struct Answer {
+    pub status: Status,
+    pub text: Vec<u8>,
 }

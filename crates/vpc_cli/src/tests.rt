@@ -1,6 +1,7 @@
 // Worked commands, on a network of two hosts in one subnet.
 mod asks;
 mod bundles;
+mod walks;
 
 ghost use Rattle.std.specs.Prelude.{◌<◌, ◌≢◌};
 
@@ -76,7 +77,7 @@ fn check(rt: &impl Abort, alloc: Global, case: &Case) -> Result<(), Fail> {
     Ok(())
 }
 
-const TRACED: [Case; 6] = [
+const TRACED: [Case; 7] = [
     Case {
         words: "trace o.json open from eni-a tcp 10.0.1.10 10.0.1.20 5000 443",
         file: ONE_SUBNET,
@@ -125,6 +126,13 @@ stopped SourceCheck eni-a -\n",
         text: "hop 1 out eni-b tcp 10.0.1.20 10.0.1.10 443 5000\n\
 stopped GroupsOut eni-b -\n",
     },
+    Case {
+        words: "trace o.json open from internet tcp 10.0.1.10 10.0.1.20 5000 443",
+        file: ONE_SUBNET,
+        code: 1,
+        text: "hop 1 internet internet tcp 10.0.1.10 10.0.1.20 5000 443\n\
+stopped PrivateAddress internet -\n",
+    },
 ];
 
 #[test]
@@ -170,11 +178,8 @@ fn refuses_descriptions(rt: HostRuntime) -> Result<(), Fail> {
     let words = "trace o.json open from eni-a tcp 10.0.1.10 10.0.1.20 5000 443";
     let cases = [
         ("", "NotJson"),
-        ("{\"Vpcs\":[{\"VpcId\":\"vp", "NotJson"),
+        (r#"{"Vpcs":[{"VpcId":"vp"#, "NotJson"),
         ("[1]", "WrongShape $"),
-        ("[]", "NotYet"),
-        ("{}", "NotYet"),
-        ("{\"Vpcs\":null}", "NotYet"),
     ];
     for (file, cause) in cases {
         refuses_description(&rt, rt.alloc(), words, file, cause)?;
@@ -201,34 +206,64 @@ fn refuses_description(
 
 #[test]
 fn refuses_packets(rt: HostRuntime) -> Result<(), Fail> {
-    let packets = [
-        "opening from eni-a tcp 10.0.1.10 10.0.1.20 5000 443",
-        "open to eni-a tcp 10.0.1.10 10.0.1.20 5000 443",
-        "open from eni-x tcp 10.0.1.10 10.0.1.20 5000 443",
-        "open from internet tcp 10.0.1.10 10.0.1.20 5000 443",
-        "open from eni-a TCP 10.0.1.10 10.0.1.20 5000 443",
-        "open from eni-a 256 10.0.1.10 10.0.1.20 0 0",
-        "open from eni-a tcp 10.0.1.010 10.0.1.20 5000 443",
-        "open from eni-a tcp 10.0.1.10 10.0.1.20 65536 443",
-        "open from eni-a 50 10.0.1.10 10.0.1.20 0 443",
+    let cases = [
+        (
+            "opening from eni-a tcp 10.0.1.10 10.0.1.20 5000 443",
+            "BadWord 3",
+        ),
+        (
+            "open to eni-a tcp 10.0.1.10 10.0.1.20 5000 443",
+            "BadWord 4",
+        ),
+        (
+            "open from eni-x tcp 10.0.1.10 10.0.1.20 5000 443",
+            "UnknownId 5",
+        ),
+        (
+            "open from eni-a TCP 10.0.1.10 10.0.1.20 5000 443",
+            "BadWord 6",
+        ),
+        ("open from eni-a 256 10.0.1.10 10.0.1.20 0 0", "BadWord 6"),
+        (
+            "open from eni-a tcp 10.0.1.010 10.0.1.20 5000 443",
+            "BadWord 7",
+        ),
+        (
+            "open from eni-a tcp 10.0.1.10 10.0.1.20 65536 443",
+            "BadWord 9",
+        ),
+        ("open from eni-a 50 10.0.1.10 10.0.1.20 0 443", "BadWord 10"),
     ];
-    for packet in packets {
-        let words = format!(in rt.alloc(); "trace o.json {packet}")?;
-        refuses_packet(&rt, rt.alloc(), words.as_str())?;
+    for (packet, cause) in cases {
+        refuses_packet(&rt, rt.alloc(), ONE_SUBNET, packet, cause)?;
     }
     Ok(())
 }
 
-fn refuses_packet(rt: &impl Abort, alloc: Global, line: &str) -> Result<(), Fail> {
-    let words = words_of(alloc, line)?;
-    let mut shelf = shelf_of(alloc, ONE_SUBNET, 0)?;
+// Networks without a row are accepted, and no packet starts at an interface there.
+#[test]
+fn knows_no_ends_of_empty_networks(rt: HostRuntime) -> Result<(), Fail> {
+    let packet = "open from eni-a tcp 10.0.1.10 10.0.1.20 5000 443";
+    for file in ["[]", "{}", r#"{"Vpcs":null}"#] {
+        refuses_packet(&rt, rt.alloc(), file, packet, "UnknownId 5")?;
+    }
+    Ok(())
+}
+
+fn refuses_packet(
+    rt: &impl Abort,
+    alloc: Global,
+    file: &str,
+    packet: &str,
+    cause: &str,
+) -> Result<(), Fail> {
+    let line = format!(in alloc; "trace o.json {packet}")?;
+    let words = words_of(alloc, line.as_str())?;
+    let mut shelf = shelf_of(alloc, file, 0)?;
     let mut out = sink_of(alloc, 0, 4096)?;
     let status = run(alloc, words.as_slice(), &mut shelf, &mut out);
-    assert_eq!(rt;
-        out.bytes(),
-        b"refused packet NotYet\n".as_slice(),
-        "{line}"
-    );
+    let text = format!(in alloc; "refused packet {cause}\n")?;
+    assert_eq!(rt; out.bytes(), text.as_bytes(), "{packet}");
     assert_eq!(rt; status, Status::Query);
     Ok(())
 }

@@ -1,6 +1,7 @@
 // The words of a command.
-ghost use Rattle.std.specs.Prelude.{◌≡◌, ◌≤◌, ◌<◌, IfNone, IfSome, length, map, string_bytes, position};
-ghost use Rattle.vpc_cli.specs.Words.{HasCount, ask_count_fault, bad_word, command_fault, count_fault, is_ask, is_bad_word, is_trace, words_fault};
+ghost use Rattle.std.specs.Prelude.{◌≡◌, ◌<◌, IfNone, IfOk, IfSome, length, map, position, string_bytes};
+ghost use Rattle.vpc_cli.specs.Words.{HasCount, ask_count_fault, bad_word, command_of, count_fault, counted};
+ghost use Rattle.vpc_cli.specs.Words.{exact_count_fault, is_bad_word, mode_named, mode_of, named};
 
 const TRACE_COUNT: usize = 10;
 
@@ -8,14 +9,29 @@ const ASK_LEAST: usize = 6;
 
 const ASK_MOST: usize = 18;
 
+/// What a command does, by its first word.
+#[derive(Clone, Copy, Debug, PartialEq, Eq)]
+pub enum Mode {
+    /// `trace`: the walk of one packet.
+    Trace,
+    /// `ask`: what is known of all requests of a query.
+    Ask,
+}
+
+/// The number, from 1, of the first word that is wrong.
+#[derive(Clone, Copy, Debug, PartialEq, Eq)]
+pub struct WordsRefusal {
+    pub word: u64,
+}
+
 fn is_bad_word(word: &str) -> bool
     ensures { result ≡ is_bad_word word.now }
 {
     word.is_empty() || word.as_bytes()[0] == b'-'
 }
 
-fn bad_place(words: &[String]) -> Option<usize>
-    ensures place { result ≡ position (λ w. is_bad_word (string_bytes w)) words.now }
+fn bad_number(words: &[String]) -> Option<usize>
+    ensures number { result ≡ position (λ w. is_bad_word (string_bytes w)) words.now }
     ensures within { IfSome result (λ k. k < length words.now) }
 {
     words.iter().position(|w| is_bad_word(w.as_str()))
@@ -26,14 +42,36 @@ fn bad_place(words: &[String]) -> Option<usize>
 fn bad_word(words: &[String]) -> Option<usize>
     ensures { result ≡ bad_word (map string_bytes words.now) }
 {
-    match bad_place(words) {
-        Some(place) => Some(place + 1),
+    match bad_number(words) {
+        Some(k) => Some(k + 1),
         None => None,
     }
 }
 
-fn count_fault(most: usize, count: usize) -> Option<usize>
-    ensures fault { result ≡ count_fault most count }
+fn mode_named(name: &str) -> Option<Mode>
+    ensures { result ≡ mode_named name.now }
+{
+    if name == "trace" {
+        Some(Mode::Trace)
+    } else if name == "ask" {
+        Some(Mode::Ask)
+    } else {
+        None
+    }
+}
+
+// The command that the first word names.
+fn mode_of(words: &[String]) -> Option<Mode>
+    ensures { result ≡ mode_of (map string_bytes words.now) }
+{
+    match words.first() {
+        Some(w) => mode_named(w.as_str()),
+        None => None,
+    }
+}
+
+fn exact_count_fault(most: usize, count: usize) -> Option<usize>
+    ensures fault { result ≡ exact_count_fault most count }
     ensures count { IfNone result (count ≡ most) }
 {
     if count < most {
@@ -48,7 +86,7 @@ fn count_fault(most: usize, count: usize) -> Option<usize>
 // `ask` has an even number of words.
 fn ask_count_fault(count: usize) -> Option<usize>
     ensures fault { result ≡ ask_count_fault count }
-    ensures count { IfNone result (ASK_LEAST ≤ count) }
+    ensures count { IfNone result (HasCount Mode.Ask count) }
 {
     if count > ASK_MOST {
         Some(ASK_MOST + 1)
@@ -59,45 +97,53 @@ fn ask_count_fault(count: usize) -> Option<usize>
     }
 }
 
-/// Whether the words are those of `ask`.
-pub fn is_ask(words: &[String]) -> bool
-    ensures { result ≡ is_ask (map string_bytes words.now) }
+fn count_fault(mode: Mode, count: usize) -> Option<usize>
+    ensures fault { result ≡ count_fault mode count }
+    ensures count { IfNone result (HasCount mode count) }
 {
-    match words.first() {
-        Some(w) => w.as_str() == "ask",
-        None => false,
+    match mode {
+        Mode::Trace => exact_count_fault(TRACE_COUNT, count),
+        Mode::Ask => ask_count_fault(count),
     }
 }
 
-fn is_trace(words: &[String]) -> bool
-    ensures { result ≡ is_trace (map string_bytes words.now) }
+fn refused_at(number: usize) -> WordsRefusal
+    ensures { result ≡ record { word = number } }
 {
-    match words.first() {
-        Some(w) => w.as_str() == "trace",
-        None => false,
+    WordsRefusal {
+        word: number as u64,
     }
 }
 
-fn command_fault(words: &[String]) -> Option<usize>
-    ensures fault { result ≡ command_fault (map string_bytes words.now) }
-    ensures count { IfNone result (HasCount (map string_bytes words.now)) }
+// The command, where it may have so many words.
+fn counted(mode: Mode, count: usize) -> Result<Mode, WordsRefusal>
+    ensures command { result ≡ counted mode (count_fault mode count) }
+    ensures count { IfOk result (λ mode. HasCount mode count) }
 {
-    if is_ask(words) {
-        ask_count_fault(words.len())
-    } else if is_trace(words) {
-        count_fault(TRACE_COUNT, words.len())
-    } else {
-        Some(1)
+    match count_fault(mode, count) {
+        Some(number) => Err(refused_at(number)),
+        None => Ok(mode),
     }
 }
 
-/// The number of the word, from 1, at which the words are no command; none where they are one.
-pub fn words_fault(words: &[String]) -> Option<usize>
-    ensures fault { result ≡ words_fault (map string_bytes words.now) }
-    ensures count { IfNone result (HasCount (map string_bytes words.now)) }
+// The command that the first word names, where it may have so many words.
+fn read_mode(words: &[String]) -> Result<Mode, WordsRefusal>
+    ensures command { result ≡ named (mode_of (map string_bytes words.now)) (length words.now) }
+    ensures count { IfOk result (λ mode. HasCount mode (length words.now)) }
+{
+    match mode_of(words) {
+        Some(mode) => counted(mode, words.len()),
+        None => Err(refused_at(1)),
+    }
+}
+
+/// The command that the words give, which are those after the program's name.
+pub fn read_words(words: &[String]) -> Result<Mode, WordsRefusal>
+    ensures command { result ≡ command_of (map string_bytes words.now) }
+    ensures count { IfOk result (λ mode. HasCount mode (length words.now)) }
 {
     match bad_word(words) {
-        Some(number) => Some(number),
-        None => command_fault(words),
+        Some(number) => Err(refused_at(number)),
+        None => read_mode(words),
     }
 }

@@ -1,21 +1,28 @@
-use Rattle.std.proofs.Common.{◌≡◌, codes, map, string_bytes}
-use Rattle.vpc_cli.specs.Described.{refusal_line}
-use Rattle.vpc_cli.specs.Due.{IsDueForBytes, IsDueForFile}
-use Rattle.vpc_cli.specs.declared.status.Status.TheVariants.{Description as Refused}
-use Rattle.vpc_cli.proofs.AnswerLemmas.{due_if_told, if_ok, too_big_is_due}
+use Rattle.std.proofs.Common.{length, map, refl, string_bytes}
+use Rattle.vpc_cli.specs.Due as due
+use Rattle.vpc_cli.proofs.AnswerLemmas.{bytes_are_due, if_ok, names_a_file, too_big_is_due}
 use Rattle.vpc_cli.proofs.answers.answer_file.Goals as goal
+
+pub word-requires-clause-last : goal.word-requires-clause-last
+word-requires-clause-last g c = names_a_file c.args.mode (length c.args.words.now) c.requires.count
 
 pub returns-in-Ok : goal.returns-in-Ok
 returns-in-Ok g c =
     let words = map string_bytes c.args.words.now in
-    if_ok (λ a. IsDueForBytes words c.in-Ok.bytes.items a.status a.text.items) _ c.described.result
-    (λ a. due_if_told words (g.S.Shelf.told c.args.shelf.now c.args.name.now) _ c.in-Ok.bytes.items a.status a.text.items c.in-Ok.ensures.whole)
-    (rw c.as_slice.ensures.value at c.described.ensures)
+    let taken = rw c.word.ensures at c.in-Ok.ensures.whole in
+    if_ok _ _ c.answer_bytes.result
+    (λ a. bytes_are_due c.args.mode words (g.S.Shelf.told c.args.shelf.now) _ c.in-Ok.bytes.items a.status a.text.items c.requires.command taken c.in-Ok.ensures.within)
+    (rw c.as_slice.ensures.value at c.answer_bytes.ensures)
+
+pub returns-in-Err-Failed : goal.returns-in-Err-Failed
+returns-in-Err-Failed g c =
+    let failure = rw c.word.ensures at c.take.ensures.failed_only_where_faults_rose (rw c.in-Err-Failed.field-0-is at c.in-Err-Failed.is) in
+    if_ok _ _ c.answer_line.result (λ a h. due.not_read c.args.mode c.requires.command failure h.0 h.1) c.answer_line.ensures
 
 pub returns-in-Err-TooLong : goal.returns-in-Err-TooLong
 returns-in-Err-TooLong g c =
     let words = map string_bytes c.args.words.now in
-    let long = c.take.ensures.too_long (rw c.in-Err-TooLong.field-0-is at c.in-Err-TooLong.is) in
-    if_ok (λ a. (a.status ≡ Refused) × (a.text.items ≡ refusal_line (codes "TooBig"))) (λ a. IsDueForFile words (g.S.Shelf.told c.args.shelf.now c.args.name.now) _ a.status a.text.items) c.description_refusal.result
-    (λ a. too_big_is_due words (g.S.Shelf.told c.args.shelf.now c.args.name.now) _ a.status a.text.items long)
-    c.description_refusal.ensures
+    let long = rw c.word.ensures at c.take.ensures.too_long (rw c.in-Err-TooLong.field-0-is at c.in-Err-TooLong.is) in
+    if_ok _ _ c.refuse_description.result
+    (λ a. too_big_is_due c.args.mode words (g.S.Shelf.told c.args.shelf.now) _ a.status a.text.items c.requires.command long)
+    c.refuse_description.ensures

@@ -1,10 +1,10 @@
 use Rattle.std.proofs.Common.{◌≡◌, List, ℕ, subst}
 use Rattle.std.specs.Prelude.{OnOk}
 use Rattle.one_subnet.specs.Site.{description_of}
-use Rattle.vpc_model.specs.Text.{by_text, line_end}
-use Rattle.vpc_cli.specs.Lines.{place_line}
+use Rattle.block_report.specs.Hops.{by_text, place_line}
+use Rattle.block_report.specs.Words.{line_end}
 use Rattle.subnet_walk.specs.Trace.{by_if}
-use Rattle.vpc_cli.proofs.Lists.{append_parts}
+use Rattle.block_report.proofs.Texts.{append_parts}
 use Rattle.vpc_cli.proofs.printing.put_hop.Goals as goal
 
 pub returns : goal.returns

@@ -1,0 +1,8 @@
+use Rattle.std.proofs.Common.{◌∙◌, sym}
+use Rattle.vpc_cli.specs.Due as due
+use Rattle.vpc_cli.proofs.AnswerLemmas.{if_ok}
+use Rattle.vpc_cli.proofs.answers.answer_to.Goals as goal
+
+pub returns-in-Err : goal.returns-in-Err
+returns-in-Err g c =
+    if_ok _ _ c.refuse_words.result (λ a h. due.not_words c.in-Err.refusal (sym c.read_words.ensures.command ∙ c.in-Err.is) h.0 h.1) c.refuse_words.ensures

@@ -1,0 +1,17 @@
+use Rattle.std.proofs.Common.{map, string_bytes}
+use Rattle.query_words.specs.Packet.{packet_of}
+use Rattle.vpc_cli.specs.Traced as traces
+use Rattle.vpc_cli.proofs.AnswerLemmas.{if_ok_two}
+use Rattle.vpc_cli.proofs.TraceLemmas.{refused_if_told, traced_if_walked}
+use Rattle.vpc_cli.proofs.traces.trace.Goals as goal
+
+pub returns-in-Ok : goal.returns-in-Ok
+returns-in-Ok c =
+    traced_if_walked c.walk_event.result c.args.network (map string_bytes c.args.words.now) c.in-Ok.event c.in-Ok.ensures.answer c.walk_event.ensures.status c.walk_event.ensures.text
+
+pub returns-in-Err : goal.returns-in-Err
+returns-in-Err c =
+    let meant = packet_of c.args.network (map string_bytes c.args.words.now) in
+    if_ok_two _ _ _ c.refuse_packet.result
+    (λ a h not. traces.refused c.in-Err.refusal (refused_if_told meant c.in-Err.refusal c.in-Err.ensures.answer not) h.0 h.1)
+    c.refuse_packet.ensures.line c.refuse_packet.ensures.cause

@@ -1,0 +1,163 @@
+// What `trace` answers.
+ghost use Rattle.std.specs.Prelude.{◌≡◌, ◌≢◌, ◌<◌, All, Bool, IfOk, IsTrue, length, map, string_bytes, ℕ};
+ghost use Rattle.query_words.specs.declared.refusal.QueryRefusal.TheVariants as refusals;
+ghost use Rattle.vpc_cli.specs.Traced.{IsTraced, packet_refusal_line, status_of, traced_status, traced_text};
+ghost use Rattle.block_report.specs.Walks.{walk_text};
+ghost use Rattle.vpc_laws.specs.Sound.{EndsWell, IsSoundHop};
+ghost use Rattle.vpc_model.specs.Appliances.{appliances_of};
+ghost use Rattle.vpc_model.specs.Place.{start_of};
+ghost use Rattle.vpc_model.specs.Sound.{is_sound};
+ghost use Rattle.appliances.specs.Passing.{kind_passes_at};
+
+use crate::status::{Answer, Status};
+use appliances::{Decide, Deciders, Kinds, appliances_of};
+use block_report::{put, put_end, put_query_refusal, put_walk};
+use conn_tracking::SmallConns;
+use fabric::Fabric;
+use nat_gateway::SmallNats;
+use packet_emulator::{Hops, walk};
+use query_words::{QueryRefusal, read_packet};
+use reference_check::Network;
+use std::alloc::Global;
+use std::mem;
+use vpc_base::{Header, NoMemory};
+use vpc_model::{Event, Hop, Outcome, start_place};
+
+// How a walk's command ends.
+fn status_of(outcome: &Outcome) -> Status
+    ensures { result ≡ status_of outcome.now }
+{
+    match outcome {
+        Outcome::Arrived(_, _) => Status::Yes,
+        Outcome::Stopped(_) => Status::No,
+    }
+}
+
+// The lines of a walk.
+fn answer_walk(
+    alloc: Global,
+    n: &Network,
+    hops: &[Hop],
+    outcome: &Outcome,
+) -> Result<Answer, NoMemory>
+    requires hops { All (IsSoundHop n.now) hops.now }
+    requires end { EndsWell n.now outcome.now }
+    ensures status { IfOk result (λ a. a.status ≡ status_of outcome.now) }
+    ensures text { IfOk result (λ a. a.text.items ≡ walk_text n.now hops.now outcome.now) }
+{
+    let mut text = Vec::new(alloc);
+    put_walk(&mut text, n, hops, outcome)?;
+    Ok(Answer {
+        status: status_of(outcome),
+        text,
+    })
+}
+
+// The walk of a packet with nothing remembered before it.
+fn walk_with(
+    alloc: Global,
+    fabric: &Fabric,
+    deciders: &Deciders,
+    e: &Event,
+) -> Result<Answer, NoMemory>
+    requires start { IsTrue (is_sound fabric.now (start_of e.now.start)) }
+    requires appliances { deciders.now.appliances ≡ appliances_of fabric.now }
+    ensures status { IfOk result (λ a. a.status ≡ traced_status fabric.now e.now) }
+    ensures text { IfOk result (λ a. a.text.items ≡ traced_text fabric.now e.now) }
+{
+    let mut conns = SmallConns::new();
+    let mut nats = SmallNats::new();
+    let mut hops = Hops::new();
+    let outcome = walk(
+        fabric,
+        deciders,
+        start_place(&e.start),
+        e.label,
+        e.header,
+        &mut conns,
+        &mut nats,
+        &mut hops,
+    );
+    // That the network is accepted is a clause of this call.
+    let _ = fabric.network().description();
+    answer_walk(alloc, fabric.network(), hops.as_slice(), &outcome)
+}
+
+// The described appliances, with a closure that decides by their kinds.
+fn deciders_of(alloc: Global, n: &Network, decide: Decide) -> Result<Deciders, NoMemory>
+    requires callable { (k : ℕ) (h : _) → k < length (appliances_of n.now) → Decide.pre decide k h }
+    requires answers { (k : ℕ) (h : _) (r : Bool) → k < length (appliances_of n.now)
+        → Decide.post decide k h r → r ≡ kind_passes_at (map (λ a. a.kind) n.now.appliances) k h.now }
+    ensures { IfOk result (λ d. d.appliances ≡ appliances_of n.now) }
+{
+    let rows = appliances_of(alloc, n)?;
+    Deciders::of(alloc, rows, decide)
+}
+
+// The walk of a packet with the described appliances.
+fn walk_in(alloc: Global, fabric: &Fabric, e: &Event) -> Result<Answer, NoMemory>
+    requires { IsTrue (is_sound fabric.now (start_of e.now.start)) }
+    ensures status { IfOk result (λ a. a.status ≡ traced_status fabric.now e.now) }
+    ensures text { IfOk result (λ a. a.text.items ≡ traced_text fabric.now e.now) }
+{
+    let kinds = Kinds::of(alloc, fabric.network())?;
+    let decide = Box::new(
+        alloc,
+        move |k: u32, h: &Header| -> bool
+            ensures { result ≡ kind_passes_at kinds k h.now }
+        { kinds.passes(k, h) },
+    )?;
+    let deciders = deciders_of(alloc, fabric.network(), decide)?;
+    let answer = walk_with(alloc, fabric, &deciders, e);
+    mem::forget(deciders);
+    answer
+}
+
+fn walk_event(alloc: Global, network: Network, e: &Event) -> Result<Answer, NoMemory>
+    requires { IsTrue (is_sound network (start_of e.now.start)) }
+    ensures status { IfOk result (λ a. a.status ≡ traced_status network e.now) }
+    ensures text { IfOk result (λ a. a.text.items ≡ traced_text network e.now) }
+{
+    match Fabric::of(alloc, network) {
+        Ok(fabric) => {
+            let answer = walk_in(alloc, &fabric, e);
+            // The process ends with its answer: giving back the many rows of a large network takes longer
+            // than finding one in it.
+            mem::forget(fabric);
+            answer
+        }
+        Err(no_memory) => Err(no_memory),
+    }
+}
+
+fn refuse_packet(alloc: Global, refusal: &QueryRefusal) -> Result<Answer, NoMemory>
+    ensures line { IfOk result (λ a.
+        (a.status ≡ Status.Query) × (a.text.items ≡ packet_refusal_line refusal.now)) }
+    ensures cause { IfOk result (λ a. refusal.now ≢ refusals.Memory) }
+{
+    if let QueryRefusal::Memory = refusal {
+        return Err(NoMemory);
+    }
+    let mut text = Vec::new(alloc);
+    put(&mut text, b"refused packet ")?;
+    put_query_refusal(&mut text, refusal)?;
+    put_end(&mut text)?;
+    Ok(Answer {
+        status: Status::Query,
+        text,
+    })
+}
+
+/// The walk of the packet that the words give.
+pub fn trace(alloc: Global, network: Network, words: &[String]) -> Result<Answer, NoMemory>
+    requires { length words.now ≡ 10 }
+    ensures { IfOk result (λ a. IsTraced network (map string_bytes words.now) a.status a.text.items) }
+{
+    match read_packet(alloc, &network, words) {
+        Ok(event) => walk_event(alloc, network, &event),
+        Err(refusal) => {
+            mem::forget(network);
+            refuse_packet(alloc, &refusal)
+        }
+    }
+}
