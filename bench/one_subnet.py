@@ -43,18 +43,5 @@ def description(hosts):
     }
 
 
-def in_all_groups(count):
-    """Two hosts in all of so many groups, of which the last alone has rules."""
-    anywhere = [{"CidrIp": "0.0.0.0/0"}]
-    whole = description(2)
-    groups = [{"GroupId": f"sg-{g}", "VpcId": "vpc-1", "IpPermissions": [], "IpPermissionsEgress": []} for g in range(count)]
-    groups[-1]["IpPermissions"] = [{"IpProtocol": "tcp", "FromPort": 443, "ToPort": 443, "IpRanges": anywhere}]
-    groups[-1]["IpPermissionsEgress"] = [{"IpProtocol": "-1", "IpRanges": anywhere}]
-    for interface in whole["NetworkInterfaces"]:
-        interface["Groups"] = [{"GroupId": g["GroupId"]} for g in groups]
-    whole["SecurityGroups"] = groups
-    return whole
-
-
 if __name__ == "__main__":
     json.dump(description(int(sys.argv[1])), sys.stdout)

@@ -1,42 +1,90 @@
-"""Times `trace` beside python3's json.load of the same file, in one run, with peak memory.
+"""Times `trace`: a small bundle as a whole process, and whole accounts by what is done, beside python3's json.load.
 
 Usage: python3 bench/trace.py [PROGRAM]     (default: the program that ./vpc builds)
+
+The stages of an account are differences of processor times, each the least of some runs: PROGRAM on the same text as a member
+that no list has (the JSON reading alone), out/lookup_bench on the bundle (reading rows, acceptance), on the bundle with all
+look-ups, and PROGRAM itself (a packet from the first host to the last one). `rt ci lookup_bench` builds the second program.
 """
 
+import json
 import os
+import sys
 
-from measuring import loaded, measured, program, written
-from one_subnet import address, description, in_all_groups
+import accounts
+from measuring import OUT, RUNS, TOP, loaded, measured, program, written
+
+LOOKUPS = os.path.join(TOP, "crates/lookup_bench/out/lookup_bench")
+SMALL = os.path.join(TOP, "examples/three-tiers.json")
+INTO = "open from eni-web tcp 10.0.1.10 10.0.2.10 5000 8080".split()
 
 
-def traced(path, hosts):
-    words = [program(), "trace", path, "open", "from", "eni-0", "tcp", address(10), address(hosts + 9), "5000", "443"]
-    return measured(words)
+def used(words):
+    """The least processor time, in seconds, of some runs."""
+    best = None
+    for _ in range(RUNS):
+        child = os.posix_spawn(words[0], words, os.environ, file_actions=[(os.POSIX_SPAWN_OPEN, 1, os.devnull, os.O_WRONLY, 0)])
+        _, status, usage = os.wait4(child, 0)
+        if os.waitstatus_to_exitcode(status) not in (0, 1, 3):
+            sys.exit(f"failed: {' '.join(words)}")
+        took = usage.ru_utime + usage.ru_stime
+        best = took if best is None else min(best, took)
+    return best
 
 
-def row(count, path, hosts):
-    ours, ours_peak = traced(path, hosts)
-    theirs, theirs_peak = loaded(path)
+def account(count):
+    """An account whose groups have 20 rules each."""
+    d = accounts.account(count, True)
+    for group in d["SecurityGroups"]:
+        rules = group["IpPermissions"]
+        group["IpPermissions"] = (rules * (20 // max(1, len(rules)) + 1))[:20]
+    return d
+
+
+def bare(path):
+    """The same JSON where none of it is a list that is read."""
+    other = path.replace(".json", "-bare.json")
+    with open(path) as file, open(other, "w") as out:
+        out.write('{"read-over":' + file.read() + "}")
+    return other
+
+
+def packet(path):
+    with open(path) as file:
+        hosts = [e for e in json.load(file)["NetworkInterfaces"] if e.get("InterfaceType") != "nat_gateway"]
+    first, last = hosts[0], hosts[-1]
+    return ["open", "from", first["NetworkInterfaceId"], "tcp", first["PrivateIpAddress"], last["PrivateIpAddress"], "5000", "443"]
+
+
+def row(count):
+    path = written(f"account-{count}.json", account, count, separators=(",", ":"))
+    other, words = bare(path), packet(path)
+    alone = used([program(), "trace", other, *words])
+    rows = used([LOOKUPS, path, "nothing"])
+    indexed = used([LOOKUPS, path, "fabric"])
+    whole = used([program(), "trace", path, *words])
+    theirs, _ = loaded(path)
+    _, peak = measured([program(), "trace", path, *words], code=answered(path, words))
     size = os.path.getsize(path) / 2**20
-    print(
-        f"| {count:,} | {size:.1f} MiB | {ours * 1e3:.1f} ms | {theirs * 1e3:.1f} ms | {ours / theirs:.2f}"
-        f" | {ours_peak:.0f} MiB | {theirs_peak:.0f} MiB |"
-    )
+    print(f"| {count:,} | {size:.1f} MiB | {whole * 1e3:.0f} ms | {whole / theirs:.2f} | {alone * 1e3:.0f} ms | {(rows - alone) * 1e3:.0f} ms"
+          f" | {(indexed - rows) * 1e3:.0f} ms | {(whole - indexed) * 1e3:.1f} ms | {(whole - alone) / alone:.2f} | {peak:.0f} MiB |", flush=True)
 
 
-def head(what):
-    print(f"| {what} | file | trace | json.load | ratio | trace peak | python3 peak |")
-    print("|---|---|---|---|---|---|---|")
+def answered(path, words):
+    """The exit code of the packet's walk."""
+    child = os.posix_spawn(program(), [program(), "trace", path, *words], os.environ, file_actions=[(os.POSIX_SPAWN_OPEN, 1, os.devnull, os.O_WRONLY, 0)])
+    return os.waitstatus_to_exitcode(os.waitpid(child, 0)[1])
 
 
 def main():
-    head("interfaces")
-    for hosts in (1_000, 10_000, 100_000):
-        row(hosts, written(f"one-subnet-{hosts}.json", description, hosts), hosts)
-    print()
-    head("groups of each interface")
-    for groups in (1_000, 10_000, 100_000):
-        row(groups, written(f"groups-{groups}.json", in_all_groups, groups), 2)
+    took, peak = measured([program(), "trace", SMALL, *INTO], code=answered(SMALL, INTO))
+    size = os.path.getsize(SMALL) / 1024
+    print(f"examples/three-tiers.json ({size:.0f} KiB), a whole process: {took * 1e3:.2f} ms, {peak:.0f} MiB\n")
+    print("| interfaces | file | trace | of json.load | JSON alone | rows, acceptance | look-ups | walk, text | all but JSON, of the JSON | peak |")
+    print("|---:|---:|---:|---:|---:|---:|---:|---:|---:|---:|")
+    os.makedirs(OUT, exist_ok=True)
+    for count in (1_000, 10_000, 100_000):
+        row(count)
 
 
 if __name__ == "__main__":

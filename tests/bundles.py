@@ -2,8 +2,7 @@
 """Bundles with what the program says of them: tests/bundles.py PROGRAM [ROWS].
 
 Each row of tests/bundles/rows.json is [NAME, BUNDLE, LINE]. PROGRAM (as out/vpc) is asked to trace a packet in the bundle.
-LINE is `accepted`, where any answer may come that refuses no description but `NotYet`, or the line of a refusal with
-status 3. A BUNDLE is a text; or {"bytes": HEX}; or {"template", "item", "count", "between"}: the template with, in place
+LINE is `accepted`, where any answer may come that refuses no description, or the line of a refusal with status 3. A BUNDLE is a text; or {"bytes": HEX}; or {"template", "item", "count", "between"}: the template with, in place
 of its @@, the item so many times; in an item each # is its number from 0, and each ~ the address 10.0.0.0 plus that
 number; a "second" item stands as often in place of @2@. Without ROWS the bundles of examples/ are read too. The lines
 were written from the format by hand and by an independent model, never by this program. Prints each difference.
@@ -48,7 +47,7 @@ def difference(program, folder, number, row):
     os.remove(path)
     first = run.stdout.split(b'\n', 1)[0].decode('utf-8', 'replace')
     if line == 'accepted':
-        well = not first.startswith(REFUSED) or (first == REFUSED + 'NotYet' and run.returncode == 3)
+        well = not first.startswith(REFUSED)
     else:
         well = first == line and run.returncode == 3
     return None if well and not run.stderr else f'{name}: {line!r} expected, {first!r} with status {run.returncode}'
