@@ -1,10 +1,11 @@
-"""Times `trace`: a small bundle as a whole process, and whole accounts by what is done, beside python3's json.load.
+"""What `trace` costs: a small bundle as a whole process, and whole accounts by what is done, beside python3's json.load.
 
 Usage: python3 bench/trace.py [PROGRAM]     (default: the program that ./vpc builds)
 
-The stages of an account are differences of processor times, each the least of some runs: PROGRAM on the same text as a member
-that no list has (the JSON reading alone), out/lookup_bench on the bundle (reading rows, acceptance), on the bundle with all
-look-ups, and PROGRAM itself (a packet from the first host to the last one). `rt ci lookup_bench` builds the second program.
+All are processor times (user and system), each the least of some runs. The stages of an account are differences: PROGRAM on the
+same text as a member that no list has (the JSON reading alone), on the account with an END that is no interface (rows and
+acceptance besides), and with a packet from the first host to the last one (look-ups, walk and text besides). What the look-ups
+take of that is out/lookup_bench with all look-ups, less the same without; `rt ci lookup_bench` builds it.
 """
 
 import json
@@ -12,11 +13,11 @@ import os
 import sys
 
 import accounts
-from measuring import OUT, RUNS, TOP, loaded, measured, program, written
+from measuring import OUT, RUNS, TOP, measured, program, written
 
 LOOKUPS = os.path.join(TOP, "crates/lookup_bench/out/lookup_bench")
-SMALL = os.path.join(TOP, "examples/three-tiers.json")
-INTO = "open from eni-web tcp 10.0.1.10 10.0.2.10 5000 8080".split()
+SMALL = [("one-subnet.json", "open from eni-a tcp 10.0.1.10 10.0.1.20 5000 443".split()),
+         ("three-tiers.json", "open from eni-app-a-1 tcp 10.20.16.4 198.51.100.7 40000 443".split())]
 
 
 def used(words):
@@ -25,7 +26,7 @@ def used(words):
     for _ in range(RUNS):
         child = os.posix_spawn(words[0], words, os.environ, file_actions=[(os.POSIX_SPAWN_OPEN, 1, os.devnull, os.O_WRONLY, 0)])
         _, status, usage = os.wait4(child, 0)
-        if os.waitstatus_to_exitcode(status) not in (0, 1, 3):
+        if os.waitstatus_to_exitcode(status) not in (0, 1, 4):
             sys.exit(f"failed: {' '.join(words)}")
         took = usage.ru_utime + usage.ru_stime
         best = took if best is None else min(best, took)
@@ -58,16 +59,17 @@ def packet(path):
 
 def row(count):
     path = written(f"account-{count}.json", account, count, separators=(",", ":"))
-    other, words = bare(path), packet(path)
-    alone = used([program(), "trace", other, *words])
-    rows = used([LOOKUPS, path, "nothing"])
-    indexed = used([LOOKUPS, path, "fabric"])
+    words = packet(path)
+    nowhere = [*words[:2], "eni-nowhere", *words[3:]]
+    alone = used([program(), "trace", bare(path), *nowhere])
+    rows = used([program(), "trace", path, *nowhere])
     whole = used([program(), "trace", path, *words])
-    theirs, _ = loaded(path)
+    indexes = used([LOOKUPS, path, "fabric"]) - used([LOOKUPS, path, "nothing"])
+    theirs = used([sys.executable, "-c", f"import json; json.load(open({path!r}))"]) - used([sys.executable, "-c", "import json"])
     _, peak = measured([program(), "trace", path, *words], code=answered(path, words))
     size = os.path.getsize(path) / 2**20
     print(f"| {count:,} | {size:.1f} MiB | {whole * 1e3:.0f} ms | {whole / theirs:.2f} | {alone * 1e3:.0f} ms | {(rows - alone) * 1e3:.0f} ms"
-          f" | {(indexed - rows) * 1e3:.0f} ms | {(whole - indexed) * 1e3:.1f} ms | {(whole - alone) / alone:.2f} | {peak:.0f} MiB |", flush=True)
+          f" | {(whole - rows) * 1e3:.0f} ms | {indexes * 1e3:.0f} ms | {(whole - alone) / alone:.2f} | {peak:.0f} MiB |", flush=True)
 
 
 def answered(path, words):
@@ -77,10 +79,11 @@ def answered(path, words):
 
 
 def main():
-    took, peak = measured([program(), "trace", SMALL, *INTO], code=answered(SMALL, INTO))
-    size = os.path.getsize(SMALL) / 1024
-    print(f"examples/three-tiers.json ({size:.0f} KiB), a whole process: {took * 1e3:.2f} ms, {peak:.0f} MiB\n")
-    print("| interfaces | file | trace | of json.load | JSON alone | rows, acceptance | look-ups | walk, text | all but JSON, of the JSON | peak |")
+    print("| example | file | a whole process |\n|---|---:|---:|")
+    for name, words in SMALL:
+        path = os.path.join(TOP, "examples", name)
+        print(f"| {name} | {os.path.getsize(path) / 1024:.0f} KiB | {used([program(), 'trace', path, *words]) * 1e3:.1f} ms |")
+    print("\n| interfaces | file | trace | of json.load | JSON alone | rows, acceptance | look-ups, walk, text | the look-ups | all but JSON, of the JSON | peak |")
     print("|---:|---:|---:|---:|---:|---:|---:|---:|---:|---:|")
     os.makedirs(OUT, exist_ok=True)
     for count in (1_000, 10_000, 100_000):

@@ -9,7 +9,6 @@ its name. It prints each file with the first line of the answer.
 import collections
 import json
 import pathlib
-import re
 import subprocess
 import sys
 import tempfile
@@ -36,15 +35,15 @@ def folder():
 
 
 def outputs(text):
-    """The JSON objects among the indented blocks of a page."""
-    for block in re.findall(r'(?:^[ \t]+\S.*\n|^\n)+', text, re.M):
-        at = block.find('{')
+    """The JSON objects that stand below 'Output'."""
+    for part in text.split('Output')[1:]:
+        at = part.find('{')
         if at < 0:
             continue
         try:
-            yield json.JSONDecoder().raw_decode(block[at:].replace('...', ''))[0]
-        except json.JSONDecodeError:
-            continue
+            yield json.JSONDecoder().raw_decode(part[at:])[0]
+        except json.JSONDecodeError as error:
+            print(f'      (an output that is no JSON: {error})')
 
 
 def answer(program, bundle):
