@@ -4,3 +4,4 @@ pub mod Walks
 pub mod Refusals
 pub mod Reports
 pub mod Queries
+pub mod Replays

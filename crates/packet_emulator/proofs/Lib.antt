@@ -7,3 +7,4 @@ pub mod Routing
 pub mod Steps
 pub mod Walking
 pub mod Verdicts
+pub mod Sessions

@@ -1,3 +1,4 @@
 pub mod Comes
 pub mod Moments
 pub mod Replies
+pub mod Session

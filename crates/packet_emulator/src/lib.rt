@@ -1,8 +1,8 @@
 //! The walk of one packet over a network's look-ups.
 //!
 //! `walk` gives the walk that the definitions of `vpc_model` describe: its hops, how it ends, and what
-//! the network remembers after it. `both` walks a request and its reply. One file serves each section of
-//! the walk.
+//! the network remembers after it. `both` walks a request and its reply, and a `Session` packets that come one
+//! after another. One file serves each section of the walk.
 #![tactic(auto)]
 
 mod choosing;
@@ -17,10 +17,12 @@ mod peering;
 mod places;
 mod router;
 mod rows;
+mod session;
 mod step;
 mod transit;
 mod verdict;
 mod walks;
 
+pub use session::Session;
 pub use verdict::{both, round};
 pub use walks::{Hops, walk};

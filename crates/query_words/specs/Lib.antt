@@ -1,4 +1,5 @@
 pub mod Ends
+pub mod Events
 pub mod Packet
 pub mod Refusal
 pub mod Words

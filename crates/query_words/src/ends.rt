@@ -1,12 +1,12 @@
 // Where packets start and arrive.
-ghost use Rattle.std.specs.Prelude.{◌≡◌, ◌≤◌, IfOk, IsTrue, length, map, string_bytes};
+ghost use Rattle.std.specs.Prelude.{◌≡◌, ◌≤◌, IfOk, IsTrue, length};
 ghost use Rattle.vpc_model.specs.Lookup.{interface_at};
 ghost use Rattle.vpc_model.specs.Sound.{is_end, is_eni};
 ghost use Rattle.query_words.specs.Ends.{end_at, end_of};
 ghost use Rattle.query_words.specs.Refusal.{Answers};
 
 use crate::QueryRefusal;
-use crate::words::word;
+use crate::words::PacketWords;
 use reference_check::Network;
 use std::alloc::Global;
 use vpc_model::{End, EniNo, Interface, InterfaceKind};
@@ -33,22 +33,22 @@ fn end_at(alloc: Global, n: &Network, eni: EniNo) -> Result<End, QueryRefusal>
 
 /// The end that a word names. The word `internet` always means the internet, also where an interface
 /// has that id.
-pub fn read_end(
+pub(crate) fn read_end<W: PacketWords>(
     alloc: Global,
     n: &Network,
-    words: &[String],
+    words: &W,
     number: usize,
 ) -> Result<End, QueryRefusal>
-    requires first { 1 ≤ number }
-    requires last { number ≤ length words.now }
-    ensures answer { Answers (end_of n.now (map string_bytes words.now) number) result }
+    requires first { 3 ≤ number }
+    requires last { number ≤ length (W.words words.now) }
+    ensures answer { Answers (end_of n.now (W.words words.now) number) result }
     ensures described { IfOk result (λ e. IsTrue (is_end n.now e)) }
 {
-    let word = word(words, number);
-    if word == "internet" {
+    let word = words.word(number);
+    if word == b"internet".as_slice() {
         return Ok(End::Internet);
     }
-    match n.eni(word.as_bytes()) {
+    match n.eni(word) {
         Some(eni) => end_at(alloc, n, eni),
         None => Err(QueryRefusal::UnknownId(number as u64)),
     }

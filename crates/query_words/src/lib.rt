@@ -1,14 +1,16 @@
-//! Queries and packets as words of a command.
+//! Packets as words of a command, and lists of packets as lines of a text.
 //!
 //! Words are counted from 1, the command's own name included. They are read from left to right; the
 //! first one that can't be taken is the refusal.
 #![tactic(auto)]
 
 mod ends;
+mod events;
 mod packets;
 mod refusal;
 mod words;
 
+pub use events::{EventFault, read_events};
 pub use packets::read_packet;
 pub use refusal::QueryRefusal;
 pub use words::word;

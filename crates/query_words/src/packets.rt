@@ -7,15 +7,17 @@ ghost use Rattle.query_words.specs.Refusal.{Answers};
 
 use crate::QueryRefusal;
 use crate::ends::read_end;
-use crate::words::{expect_word, read_address, read_label, read_port, read_proto};
+use crate::words::{
+    CommandWords, PacketWords, expect_word, read_address, read_label, read_port, read_proto,
+};
 use reference_check::Network;
 use std::alloc::Global;
 use vpc_base::Header;
 use vpc_model::Event;
 
-fn read_header(words: &[String]) -> Result<Header, QueryRefusal>
-    requires { length words.now ≡ 10 }
-    ensures { result ≡ header_of (map string_bytes words.now) }
+fn read_header<W: PacketWords>(words: &W) -> Result<Header, QueryRefusal>
+    requires { length (W.words words.now) ≡ 10 }
+    ensures { result ≡ header_of (W.words words.now) }
 {
     let proto = read_proto(words, 6)?;
     let src = read_address(words, 7)?;
@@ -31,15 +33,18 @@ fn read_header(words: &[String]) -> Result<Header, QueryRefusal>
     })
 }
 
-/// The packet that the words of `trace FILE LABEL from END PROTO SRC DST P Q` give, with the end where it
-/// starts.
-pub fn read_packet(alloc: Global, n: &Network, words: &[String]) -> Result<Event, QueryRefusal>
-    requires { length words.now ≡ 10 }
-    ensures answer { Answers (packet_of n.now (map string_bytes words.now)) result }
+/// The packet that ten words give, counted as those of `trace`.
+pub(crate) fn read_event<W: PacketWords>(
+    alloc: Global,
+    n: &Network,
+    words: &W,
+) -> Result<Event, QueryRefusal>
+    requires { length (W.words words.now) ≡ 10 }
+    ensures answer { Answers (packet_of n.now (W.words words.now)) result }
     ensures described { IfOk result (λ e. IsTrue (is_sound n.now (start_of e.start))) }
 {
     let label = read_label(words, 3)?;
-    expect_word(words, 4, "from")?;
+    expect_word(words, 4, b"from")?;
     let start = read_end(alloc, n, words, 5)?;
     let header = read_header(words)?;
     Ok(Event {
@@ -47,4 +52,14 @@ pub fn read_packet(alloc: Global, n: &Network, words: &[String]) -> Result<Event
         start,
         header,
     })
+}
+
+/// The packet that the words of `trace FILE LABEL from END PROTO SRC DST P Q` give, with the end where it
+/// starts.
+pub fn read_packet(alloc: Global, n: &Network, words: &[String]) -> Result<Event, QueryRefusal>
+    requires { length words.now ≡ 10 }
+    ensures answer { Answers (packet_of n.now (map string_bytes words.now)) result }
+    ensures described { IfOk result (λ e. IsTrue (is_sound n.now (start_of e.start))) }
+{
+    read_event(alloc, n, &CommandWords(words))
 }

@@ -6,12 +6,12 @@ use vpc_base::Label;
 
 #[test]
 fn labels(rt: HostRuntime) {
-    let cases: [(&str, Option<Label>); 5] = [
-        ("open", Some(Label::Opening)),
-        ("answer", Some(Label::Answer)),
-        ("Open", None),
-        ("opening", None),
-        ("", None),
+    let cases: [(&[u8], Option<Label>); 5] = [
+        (b"open".as_slice(), Some(Label::Opening)),
+        (b"answer".as_slice(), Some(Label::Answer)),
+        (b"Open".as_slice(), None),
+        (b"opening".as_slice(), None),
+        (b"".as_slice(), None),
     ];
     for (word, want) in cases {
         assert_eq!(rt; label_of(word), want);
@@ -20,19 +20,19 @@ fn labels(rt: HostRuntime) {
 
 #[test]
 fn protocols(rt: HostRuntime) {
-    let cases: [(&str, Option<u8>); 12] = [
-        ("tcp", Some(6)),
-        ("udp", Some(17)),
-        ("icmp", Some(1)),
-        ("0", Some(0)),
-        ("6", Some(6)),
-        ("255", Some(255)),
-        ("256", None),
-        ("00", None),
-        ("007", None),
-        ("-1", None),
-        ("TCP", None),
-        ("", None),
+    let cases: [(&[u8], Option<u8>); 12] = [
+        (b"tcp".as_slice(), Some(6)),
+        (b"udp".as_slice(), Some(17)),
+        (b"icmp".as_slice(), Some(1)),
+        (b"0".as_slice(), Some(0)),
+        (b"6".as_slice(), Some(6)),
+        (b"255".as_slice(), Some(255)),
+        (b"256".as_slice(), None),
+        (b"00".as_slice(), None),
+        (b"007".as_slice(), None),
+        (b"-1".as_slice(), None),
+        (b"TCP".as_slice(), None),
+        (b"".as_slice(), None),
     ];
     for (word, want) in cases {
         assert_eq!(rt; proto_of(word), want);
@@ -41,18 +41,18 @@ fn protocols(rt: HostRuntime) {
 
 #[test]
 fn ports(rt: HostRuntime) {
-    let cases: [(u8, &str, Option<u16>); 11] = [
-        (6, "0", Some(0)),
-        (6, "65535", Some(65535)),
-        (17, "65536", None),
-        (17, "0443", None),
-        (1, "2048", Some(2048)),
-        (1, "echo", None),
-        (50, "0", Some(0)),
-        (50, "00", None),
-        (50, "1", None),
-        (0, "443", None),
-        (255, "65535", None),
+    let cases: [(u8, &[u8], Option<u16>); 11] = [
+        (6, b"0".as_slice(), Some(0)),
+        (6, b"65535".as_slice(), Some(65535)),
+        (17, b"65536".as_slice(), None),
+        (17, b"0443".as_slice(), None),
+        (1, b"2048".as_slice(), Some(2048)),
+        (1, b"echo".as_slice(), None),
+        (50, b"0".as_slice(), Some(0)),
+        (50, b"00".as_slice(), None),
+        (50, b"1".as_slice(), None),
+        (0, b"443".as_slice(), None),
+        (255, b"65535".as_slice(), None),
     ];
     for (proto, word, want) in cases {
         assert_eq!(rt; port_of(proto, word), want);

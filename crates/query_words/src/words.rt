@@ -1,5 +1,5 @@
 // The words that are read by a grammar alone.
-ghost use Rattle.std.specs.Prelude.{◌≡◌, ◌≤◌, length, map, string_bytes};
+ghost use Rattle.std.specs.Prelude.{◌≡◌, ◌≤◌, ◌∷◌, [], List, codes, length, map, string_bytes, ℕ};
 ghost use Rattle.prefix_text.specs.Addr.{addr_of};
 ghost use Rattle.query_words.specs.Words.{expect_word, read_as, word_at};
 ghost use Rattle.query_words.specs.Words.{label_of, port_limit, port_of, proto_of};
@@ -17,13 +17,47 @@ pub fn word(words: &[String], number: usize) -> &str
     words[number - 1].as_str()
 }
 
+/// The words of a packet, counted as those of `trace`: its name and its file come before them.
+pub(crate) trait PacketWords {
+    ghost words: { Self → List (List ℕ) };
+
+    fn word(&self, number: usize) -> &[u8]
+        requires first { 3 ≤ number }
+        requires last { number ≤ length (words self.now) }
+        ensures { result.now ≡ word_at (words self.now) number };
+}
+
+/// The words of `trace`.
+#[derive(Clone, Copy)]
+pub(crate) struct CommandWords<'a>(pub &'a [String]);
+
+impl PacketWords for CommandWords<'_> {
+    ghost words = { λ s. map string_bytes s.0.now };
+
+    fn word(&self, number: usize) -> &[u8] {
+        word(self.0, number).as_bytes()
+    }
+}
+
+/// The words of a line, which has no name and no file.
+#[derive(Clone, Copy)]
+pub(crate) struct LineWords<'a>(pub &'a [&'a [u8]]);
+
+impl PacketWords for LineWords<'_> {
+    ghost words = { λ s. codes "trace" ∷ [] ∷ map (λ w. w.now) s.0.now };
+
+    fn word(&self, number: usize) -> &[u8] {
+        self.0[number - 3]
+    }
+}
+
 /// A packet's label: `open` for the first packet of its connection, `answer` for a reply.
-pub fn label_of(word: &str) -> Option<Label>
+pub fn label_of(word: &[u8]) -> Option<Label>
     ensures { result ≡ label_of word.now }
 {
-    if word == "open" {
+    if word == b"open".as_slice() {
         Some(Label::Opening)
-    } else if word == "answer" {
+    } else if word == b"answer".as_slice() {
         Some(Label::Answer)
     } else {
         None
@@ -31,17 +65,17 @@ pub fn label_of(word: &str) -> Option<Label>
 }
 
 /// A protocol by its name or its number (IANA, "Protocol Numbers").
-pub fn proto_of(word: &str) -> Option<u8>
+pub fn proto_of(word: &[u8]) -> Option<u8>
     ensures { result ≡ proto_of word.now }
 {
-    if word == "tcp" {
+    if word == b"tcp".as_slice() {
         Some(6)
-    } else if word == "udp" {
+    } else if word == b"udp".as_slice() {
         Some(17)
-    } else if word == "icmp" {
+    } else if word == b"icmp".as_slice() {
         Some(1)
     } else {
-        Some(read_number(word.as_bytes(), 255)? as u8)
+        Some(read_number(word, 255)? as u8)
     }
 }
 
@@ -57,53 +91,57 @@ fn port_limit(proto: u8) -> u64
 }
 
 /// A port of TCP or UDP, or a number of an ICMP message; other protocols have 0 alone.
-pub fn port_of(proto: u8, word: &str) -> Option<u16>
+pub fn port_of(proto: u8, word: &[u8]) -> Option<u16>
     ensures { result ≡ port_of proto word.now }
 {
-    Some(read_number(word.as_bytes(), port_limit(proto))? as u16)
+    Some(read_number(word, port_limit(proto))? as u16)
 }
 
 /// Whether the word that belongs in this place stands there.
-pub fn expect_word(words: &[String], number: usize, wanted: &str) -> Result<(), QueryRefusal>
-    requires first { 1 ≤ number }
-    requires last { number ≤ length words.now }
-    ensures { result ≡ expect_word wanted.now (map string_bytes words.now) number }
+pub fn expect_word<W: PacketWords>(
+    words: &W,
+    number: usize,
+    wanted: &[u8],
+) -> Result<(), QueryRefusal>
+    requires first { 3 ≤ number }
+    requires last { number ≤ length (W.words words.now) }
+    ensures { result ≡ expect_word wanted.now (W.words words.now) number }
 {
-    if word(words, number) == wanted {
+    if words.word(number) == wanted {
         Ok(())
     } else {
         Err(QueryRefusal::BadWord(number as u64))
     }
 }
 
-pub fn read_label(words: &[String], number: usize) -> Result<Label, QueryRefusal>
-    requires first { 1 ≤ number }
-    requires last { number ≤ length words.now }
-    ensures { result ≡ read_as label_of (map string_bytes words.now) number }
+pub fn read_label<W: PacketWords>(words: &W, number: usize) -> Result<Label, QueryRefusal>
+    requires first { 3 ≤ number }
+    requires last { number ≤ length (W.words words.now) }
+    ensures { result ≡ read_as label_of (W.words words.now) number }
 {
-    label_of(word(words, number)).ok_or(QueryRefusal::BadWord(number as u64))
+    label_of(words.word(number)).ok_or(QueryRefusal::BadWord(number as u64))
 }
 
-pub fn read_proto(words: &[String], number: usize) -> Result<u8, QueryRefusal>
-    requires first { 1 ≤ number }
-    requires last { number ≤ length words.now }
-    ensures { result ≡ read_as proto_of (map string_bytes words.now) number }
+pub fn read_proto<W: PacketWords>(words: &W, number: usize) -> Result<u8, QueryRefusal>
+    requires first { 3 ≤ number }
+    requires last { number ≤ length (W.words words.now) }
+    ensures { result ≡ read_as proto_of (W.words words.now) number }
 {
-    proto_of(word(words, number)).ok_or(QueryRefusal::BadWord(number as u64))
+    proto_of(words.word(number)).ok_or(QueryRefusal::BadWord(number as u64))
 }
 
-pub fn read_address(words: &[String], number: usize) -> Result<u32, QueryRefusal>
-    requires first { 1 ≤ number }
-    requires last { number ≤ length words.now }
-    ensures { result ≡ read_as addr_of (map string_bytes words.now) number }
+pub fn read_address<W: PacketWords>(words: &W, number: usize) -> Result<u32, QueryRefusal>
+    requires first { 3 ≤ number }
+    requires last { number ≤ length (W.words words.now) }
+    ensures { result ≡ read_as addr_of (W.words words.now) number }
 {
-    read_addr(word(words, number).as_bytes()).ok_or(QueryRefusal::BadWord(number as u64))
+    read_addr(words.word(number)).ok_or(QueryRefusal::BadWord(number as u64))
 }
 
-pub fn read_port(words: &[String], number: usize, proto: u8) -> Result<u16, QueryRefusal>
-    requires first { 1 ≤ number }
-    requires last { number ≤ length words.now }
-    ensures { result ≡ read_as (port_of proto) (map string_bytes words.now) number }
+pub fn read_port<W: PacketWords>(words: &W, number: usize, proto: u8) -> Result<u16, QueryRefusal>
+    requires first { 3 ≤ number }
+    requires last { number ≤ length (W.words words.now) }
+    ensures { result ≡ read_as (port_of proto) (W.words words.now) number }
 {
-    port_of(proto, word(words, number)).ok_or(QueryRefusal::BadWord(number as u64))
+    port_of(proto, words.word(number)).ok_or(QueryRefusal::BadWord(number as u64))
 }

@@ -1,14 +1,19 @@
 -- What is due, from what was read and answered.
-use Rattle.std.proofs.Common.{◌≡◌, ◌<◌, ◌≤◌, ℕ, List, Option, Some, None, Result, Ok, Err, IfOk, [], ◌∷◌, zero, suc, arith, codes, false, length, refl, sym}
+use Rattle.std.proofs.Common.{◌≡◌, ◌<◌, ◌≤◌, ℕ, List, Option, Some, None, Result, Ok, Err, IfOk, [], ◌∷◌, zero, suc, arith, codes, false, inl, inr, length, refl, subst, sym}
+use Rattle.serde_json.specs.Data.{Data}
+use Rattle.vpc_io.specs.Rose.{Rose}
 use Rattle.vpc_io.specs.Told.{IfTold}
+use Rattle.vpc_model.specs.declared.rows.Description.{Description}
 use Rattle.block_report.specs.Refusals.{cause_text}
 use Rattle.bundle.specs.Meaning.{IsToldOf, is_memory}
 use Rattle.bundle.specs.declared.refusal.BundleRefusal.{BundleRefusal}
 use Rattle.bundle.proofs.MeaningLemmas.{cause_if_told}
 use Rattle.vpc_cli.specs.Described.{file_limit, refusal_line}
-use Rattle.vpc_cli.specs.Due.{IsDue, IsDueForBytes}
+use Rattle.vpc_cli.specs.Due.{IsAnswered, IsDue, IsDueForBytes}
 use Rattle.vpc_cli.specs.Due as due
-use Rattle.vpc_cli.specs.Words.{HasCount, command_of, file_name}
+use Rattle.vpc_cli.specs.Replayed.{IsReplayed, IsReplayedFrom, events_refusal_line}
+use Rattle.vpc_cli.specs.Replayed as replays
+use Rattle.vpc_cli.specs.Words.{HasCount, command_of, file_name, second_name}
 use Rattle.vpc_cli.specs.declared.status.Status.{Status}
 use Rattle.vpc_cli.specs.declared.status.Status.TheVariants as ends
 use Rattle.vpc_cli.specs.declared.words.Mode.{Mode}
@@ -28,6 +33,7 @@ if_ok_two P R Q (Err e) follows h k = tt
 pub names_a_file : (mode : Mode) (count : ℕ) → HasCount mode count → 2 ≤ count
 names_a_file modes.Trace count has = omega arith
 names_a_file modes.Ask count has = omega arith
+names_a_file modes.Replay count has = omega arith
 
 -- the bytes of a file, as they are told
 told_bytes : (told : Option (List ℕ)) (bytes : List ℕ) → IfTold told (λ b. bytes ≡ b) → IfTold told (λ b. b ≡ bytes)
@@ -57,12 +63,58 @@ too_big_is_due command words told failed status text is long h =
 -- what is due for the bytes that were read is due for the file
 pub bytes_are_due : (command : Mode) (words : List (List ℕ)) (told : List ℕ → Option (List ℕ)) (failed : List ℕ → Type 0) (bytes : List ℕ) (status : Status) (text : List ℕ)
     → command_of words ≡ Ok command → IfTold (told (file_name words)) (λ b. bytes ≡ b) → length bytes ≤ file_limit
-    → IsDueForBytes command words bytes status text → IsDue words told failed status text
+    → IsDueForBytes command words told failed bytes status text → IsDue words told failed status text
 bytes_are_due command words told failed bytes status text is taken few answer =
     due.of_bytes command bytes is (told_bytes (told (file_name words)) bytes taken) few answer
 
 -- a cause that was told is due
-pub cause_is_due : (command : Mode) (words : List (List ℕ)) (bytes : List ℕ) (cause : BundleRefusal) (status : Status) (text : List ℕ)
+pub cause_is_due : (command : Mode) (words : List (List ℕ)) (told : List ℕ → Option (List ℕ)) (failed : List ℕ → Type 0) (bytes : List ℕ) (cause : BundleRefusal) (status : Status) (text : List ℕ)
     → IsToldOf bytes cause → (status ≡ ends.Description) × (text ≡ refusal_line (cause_text cause)) → is_memory cause ≡ false
-    → IsDueForBytes command words bytes status text
-cause_is_due command words bytes cause status text told h not = due.refused cause (cause_if_told bytes cause not told) h.0 h.1
+    → IsDueForBytes command words told failed bytes status text
+cause_is_due command words told failed bytes cause status text is h not = due.refused cause (cause_if_told bytes cause not is) h.0 h.1
+
+-- ---- a shelf that was asked before
+
+-- what rose since a later time rose since an earlier one
+pub rose_before : (before after now : ℕ) → before ≤ after → Rose after now → Rose before now
+rose_before before after now le (inl less) = inl (omega arith)
+rose_before before after now le (inr last) = inr last
+
+-- what is answered by a shelf is answered by one that tells the same, and of which as many files failed
+replayed_by : (d : Description) (words : List (List ℕ)) (told before : List ℕ → Option (List ℕ)) (failed sooner : List ℕ → Type 0) (status : Status) (text : List ℕ)
+    → ((n : List ℕ) → told n ≡ before n) → ((n : List ℕ) → failed n → sooner n)
+    → IsReplayed d words told failed status text → IsReplayed d words before sooner status text
+replayed_by d words told before failed sooner status text same follows (replays.not_read failure ends_so says) = replays.not_read (follows (second_name words) failure) ends_so says
+replayed_by d words told before failed sooner status text same follows (replays.too_big bytes is long ends_so says) =
+    replays.too_big bytes (subst (λ (o : Option (List ℕ)). IfTold o (λ b. b ≡ bytes)) (same (second_name words)) is) long ends_so says
+replayed_by d words told before failed sooner status text same follows (replays.of_bytes bytes is few answer) =
+    replays.of_bytes bytes (subst (λ (o : Option (List ℕ)). IfTold o (λ b. b ≡ bytes)) (same (second_name words)) is) few answer
+
+answered_by : (command : Mode) (value : Data) (d : Description) (words : List (List ℕ)) (told before : List ℕ → Option (List ℕ)) (failed sooner : List ℕ → Type 0) (status : Status) (text : List ℕ)
+    → ((n : List ℕ) → told n ≡ before n) → ((n : List ℕ) → failed n → sooner n)
+    → IsAnswered command value d words told failed status text → IsAnswered command value d words before sooner status text
+answered_by modes.Trace value d words told before failed sooner status text same follows answer = answer
+answered_by modes.Ask value d words told before failed sooner status text same follows answer = answer
+answered_by modes.Replay value d words told before failed sooner status text same follows answer = replayed_by d words told before failed sooner status text same follows answer
+
+pub due_before : (command : Mode) (words : List (List ℕ)) (told before : List ℕ → Option (List ℕ)) (failed sooner : List ℕ → Type 0) (bytes : List ℕ) (status : Status) (text : List ℕ)
+    → ((n : List ℕ) → told n ≡ before n) → ((n : List ℕ) → failed n → sooner n)
+    → IsDueForBytes command words told failed bytes status text → IsDueForBytes command words before sooner bytes status text
+due_before command words told before failed sooner bytes status text same follows (due.refused cause is ends_so says) = due.refused cause is ends_so says
+due_before command words told before failed sooner bytes status text same follows (due.answered network described answer) =
+    due.answered network described (answered_by command described.value network words told before failed sooner status text same follows answer)
+
+-- ---- the second file
+
+-- what is answered to the bytes that were read is answered to the second file
+pub events_are_answered : (d : Description) (words : List (List ℕ)) (told : List ℕ → Option (List ℕ)) (failed : List ℕ → Type 0) (bytes : List ℕ) (status : Status) (text : List ℕ)
+    → IfTold (told (second_name words)) (λ b. bytes ≡ b) → length bytes ≤ file_limit
+    → IsReplayedFrom d bytes status text → IsReplayed d words told failed status text
+events_are_answered d words told failed bytes status text taken few answer = replays.of_bytes bytes (told_bytes (told (second_name words)) bytes taken) few answer
+
+pub events_are_too_big : (d : Description) (words : List (List ℕ)) (told : List ℕ → Option (List ℕ)) (failed : List ℕ → Type 0) (status : Status) (text : List ℕ)
+    → IfTold (told (second_name words)) (λ bytes. file_limit < length bytes)
+    → (status ≡ ends.Query) × (text ≡ events_refusal_line (codes "TooBig")) → IsReplayed d words told failed status text
+events_are_too_big d words told failed status text long h =
+    let found = some_long (told (second_name words)) file_limit long in
+    replays.too_big found.0 found.1 found.2 h.0 h.1

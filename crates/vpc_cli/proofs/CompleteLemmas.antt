@@ -23,18 +23,21 @@ use Rattle.bundle.specs.declared.refusal.BundleRefusal.{BundleRefusal}
 use Rattle.bundle.specs.declared.refusal.BundleRefusal.TheVariants as causes
 use Rattle.one_subnet.specs.Site.{description_of}
 use Rattle.one_subnet.specs.declared.site.Site.{Site}
+use Rattle.query_words.specs.Events.{events_of}
 use Rattle.query_words.specs.Packet.{packet_of}
 use Rattle.subnet_reach.specs.Query.{box_of, meaning_in}
 use Rattle.subnet_reach.specs.declared.query.Query.{Query}
 use Rattle.vpc_cli.specs.Asked.{IsAsked, IsDecided, IsReachable, IsReported, IsReportedInPart, form_of}
 use Rattle.vpc_cli.specs.Asked as asks
 use Rattle.vpc_cli.specs.Described.{Describes, file_limit}
-use Rattle.vpc_cli.specs.Due.{IsAnswered, IsComplete, IsDue, IsDueForBytes, IsFault}
+use Rattle.vpc_cli.specs.Due.{IsAnswered, IsComplete, IsDue, IsDueForBytes, IsFault, ReadFailed}
 use Rattle.vpc_cli.specs.Due as due
 use Rattle.vpc_cli.specs.Query.{query_of}
+use Rattle.vpc_cli.specs.Replayed.{IsReplayed, IsReplayedFrom}
+use Rattle.vpc_cli.specs.Replayed as replays
 use Rattle.vpc_cli.specs.Traced.{IsTraced, status_of, traced_status}
 use Rattle.vpc_cli.specs.Traced as traces
-use Rattle.vpc_cli.specs.Words.{command_of, file_name}
+use Rattle.vpc_cli.specs.Words.{command_of, file_name, second_name}
 use Rattle.vpc_cli.specs.declared.status.Status.{Status}
 use Rattle.vpc_cli.specs.declared.status.Status.TheVariants as ends
 use Rattle.vpc_cli.specs.declared.words.Mode.{Mode}
@@ -153,13 +156,13 @@ no_cause bytes (causes.Rows cause) d is described = not_accepted bytes (causes.R
 no_cause bytes causes.Memory d is described = is
 
 -- what is due for bytes that describe a network is the answer in it
-answer_for : (command : Mode) (words : List (List ℕ)) (bytes : List ℕ) (d : Description) (status : Status) (text : List ℕ)
-    → IsDueForBytes command words bytes status text → (described : Describes bytes d) → IsAnswered command described.value d words status text
-answer_for command words bytes d status text (due.refused cause is status_is text_is) described = absurd (no_cause bytes cause d is described)
-answer_for command words bytes d status text (due.answered e other answer) described =
+answer_for : (command : Mode) (words : List (List ℕ)) (told : List ℕ → Option (List ℕ)) (failed : List ℕ → Type 0) (bytes : List ℕ) (d : Description) (status : Status) (text : List ℕ)
+    → IsDueForBytes command words told failed bytes status text → (described : Describes bytes d) → IsAnswered command described.value d words told failed status text
+answer_for command words told failed bytes d status text (due.refused cause is status_is text_is) described = absurd (no_cause bytes cause d is described)
+answer_for command words told failed bytes d status text (due.answered e other answer) described =
     let network = described_network bytes e d other described in
     let value = described_value bytes e d other described in
-    subst (λ (v : Data). IsAnswered command v d words status text) value (subst (λ (n : Description). IsAnswered command other.value n words status text) network answer)
+    subst (λ (v : Data). IsAnswered command v d words told failed status text) value (subst (λ (n : Description). IsAnswered command other.value n words told failed status text) network answer)
 
 -- ---- what is due for a told file
 
@@ -170,10 +173,13 @@ told_is : (told : Option (List ℕ)) (a b : List ℕ) → told ≡ Some a → If
 told_is None a b is same = cc
 told_is (Some x) a b is same = let e : Some x ≡ Some a = is in cc
 
+too_many : (more few limit : ℕ) → limit < more → few ≤ limit → more ≡ few → ⊥
+too_many more few limit long short same = omega arith
+
 -- a fault, or the answer in the network that the told bytes describe
 fault_or_answer : (command : Mode) (words : List (List ℕ)) (told : List ℕ → Option (List ℕ)) (failed : List ℕ → Type 0) (bytes : List ℕ) (d : Description) (status : Status) (text : List ℕ)
     → IsDue words told failed status text → command_of words ≡ Ok command → told (file_name words) ≡ Some bytes → (described : Describes bytes d)
-    → IsFault status ⊎ IsAnswered command described.value d words status text
+    → IsFault status ⊎ IsAnswered command described.value d words told failed status text
 fault_or_answer command words told failed bytes d status text (due.not_words refusal is status_is text_is) named at described =
     let same : Err refusal ≡ Ok command = sym is ∙ named in cc
 fault_or_answer command words told failed bytes d status text (due.no_memory status_is text_is) named at described = inl (inr (inr status_is))
@@ -182,13 +188,10 @@ fault_or_answer command words told failed bytes d status text (due.too_big other
     let few = described.few in
     let all = ap length (told_is (told (file_name words)) bytes more at same) in
     absurd (too_many (length more) (length bytes) file_limit long few all)
-  where
-    too_many : (more few limit : ℕ) → limit < more → few ≤ limit → more ≡ few → ⊥
-    too_many more few limit long short same = omega arith
 fault_or_answer command words told failed bytes d status text (due.of_bytes other these is same few answer) named at described =
-    let by_command : IsDueForBytes command words these status text = subst (λ (m : Mode). IsDueForBytes m words these status text) (same_command words other command is named) answer in
-    let by_bytes : IsDueForBytes command words bytes status text = subst (λ (b : List ℕ). IsDueForBytes command words b status text) (told_is (told (file_name words)) bytes these at same) by_command in
-    inr (answer_for command words bytes d status text by_bytes described)
+    let by_command : IsDueForBytes command words told failed these status text = subst (λ (m : Mode). IsDueForBytes m words told failed these status text) (same_command words other command is named) answer in
+    let by_bytes : IsDueForBytes command words told failed bytes status text = subst (λ (b : List ℕ). IsDueForBytes command words told failed b status text) (told_is (told (file_name words)) bytes these at same) by_command in
+    inr (answer_for command words told failed bytes d status text by_bytes described)
 
 -- ---- `trace` ends as its walk does
 
@@ -247,11 +250,34 @@ asked value d words site query status text (asks.more s x found read status_is a
     let here = same_site (form_of d value) s site found form in
     decided_here s site x query status ends.More here (same_query s site words x query here read meant) status_is (more_decides s x text answer)
 
+-- ---- `replay` answers told events
+
+same_events : (d : Description) (bytes text : List ℕ) (number : ℕ) (events : List Event) → bytes ≡ text → events_of d bytes ≡ Err number → events_of d text ≡ Ok events → ⊥
+same_events d bytes text number events same bad good = let wrong : Err number ≡ Ok events = sym bad ∙ (ap (events_of d) same ∙ good) in cc
+
+replayed_from : (d : Description) (bytes text : List ℕ) (events : List Event) (status : Status) (lines : List ℕ)
+    → IsReplayedFrom d bytes status lines → bytes ≡ text → events_of d text ≡ Ok events → status ≡ ends.Yes
+replayed_from d bytes text events status lines (replays.bad_line number bad status_is says) same good = absurd (same_events d bytes text number events same bad good)
+replayed_from d bytes text events status lines (replays.replayed found is status_is says) same good = status_is
+
+replayed : (d : Description) (words : List (List ℕ)) (told : List ℕ → Option (List ℕ)) (failed : List ℕ → Type 0) (text : List ℕ) (events : List Event) (status : Status) (lines : List ℕ)
+    → IsReplayed d words told failed status lines → told (second_name words) ≡ Some text → length text ≤ file_limit → events_of d text ≡ Ok events
+    → IsFault status ⊎ (status ≡ ends.Yes)
+replayed d words told failed text events status lines (replays.not_read failure status_is says) at few good = inl (inl status_is)
+replayed d words told failed text events status lines (replays.too_big bytes same long status_is says) at few good =
+    absurd (too_many (length bytes) (length text) file_limit long few (ap length (told_is (told (second_name words)) text bytes at same)))
+replayed d words told failed text events status lines (replays.of_bytes bytes same short answer) at few good =
+    inr (replayed_from d bytes text events status lines answer (told_is (told (second_name words)) text bytes at same) good)
+
 -- ---- a pair that is due is complete
 
 or_known : {A B C : Type 0} → (B → C) → A ⊎ B → A ⊎ C
 or_known follows (inl a) = inl a
 or_known follows (inr b) = inr (follows b)
+
+or_either : {A B C : Type 0} → (B → A ⊎ C) → A ⊎ B → A ⊎ C
+or_either follows (inl a) = inl a
+or_either follows (inr b) = follows b
 
 pub complete_if_due : (words : List (List ℕ)) (told : List ℕ → Option (List ℕ)) (failed : List ℕ → Type 0) (status : Status) (text : List ℕ)
     → IsDue words told failed status text → IsComplete words told status
@@ -260,6 +286,8 @@ complete_if_due words told failed status text answer = record {
       or_known (λ known. traced network words e status text known packet) (fault_or_answer modes.Trace words told failed bytes network status text answer named at described);
   ask = λ bytes network site query named at described form meant.
       or_known (λ known. asked described.value network words site query status text known form meant) (fault_or_answer modes.Ask words told failed bytes network status text answer named at described);
+  replay = λ bytes second network events named at described there few good.
+      or_either (λ known. replayed network words told failed second events status text known there few good) (fault_or_answer modes.Replay words told failed bytes network status text answer named at described);
 }
 
 -- ---- where reading failed
@@ -316,26 +344,37 @@ ask_is_none value d words status text (asks.through s x found read status_is ans
 ask_is_none value d words status text (asks.blocked s x found read status_is answer) h = no_device status ends.No status_is no_is_none h
 ask_is_none value d words status text (asks.more s x found read status_is answer) h = no_device status ends.More status_is more_is_none h
 
-answer_is_none : (command : Mode) (value : Data) (d : Description) (words : List (List ℕ)) (status : Status) (text : List ℕ) → IsAnswered command value d words status text → IsOfDevice status → ⊥
-answer_is_none modes.Trace value d words status text answer = trace_is_none d words status text answer
-answer_is_none modes.Ask value d words status text answer = ask_is_none value d words status text answer
+-- of a device a replay tells where its second file failed
+replay_is_read : (d : Description) (words : List (List ℕ)) (told : List ℕ → Option (List ℕ)) (failed : List ℕ → Type 0) (status : Status) (text : List ℕ)
+    → IsReplayed d words told failed status text → IsOfDevice status → (status ≡ ends.Read) × failed (second_name words)
+replay_is_read d words told failed status text (replays.not_read failure status_is says) h = (status_is, failure)
+replay_is_read d words told failed status text (replays.too_big bytes same long status_is says) h = absurd (no_device status ends.Query status_is query_is_none h)
+replay_is_read d words told failed status text (replays.of_bytes bytes same few (replays.bad_line number is status_is says)) h = absurd (no_device status ends.Query status_is query_is_none h)
+replay_is_read d words told failed status text (replays.of_bytes bytes same few (replays.replayed events is status_is says)) h = absurd (no_device status ends.Yes status_is yes_is_none h)
 
-bytes_are_none : (command : Mode) (words : List (List ℕ)) (bytes : List ℕ) (status : Status) (text : List ℕ) → IsDueForBytes command words bytes status text → IsOfDevice status → ⊥
-bytes_are_none command words bytes status text (due.refused cause is status_is text_is) h = no_device status ends.Description status_is description_is_none h
-bytes_are_none command words bytes status text (due.answered d described answer) h = answer_is_none command described.value d words status text answer h
+answer_is_read : (command : Mode) (value : Data) (d : Description) (words : List (List ℕ)) (told : List ℕ → Option (List ℕ)) (failed : List ℕ → Type 0) (status : Status) (text : List ℕ)
+    → command_of words ≡ Ok command → IsAnswered command value d words told failed status text → IsOfDevice status → (status ≡ ends.Read) × ReadFailed words failed
+answer_is_read modes.Trace value d words told failed status text is answer h = absurd (trace_is_none d words status text answer h)
+answer_is_read modes.Ask value d words told failed status text is answer h = absurd (ask_is_none value d words status text answer h)
+answer_is_read modes.Replay value d words told failed status text is answer h = let read = replay_is_read d words told failed status text answer h in (read.0, inr (is, read.1))
+
+bytes_are_read : (command : Mode) (words : List (List ℕ)) (told : List ℕ → Option (List ℕ)) (failed : List ℕ → Type 0) (bytes : List ℕ) (status : Status) (text : List ℕ)
+    → command_of words ≡ Ok command → IsDueForBytes command words told failed bytes status text → IsOfDevice status → (status ≡ ends.Read) × ReadFailed words failed
+bytes_are_read command words told failed bytes status text named (due.refused cause is status_is text_is) h = absurd (no_device status ends.Description status_is description_is_none h)
+bytes_are_read command words told failed bytes status text named (due.answered d described answer) h = answer_is_read command described.value d words told failed status text named answer h
 
 -- a device is told of where reading failed, and of reading alone
 device_is_read : (words : List (List ℕ)) (told : List ℕ → Option (List ℕ)) (failed : List ℕ → Type 0) (status : Status) (text : List ℕ)
-    → IsDue words told failed status text → IsOfDevice status → (status ≡ ends.Read) × failed (file_name words)
+    → IsDue words told failed status text → IsOfDevice status → (status ≡ ends.Read) × ReadFailed words failed
 device_is_read words told failed status text (due.not_words refusal is status_is text_is) h = absurd (no_device status ends.Words status_is words_are_none h)
 device_is_read words told failed status text (due.no_memory status_is text_is) h = absurd (no_device status ends.Memory status_is memory_is_none h)
-device_is_read words told failed status text (due.not_read command is failure status_is text_is) h = (status_is, failure)
+device_is_read words told failed status text (due.not_read command is failure status_is text_is) h = (status_is, inl failure)
 device_is_read words told failed status text (due.too_big command bytes is same long status_is text_is) h = absurd (no_device status ends.Description status_is description_is_none h)
-device_is_read words told failed status text (due.of_bytes command bytes is same few answer) h = absurd (bytes_are_none command words bytes status text answer h)
+device_is_read words told failed status text (due.of_bytes command bytes is same few answer) h = bytes_are_read command words told failed bytes status text is answer h
 
--- an answer that tells of a failed read is due where the read failed
+-- an answer that tells of a failed read is due where a read failed
 pub failed_if_read : (words : List (List ℕ)) (told : List ℕ → Option (List ℕ)) (failed : List ℕ → Type 0) (status : Status) (text : List ℕ)
-    → IsDue words told failed status text → status ≡ ends.Read → failed (file_name words)
+    → IsDue words told failed status text → status ≡ ends.Read → ReadFailed words failed
 failed_if_read words told failed status text answer is = let read = device_is_read words told failed status text answer (inl is) in read.1
 
 -- none that is due tells of a failed write

@@ -4,3 +4,4 @@ pub mod CompleteLemmas
 pub mod ReachableLemmas
 pub mod RuleNames
 pub mod TraceLemmas
+pub mod ReplayLemmas

@@ -8,6 +8,7 @@ use Rattle.block_report.specs.Words.{word}
 use Rattle.bundle.specs.Meaning.{IsCause}
 use Rattle.bundle.specs.declared.refusal.BundleRefusal.{BundleRefusal}
 use Rattle.one_subnet.specs.declared.site.Site.{Site}
+use Rattle.query_words.specs.Events.{events_of}
 use Rattle.query_words.specs.Packet.{packet_of}
 use Rattle.subnet_reach.specs.declared.query.Query.{Query}
 use Rattle.vpc_model.specs.declared.outcomes.Event.{Event}
@@ -16,8 +17,9 @@ use Rattle.vpc_cli.specs.Asked.{IsAsked, IsDecided, form_of}
 use Rattle.vpc_cli.specs.Described.{Describes, file_limit, refusal_line}
 use Rattle.vpc_cli.specs.Lines.{line}
 use Rattle.vpc_cli.specs.Query.{query_of}
+use Rattle.vpc_cli.specs.Replayed.{IsReplayed}
 use Rattle.vpc_cli.specs.Traced.{IsTraced, traced_status}
-use Rattle.vpc_cli.specs.Words.{command_of, file_name}
+use Rattle.vpc_cli.specs.Words.{command_of, file_name, second_name}
 use Rattle.vpc_cli.specs.declared.status.Status.{Status}
 use Rattle.vpc_cli.specs.declared.status.Status.TheVariants as ends
 use Rattle.vpc_cli.specs.declared.words.Mode.{Mode}
@@ -37,15 +39,17 @@ memory_text = line (codes "want of memory")
 
 -- ---- what is due
 
--- what a command answers in a network that a bundle's value describes
-abbrev pub IsAnswered : Mode → Data → Description → List (List ℕ) → Status → List ℕ → Type 0
-IsAnswered modes.Trace value d words status text = IsTraced d words status text
-IsAnswered modes.Ask value d words status text = IsAsked value d words status text
+-- what a command answers in a network that a bundle's value describes, by what the shelf tells of files and which of them failed in this call
+abbrev pub IsAnswered : Mode → Data → Description → List (List ℕ) → (List ℕ → Option (List ℕ)) → (List ℕ → Type 0) → Status → List ℕ → Type 0
+IsAnswered modes.Trace value d words told failed status text = IsTraced d words status text
+IsAnswered modes.Ask value d words told failed status text = IsAsked value d words status text
+IsAnswered modes.Replay value d words told failed status text = IsReplayed d words told failed status text
 
 -- what is due for the bytes of a file: the first cause against them, or what the command answers in the network that they describe
-pub data IsDueForBytes (command : Mode) (words : List (List ℕ)) (bytes : List ℕ) (status : Status) (text : List ℕ) : Type 0 where
-  refused : (cause : BundleRefusal) → IsCause bytes cause → status ≡ ends.Description → text ≡ refusal_line (cause_text cause) → IsDueForBytes command words bytes status text
-  answered : (network : Description) (described : Describes bytes network) → IsAnswered command described.value network words status text → IsDueForBytes command words bytes status text
+pub data IsDueForBytes (command : Mode) (words : List (List ℕ)) (told : List ℕ → Option (List ℕ)) (failed : List ℕ → Type 0) (bytes : List ℕ) (status : Status) (text : List ℕ) : Type 0 where
+  refused : (cause : BundleRefusal) → IsCause bytes cause → status ≡ ends.Description → text ≡ refusal_line (cause_text cause) → IsDueForBytes command words told failed bytes status text
+  answered : (network : Description) (described : Describes bytes network) → IsAnswered command described.value network words told failed status text
+      → IsDueForBytes command words told failed bytes status text
 
 -- the pairs that are due for these words, by what the shelf tells of files and which of them failed in this call. Of a file of which nothing is told, the
 -- answer is that for some bytes.
@@ -56,7 +60,7 @@ pub data IsDue (words : List (List ℕ)) (told : List ℕ → Option (List ℕ))
   too_big : (command : Mode) (bytes : List ℕ) → command_of words ≡ Ok command → IfTold (told (file_name words)) (λ b. b ≡ bytes) → file_limit < length bytes
       → status ≡ ends.Description → text ≡ refusal_line (codes "TooBig") → IsDue words told failed status text
   of_bytes : (command : Mode) (bytes : List ℕ) → command_of words ≡ Ok command → IfTold (told (file_name words)) (λ b. b ≡ bytes) → length bytes ≤ file_limit
-      → IsDueForBytes command words bytes status text → IsDue words told failed status text
+      → IsDueForBytes command words told failed bytes status text → IsDue words told failed status text
 
 -- the whole text of a due pair with this status was added, or writing failed after a proper prefix of a due text
 pub data IsAnswer (due : Status → List ℕ → Type 0) (old new : Option (List ℕ)) (failed : Type 0) (status : Status) : Type 0 where
@@ -69,8 +73,8 @@ pub data IsAnswer (due : Status → List ℕ → Type 0) (old new : Option (List
 abbrev pub IsFault : Status → Type 0
 IsFault status = (status ≡ ends.Read) ⊎ ((status ≡ ends.Write) ⊎ (status ≡ ends.Memory))
 
--- where the told bytes describe a network, `trace` ends as the walk of its packet does, and `ask` decides its query in a network of the form that is
--- followed, unless a device or memory failed
+-- where the told bytes describe a network, `trace` ends as the walk of its packet does, `ask` decides its query in a network of the form that is followed,
+-- and `replay` answers told events, unless a device or memory failed
 pub record IsComplete (words : List (List ℕ)) (told : List ℕ → Option (List ℕ)) (status : Status) : Type 0 where
   pub trace : (bytes : List ℕ) (network : Description) (e : Event) → command_of words ≡ Ok modes.Trace → told (file_name words) ≡ Some bytes
       → Describes bytes network → packet_of network words ≡ Ok e
@@ -78,3 +82,12 @@ pub record IsComplete (words : List (List ℕ)) (told : List ℕ → Option (Lis
   pub ask : (bytes : List ℕ) (network : Description) (site : Site) (query : Query) → command_of words ≡ Ok modes.Ask → told (file_name words) ≡ Some bytes
       → (described : Describes bytes network) → form_of network described.value ≡ Some site → query_of site.hosts words ≡ Some query
       → IsFault status ⊎ IsDecided site query status
+  pub replay : (bytes text : List ℕ) (network : Description) (events : List Event) → command_of words ≡ Ok modes.Replay → told (file_name words) ≡ Some bytes
+      → Describes bytes network → told (second_name words) ≡ Some text → length text ≤ file_limit → events_of network text ≡ Ok events
+      → IsFault status ⊎ (status ≡ ends.Yes)
+
+-- ---- failed reads
+
+-- the file failed in this call, or the second file of a command that has one
+abbrev pub ReadFailed : List (List ℕ) → (List ℕ → Type 0) → Type 0
+ReadFailed words failed = failed (file_name words) ⊎ ((command_of words ≡ Ok modes.Replay) × failed (second_name words))

@@ -5,5 +5,6 @@ pub mod Lines
 pub mod Reachable
 pub mod Described
 pub mod Traced
+pub mod Replayed
 pub mod Asked
 pub mod Due

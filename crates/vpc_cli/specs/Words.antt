@@ -1,5 +1,5 @@
 -- The words of a command.
-use Rattle.std.specs.Prelude.{ℕ, ◌+◌, ◌%◌, ◌==◌, ◌≡◌, ◌≤◌, ◌||◌, not, nat_lt, Bool, true, false, List, [], ◌∷◌, Option, Some, None, Result, Err, Ok, bytes_eq, codes, if◌then◌else◌, length, option_map, position}
+use Rattle.std.specs.Prelude.{ℕ, ◌+◌, ◌%◌, ◌==◌, ◌≡◌, ◌≤◌, ◌||◌, not, nat_lt, Bool, true, List, [], ◌∷◌, Option, Some, None, Result, Err, Ok, bytes_eq, codes, if◌then◌else◌, length, option_map, position}
 use Rattle.query_words.specs.Words.{word_at}
 use Rattle.vpc_cli.specs.declared.words.Mode.{Mode}
 use Rattle.vpc_cli.specs.declared.words.Mode.TheVariants as modes
@@ -20,7 +20,10 @@ bad_word words = option_map (λ k. k + 1) (position is_bad_word words)
 
 -- the command with this name
 abbrev pub mode_named : List ℕ → Option Mode
-mode_named name = if bytes_eq name (codes "trace") then Some modes.Trace else (if bytes_eq name (codes "ask") then Some modes.Ask else None)
+mode_named name =
+    if bytes_eq name (codes "trace") then Some modes.Trace
+    else (if bytes_eq name (codes "ask") then Some modes.Ask
+    else (if bytes_eq name (codes "replay") then Some modes.Replay else None))
 
 -- the command that the first word names
 abbrev pub mode_of : List (List ℕ) → Option Mode
@@ -32,6 +35,10 @@ mode_of (w ∷ words) = mode_named w
 -- how many words `trace` has
 abbrev pub trace_count : ℕ
 trace_count = 10
+
+-- how many words `replay` has
+abbrev pub replay_count : ℕ
+replay_count = 3
 
 -- how many words `ask` has at least, and at most
 abbrev pub ask_least : ℕ
@@ -53,11 +60,13 @@ ask_count_fault count =
 abbrev pub count_fault : Mode → ℕ → Option ℕ
 count_fault modes.Trace count = exact_count_fault trace_count count
 count_fault modes.Ask count = ask_count_fault count
+count_fault modes.Replay count = exact_count_fault replay_count count
 
 -- a command has so many words
 abbrev pub HasCount : Mode → ℕ → Type 0
 HasCount modes.Trace count = count ≡ trace_count
 HasCount modes.Ask count = ask_least ≤ count
+HasCount modes.Replay count = count ≡ replay_count
 
 -- ---- the command of some words
 
@@ -86,3 +95,7 @@ command_of words = unless_bad (bad_word words) words
 -- the name of the file
 abbrev pub file_name : List (List ℕ) → List ℕ
 file_name words = word_at words 2
+
+-- the name of the second file, where the command has one
+abbrev pub second_name : List (List ℕ) → List ℕ
+second_name words = word_at words 3

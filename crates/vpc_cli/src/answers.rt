@@ -9,6 +9,7 @@ ghost use Rattle.vpc_cli.specs.Words.{HasCount, command_of};
 
 use crate::asks::ask;
 use crate::refusals::{answer_line, refuse_bundle, refuse_description, refuse_words};
+use crate::replays::replay;
 use crate::status::{Answer, Status};
 use crate::traces::trace;
 use crate::words::{Mode, read_words};
@@ -21,19 +22,22 @@ use std::mem;
 use vpc_base::NoMemory;
 use vpc_io::{Shelf, ShelfFault};
 
-const FILE_LIMIT: usize = 67_108_864;
+/// The most bytes of a file.
+pub const FILE_LIMIT: usize = 67_108_864;
 
 // What the command answers in a network and the bundle that describes it.
-fn answer_in(
+fn answer_in<S: Shelf>(
     alloc: Global,
     mode: Mode,
     words: &[String],
     bundle: &Value,
     network: Network,
+    shelf: &mut S,
 ) -> Result<Answer, NoMemory>
     requires { HasCount mode (length words.now) }
     ensures { IfOk result (λ a. IsAnswered mode (view bundle.now) network
-        (map string_bytes words.now) a.status a.text.items) }
+        (map string_bytes words.now) (S.told shelf.old)
+        (λ n. Rose (S.faults shelf.old n) (S.faults shelf.new n)) a.status a.text.items) }
 {
     match mode {
         Mode::Trace => trace(alloc, network, words),
@@ -44,42 +48,45 @@ fn answer_in(
             mem::forget(network);
             answer
         }
+        Mode::Replay => replay(alloc, network, words, shelf),
     }
 }
 
 // What is answered for the value of a bundle.
-fn answer_value(
+fn answer_value<S: Shelf>(
     alloc: Global,
     mode: Mode,
     words: &[String],
     bundle: &Value,
+    shelf: &mut S,
 ) -> Result<Answer, NoMemory>
     requires { HasCount mode (length words.now) }
     ensures { (bytes : List ℕ) → length bytes ≤ file_limit → IsJson bytes (view bundle.now)
-        → IfOk result (λ a. IsDueForBytes mode (map string_bytes words.now) bytes
-        a.status a.text.items) }
+        → IfOk result (λ a. IsDueForBytes mode (map string_bytes words.now) (S.told shelf.old)
+        (λ n. Rose (S.faults shelf.old n) (S.faults shelf.new n)) bytes a.status a.text.items) }
 {
     match network_of(alloc, bundle) {
-        Ok(network) => answer_in(alloc, mode, words, bundle, network),
+        Ok(network) => answer_in(alloc, mode, words, bundle, network, shelf),
         Err(cause) => refuse_bundle(alloc, &cause),
     }
 }
 
 // What is answered for the bytes of a file.
-fn answer_bytes(
+fn answer_bytes<S: Shelf>(
     alloc: Global,
     mode: Mode,
     words: &[String],
     bytes: &[u8],
+    shelf: &mut S,
 ) -> Result<Answer, NoMemory>
     requires count { HasCount mode (length words.now) }
     requires few { length bytes.now ≤ FILE_LIMIT }
-    ensures { IfOk result (λ a. IsDueForBytes mode (map string_bytes words.now) bytes.now
-        a.status a.text.items) }
+    ensures { IfOk result (λ a. IsDueForBytes mode (map string_bytes words.now) (S.told shelf.old)
+        (λ n. Rose (S.faults shelf.old n) (S.faults shelf.new n)) bytes.now a.status a.text.items) }
 {
     match read_json(alloc, bytes) {
         Ok(bundle) => {
-            let answer = answer_value(alloc, mode, words, &bundle);
+            let answer = answer_value(alloc, mode, words, &bundle, shelf);
             mem::forget(bundle);
             answer
         }
@@ -100,7 +107,7 @@ fn answer_file<S: Shelf>(
         (λ n. Rose (S.faults shelf.old n) (S.faults shelf.new n)) a.status a.text.items) }
 {
     match shelf.take(alloc, word(words, 2), FILE_LIMIT) {
-        Ok(bytes) => answer_bytes(alloc, mode, words, bytes.as_slice()),
+        Ok(bytes) => answer_bytes(alloc, mode, words, bytes.as_slice(), shelf),
         Err(ShelfFault::Failed) => answer_line(alloc, Status::Read, b"read fault 1"),
         Err(ShelfFault::TooLong) => refuse_description(alloc, b"TooBig"),
         Err(ShelfFault::Memory) => Err(NoMemory),

@@ -1,8 +1,7 @@
 // The top call.
 ghost use Rattle.std.specs.Prelude.{◌≡◌, map, string_bytes};
 ghost use Rattle.vpc_io.specs.Rose.{Rose};
-ghost use Rattle.vpc_cli.specs.Due.{IsAnswer, IsComplete, IsDue};
-ghost use Rattle.vpc_cli.specs.Words.{file_name};
+ghost use Rattle.vpc_cli.specs.Due.{IsAnswer, IsComplete, IsDue, ReadFailed};
 
 use crate::answers::answer_to;
 use crate::status::Status;
@@ -18,10 +17,10 @@ pub fn run<S: Shelf, O: Sink>(alloc: Global, words: &[String], shelf: &mut S, ou
     ensures due { IsAnswer (IsDue (map string_bytes words.now) (S.told shelf.old)
         (λ n. Rose (S.faults shelf.old n) (S.faults shelf.new n)))
         (O.held out.old) (O.held out.new) (Rose (O.faults out.old) (O.faults out.new)) result }
-    ensures read_only_where_faults_rose { let name = file_name (map string_bytes words.now) in
-        result ≡ Status.Read → Rose (S.faults shelf.old name) (S.faults shelf.new name) }
+    ensures read_only_where_faults_rose { result ≡ Status.Read → ReadFailed (map string_bytes words.now)
+        (λ n. Rose (S.faults shelf.old n) (S.faults shelf.new n)) }
     // `trace` ends as the walk of its packet does. `ask` says yes where some header gets through, and no
-    // where none does and the cells are at most `max`.
+    // where none does and the cells are at most `max`. `replay` answers each list of events.
     ensures complete { IsComplete (map string_bytes words.now) (S.told shelf.old) result }
     ensures write_only_where_faults_rose { result ≡ Status.Write → Rose (O.faults out.old) (O.faults out.new) }
 {

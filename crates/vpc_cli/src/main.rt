@@ -4,10 +4,12 @@
 mod answers;
 mod asks;
 mod commands;
+mod deciders;
 mod printing;
 mod queries;
 mod reachable;
 mod refusals;
+mod replays;
 mod reports;
 mod status;
 #[cfg(test)]

@@ -1,5 +1,5 @@
 // What `trace` answers.
-ghost use Rattle.std.specs.Prelude.{◌≡◌, ◌≢◌, ◌<◌, All, Bool, IfOk, IsTrue, length, map, string_bytes, ℕ};
+ghost use Rattle.std.specs.Prelude.{◌≡◌, ◌≢◌, All, IfOk, IsTrue, length, map, string_bytes};
 ghost use Rattle.query_words.specs.declared.refusal.QueryRefusal.TheVariants as refusals;
 ghost use Rattle.vpc_cli.specs.Traced.{IsTraced, packet_refusal_line, status_of, traced_status, traced_text};
 ghost use Rattle.block_report.specs.Walks.{walk_text};
@@ -9,8 +9,9 @@ ghost use Rattle.vpc_model.specs.Place.{start_of};
 ghost use Rattle.vpc_model.specs.Sound.{is_sound};
 ghost use Rattle.appliances.specs.Passing.{kind_passes_at};
 
+use crate::deciders::deciders_of;
 use crate::status::{Answer, Status};
-use appliances::{Decide, Deciders, Kinds, appliances_of};
+use appliances::{Deciders, Kinds};
 use block_report::{put, put_end, put_query_refusal, put_walk};
 use conn_tracking::SmallConns;
 use fabric::Fabric;
@@ -81,17 +82,6 @@ fn walk_with(
     // That the network is accepted is a clause of this call.
     let _ = fabric.network().description();
     answer_walk(alloc, fabric.network(), hops.as_slice(), &outcome)
-}
-
-// The described appliances, with a closure that decides by their kinds.
-fn deciders_of(alloc: Global, n: &Network, decide: Decide) -> Result<Deciders, NoMemory>
-    requires callable { (k : ℕ) (h : _) → k < length (appliances_of n.now) → Decide.pre decide k h }
-    requires answers { (k : ℕ) (h : _) (r : Bool) → k < length (appliances_of n.now)
-        → Decide.post decide k h r → r ≡ kind_passes_at (map (λ a. a.kind) n.now.appliances) k h.now }
-    ensures { IfOk result (λ d. d.appliances ≡ appliances_of n.now) }
-{
-    let rows = appliances_of(alloc, n)?;
-    Deciders::of(alloc, rows, decide)
 }
 
 // The walk of a packet with the described appliances.

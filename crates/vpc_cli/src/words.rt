@@ -5,6 +5,8 @@ ghost use Rattle.vpc_cli.specs.Words.{exact_count_fault, is_bad_word, mode_named
 
 const TRACE_COUNT: usize = 10;
 
+const REPLAY_COUNT: usize = 3;
+
 const ASK_LEAST: usize = 6;
 
 const ASK_MOST: usize = 18;
@@ -16,6 +18,8 @@ pub enum Mode {
     Trace,
     /// `ask`: what is known of all requests of a query.
     Ask,
+    /// `replay`: the walks of packets that come one after another.
+    Replay,
 }
 
 /// The number, from 1, of the first word that is wrong.
@@ -55,6 +59,8 @@ fn mode_named(name: &str) -> Option<Mode>
         Some(Mode::Trace)
     } else if name == "ask" {
         Some(Mode::Ask)
+    } else if name == "replay" {
+        Some(Mode::Replay)
     } else {
         None
     }
@@ -104,6 +110,7 @@ fn count_fault(mode: Mode, count: usize) -> Option<usize>
     match mode {
         Mode::Trace => exact_count_fault(TRACE_COUNT, count),
         Mode::Ask => ask_count_fault(count),
+        Mode::Replay => exact_count_fault(REPLAY_COUNT, count),
     }
 }
 

@@ -7,9 +7,9 @@ use Rattle.query_words.proofs.ends.read_end.Goals as goal
 
 -- an id that was found has a number in range
 pub end_at-requires : goal.end_at-requires
-end_at-requires c =
+end_at-requires g c =
     let d = c.args.n.now in
-    let id = c.as_bytes.result.now in
+    let id = c.word-word.result.now in
     let has : has_interface d id ≡ true = sym c.in-Some.ensures.found in
     let within = ((ids_are_found d).interface id has).0 in
     subst (λ (i : EniNo). is_eni d i ≡ true) (sym c.in-Some.ensures.number) within

@@ -1,6 +1,6 @@
-use Rattle.std.proofs.Common.{length, map, refl, string_bytes}
+use Rattle.std.proofs.Common.{length, map, string_bytes}
 use Rattle.vpc_cli.specs.Due as due
-use Rattle.vpc_cli.proofs.AnswerLemmas.{bytes_are_due, if_ok, names_a_file, too_big_is_due}
+use Rattle.vpc_cli.proofs.AnswerLemmas.{bytes_are_due, due_before, if_ok, names_a_file, rose_before, too_big_is_due}
 use Rattle.vpc_cli.proofs.answers.answer_file.Goals as goal
 
 pub word-requires-clause-last : goal.word-requires-clause-last
@@ -11,7 +11,9 @@ returns-in-Ok g c =
     let words = map string_bytes c.args.words.now in
     let taken = rw c.word.ensures at c.in-Ok.ensures.whole in
     if_ok _ _ c.answer_bytes.result
-    (λ a. bytes_are_due c.args.mode words (g.S.Shelf.told c.args.shelf.now) _ c.in-Ok.bytes.items a.status a.text.items c.requires.command taken c.in-Ok.ensures.within)
+    (λ a answer. bytes_are_due c.args.mode words (g.S.Shelf.told c.args.shelf.now) _ c.in-Ok.bytes.items a.status a.text.items c.requires.command taken c.in-Ok.ensures.within
+    (due_before c.args.mode words _ _ _ _ c.in-Ok.bytes.items a.status a.text.items c.take.ensures.told_stays
+    (λ n. rose_before _ _ _ (c.take.ensures.faults_never_fall n)) answer))
     (rw c.as_slice.ensures.value at c.answer_bytes.ensures)
 
 pub returns-in-Err-Failed : goal.returns-in-Err-Failed

@@ -1,7 +1,7 @@
-use Rattle.std.proofs.Common.{◌≡◌, ◌∙◌, List, length, map, refl, subst, ◌<◌}
+use Rattle.std.proofs.Common.{◌∙◌, length, map, refl, subst, ◌<◌}
 use Rattle.appliances.proofs.Rows.{passes_at-appliances}
 use Rattle.vpc_model.specs.Appliances.{Appliances}
-use Rattle.vpc_cli.proofs.traces.deciders_of.Goals as goal
+use Rattle.vpc_cli.proofs.deciders.deciders_of.Goals as goal
 
 pub of-requires-clause-callable : goal.of-requires-clause-callable
 of-requires-clause-callable g c = λ k h below.

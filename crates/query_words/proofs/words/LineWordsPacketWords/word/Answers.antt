@@ -1,0 +1,6 @@
+use Rattle.std.proofs.Common.{length}
+use Rattle.query_words.proofs.WordLemmas.{word_at-line}
+use Rattle.query_words.proofs.words.LineWordsPacketWords.word.Goals as goal
+
+pub returns : goal.returns
+returns c = word_at-line c.args.self.now.0.now c.args.number _ _ _ c.requires.first c.requires.last

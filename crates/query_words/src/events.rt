@@ -1,0 +1,134 @@
+// Lists of packets, one a line.
+ghost use Rattle.std.specs.Prelude.{◌≡◌, ◌≢◌, ◌==◌, All, IfOk, IfSome, map, take};
+ghost use Rattle.query_words.specs.Events.{AreRead, StartsWell, bad_line, event_of, events_in, events_of, lines_of};
+ghost use Rattle.std.specs.List.{slice_split};
+ghost use Rattle.query_words.specs.Events.{without_last_newline, words_of};
+ghost use Rattle.query_words.specs.declared.refusal.QueryRefusal.TheVariants as refusals;
+ghost use Rattle.query_words.specs.declared.events.EventFault.TheVariants.{Memory};
+
+use crate::QueryRefusal;
+use crate::packets::read_event;
+use crate::words::LineWords;
+use reference_check::Network;
+use std::alloc::{AllocError, AllocFailed, Global};
+use vpc_base::NoMemory;
+use vpc_model::Event;
+
+/// Why a text is no list of packets.
+#[derive(Debug, Drop)]
+pub enum EventFault {
+    /// The line with this number, from 1, is no packet.
+    BadLine(u64),
+    /// Memory was refused.
+    Memory,
+}
+
+impl From<NoMemory> for EventFault {
+    ghost from_gives = { λ _ r. r ≡ Memory };
+
+    fn from(_error: NoMemory) -> EventFault {
+        EventFault::Memory
+    }
+}
+
+impl From<AllocError> for EventFault {
+    ghost from_gives = { λ _ r. r ≡ Memory };
+
+    fn from(_error: AllocError) -> EventFault {
+        EventFault::Memory
+    }
+}
+
+impl<T: Drop> From<AllocFailed<T>> for EventFault {
+    ghost from_gives = { λ _ r. r ≡ Memory };
+
+    fn from(_error: AllocFailed<T>) -> EventFault {
+        EventFault::Memory
+    }
+}
+
+// A text without the newline at its end, if there is one.
+fn without_last_newline(text: &[u8]) -> &[u8]
+    ensures { result.now ≡ without_last_newline text.now }
+{
+    match text.split_last() {
+        Some((b'\n', front)) => front,
+        _ => text,
+    }
+}
+
+fn split_lines(alloc: Global, text: &[u8]) -> Result<Vec<&[u8]>, AllocError>
+    ensures { IfOk result (λ v. map (λ l. l.now) v.items ≡ slice_split (λ c. c == 10) text.now) }
+{
+    text.split(|c| *c == b'\n').collect(alloc)
+}
+
+// The lines of a text. A carriage return before a newline belongs to its line.
+fn lines_of(alloc: Global, text: &[u8]) -> Result<Vec<&[u8]>, AllocError>
+    ensures { IfOk result (λ v. map (λ l. l.now) v.items ≡ lines_of text.now) }
+{
+    match text {
+        [] => Ok(Vec::new(alloc)),
+        _ => split_lines(alloc, without_last_newline(text)),
+    }
+}
+
+// The first nine words of a line: more than eight are no packet, however many come after them.
+fn nine_words(alloc: Global, line: &[u8]) -> Result<Vec<&[u8]>, AllocError>
+    ensures { IfOk result (λ v. map (λ w. w.now) v.items ≡ take 9 (words_of line.now)) }
+{
+    line.split(|c| *c == b' ').take(9).collect(alloc)
+}
+
+// Want of memory is no answer; any other refusal says that the words are no packet.
+fn unless_memory(refusal: &QueryRefusal) -> Result<(), NoMemory>
+    ensures { IfOk result (λ u. refusal.now ≢ refusals.Memory) }
+{
+    match refusal {
+        QueryRefusal::Memory => Err(NoMemory),
+        _ => Ok(()),
+    }
+}
+
+// The packet of a line, if it is one.
+fn event_of(alloc: Global, n: &Network, line: &[u8]) -> Result<Option<Event>, NoMemory>
+    ensures event { IfOk result (λ e. e ≡ event_of n.now line.now) }
+    ensures start { IfOk result (λ e. IfSome e (StartsWell n.now)) }
+{
+    let words = nine_words(alloc, line)?;
+    if words.len() != 8 {
+        return Ok(None);
+    }
+    match read_event(alloc, n, &LineWords(words.as_slice())) {
+        Ok(event) => Ok(Some(event)),
+        Err(refusal) => {
+            unless_memory(&refusal)?;
+            Ok(None)
+        }
+    }
+}
+
+fn read_lines(alloc: Global, n: &Network, lines: &[&[u8]]) -> Result<Vec<Event>, EventFault>
+    ensures events { let texts = map (λ l. l.now) lines.now in
+        AreRead (events_in n.now texts (bad_line n.now texts)) result }
+    ensures starts { IfOk result (λ v. All (StartsWell n.now) v.items) }
+{
+    let mut events = Vec::with_capacity(alloc, lines.len())?;
+    for (k, line) in lines.iter().enumerate() {
+        match event_of(alloc, n, line)? {
+            Some(event) => events.push(event)?,
+            None => return Err(EventFault::BadLine(k as u64 + 1)),
+        }
+    }
+    Ok(events)
+}
+
+/// The packets of a text with one `LABEL from END PROTO SRC DST P Q` a line. Words have one blank between
+/// each two, each line ends with one newline, which may be missing at the last, and no line is empty.
+pub fn read_events(alloc: Global, n: &Network, text: &[u8]) -> Result<Vec<Event>, EventFault>
+    ensures events { AreRead (events_of n.now text.now) result }
+    ensures starts { IfOk result (λ v. All (StartsWell n.now) v.items) }
+{
+    let lines = lines_of(alloc, text)?;
+    read_lines(alloc, n, lines.as_slice())
+}

@@ -1,0 +1,4 @@
+pub mod Moments
+pub mod Remembered
+pub mod Replaying
+pub mod Interleaved
