@@ -1,0 +1,68 @@
+"""Proves one crate of this checkout over the libraries that a gate built, without proving what stands below it again.
+
+    python3 tests/check.py GATE CRATE [FLAG..]
+
+GATE is another clone of this repository in which `rt ci` runs or ran; what it built of the crates below stands in its out/ folders.
+Only what changed in CRATE since the last call is checked: a change costs seconds where `rt ci CRATE` takes minutes. A library that is
+proved is kept in bench/out/check, and the crates above take it from there in place of the gate's. FLAGs are those of `rattle check`:
+`--allow-holes` tells of every open goal, `--fix-imports` drops unused imports, `--test` checks the tests too. It gives no verdict for the gate.
+"""
+
+import os
+import subprocess
+import sys
+
+TOP = os.path.dirname(os.path.dirname(os.path.abspath(__file__)))
+KEPT = os.path.join(TOP, "bench", "out", "check")
+KIT = "/opt/rattle"
+# with these, rattle checks and builds nothing
+CHECKS = {"--allow-holes", "--fix-imports", "--test", "--only"}
+
+
+def crates():
+    """The crates of crates.txt, each with those that its line names."""
+    with open(os.path.join(TOP, "crates.txt"), encoding="utf-8") as file:
+        lines = [line for line in file if ":" in line and not line.startswith("#")]
+    return {name: below.split() for name, below in (line.split(":") for line in lines)}
+
+
+def library(gate, name):
+    """The built library of a crate, this checkout's own first."""
+    for path in (f"{KEPT}/{name}/{name}.rlib", f"{gate}/crates/{name}/out/rlib/{name}.rlib"):
+        if os.path.exists(path):
+            return path
+    return None
+
+
+def command(gate, name, flags):
+    all_crates = crates()
+    words = ["--extern", f"std={KIT}/rlibs/std.rlib", "-L", f"dependency={KIT}/rlibs"]
+    for below in all_crates[name]:
+        found = library(gate, below) if below in all_crates else f"{KIT}/rlibs/{below}.rlib"
+        if found is None:
+            sys.exit(f"no library of {below} yet")
+        words += ["--extern", f"{below}={found}"]
+    for other in all_crates:
+        found = library(gate, other) if other != name else None
+        if found:
+            words += ["-L", f"dependency={os.path.dirname(found)}"]
+    is_program = not os.path.exists(f"{TOP}/crates/{name}/src/lib.rt")
+    checks = is_program or any(flag.split("=")[0] in CHECKS for flag in flags)
+    store = f"{KEPT}/{name}/{'tests' if '--test' in flags else 'checks'}"
+    os.makedirs(store, exist_ok=True)
+    built = [] if checks else ["-o", f"{KEPT}/{name}/{name}.rlib"]
+    logic = ["--antt-project", f"{KIT}/rattle/logic/antt-project.json", "--logic-built", f"{KIT}/logic_built"]
+    return [f"{KIT}/bin/rattle", "check" if checks else "build", "--crate-name", name, "src/main.rt" if is_program else "src/lib.rt",
+            *words, *logic, "--links", f"{name}=", "--jobs", "2", "--incremental", store, *built, *flags]
+
+
+def main():
+    if len(sys.argv) < 3:
+        sys.exit(__doc__)
+    gate, name, *flags = sys.argv[1:]
+    words = command(os.path.abspath(gate), name, flags)
+    sys.exit(subprocess.call(words, cwd=os.path.join(TOP, "crates", name)))
+
+
+if __name__ == "__main__":
+    main()
