@@ -1,0 +1,6 @@
+pub mod SideLemmas
+pub mod BodyLemmas
+pub mod LawLemmas
+pub mod NarrowLemmas
+pub mod ImageLemmas
+pub mod TranslateLemmas

@@ -1,0 +1,5 @@
+pub mod Fields
+pub mod Images
+pub mod Bodies
+pub mod Parts
+pub mod Laws
