@@ -1,15 +1,14 @@
 -- Bodies and where they end.
-use Rattle.std.proofs.Common.{◌≡◌, ℕ, ◌≤◌, ◌<◌, ◌+◌, ◌⊎◌, ◌++◌, ◌∷◌, [], ◌&&◌, Bool, true, max, min, Option, Some, None, IfNone, IsSome, refl, ap, sym, subst, ◌∙◌, arith, inl, inr, ⊎_elim}
+use Rattle.std.proofs.Common.{◌≡◌, ℕ, ◌≤◌, ◌+◌, ◌⊎◌, ◌++◌, ◌&&◌, Bool, true, max, min, Option, Some, None, IfNone, IsSome, refl, ap, sym, subst, ◌∙◌, arith, inl, inr, ⊎_elim}
 use Rattle.std.proofs.lemmas.Bool.{cases_lt}
 use Rattle.std.proofs.lemmas.List.Elements.{Contains-append_left, Contains-append_right}
 use Rattle.vpc_base.specs.declared.headers.Header.{Header}
 use Rattle.header_boxes.specs.Boxes.{AreDisjoint, IsRangeWithin, IsValid, common_box, common_range, holds, in_range, low_of}
 use Rattle.header_boxes.specs.declared.boxes.Box5.{Box5}
 use Rattle.header_boxes.proofs.Held.{common_within_first, holds-common_box, holds_low, valid_if_holds, valid_if_within, within_itself}
-use Rattle.box_images.specs.Fields.{number_of, side_of, value_of}
+use Rattle.box_images.specs.Fields.{number_of, side_of}
 use Rattle.box_images.specs.Bodies.{Edges, EndsAtEdges, IsBody, IsEdge, range_edges}
-use Rattle.box_images.specs.Parts.{IsTold, ending_at}
-use Rattle.box_images.specs.declared.fields.Field.{Field}
+use Rattle.box_images.specs.Parts.{TellsRange, ending_at}
 use Rattle.box_images.specs.declared.fields.Field.TheVariants.{Of}
 use Rattle.box_images.specs.declared.fields.Side.{Side}
 use Rattle.box_images.specs.declared.fields.Side.TheVariants.{Proto, Src, Dst, P, Q}
@@ -30,7 +29,12 @@ body_through body middle part b m = record {
 }
   where
     through : {a b c : ℕ × ℕ} → IsRangeWithin a b → IsRangeWithin b c → IsRangeWithin a c
-    through k l = let p = k.begins in let q = l.begins in let r = k.ends in let t = l.ends in record { begins = omega arith; valid = k.valid; ends = omega arith }
+    through k l =
+        let begins = k.begins in
+        let around = l.begins in
+        let ends = k.ends in
+        let past = l.ends in
+        record { begins = omega arith; valid = k.valid; ends = omega arith }
 
 -- ---- edges
 
@@ -54,7 +58,8 @@ pub ends_at_second : (few more : Edges) (body part : Box5) → EndsAtEdges more 
 ends_at_second few more body part k = record { ends = λ s. ⊎_elim inl (λ g. inr (edge_of_second few more s _ g)) (k.ends s) }
 
 -- a body of a body ends at the edges of both
-pub ends_through : (few more : Edges) (body middle part : Box5) → EndsAtEdges more body middle → EndsAtEdges few middle part → EndsAtEdges (few ++ more) body part
+pub ends_through : (few more : Edges) (body middle part : Box5) → EndsAtEdges more body middle → EndsAtEdges few middle part
+    → EndsAtEdges (few ++ more) body part
 ends_through few more body middle part b m = record {
   ends = λ s. ⊎_elim
       (λ e. subst (λ (n : ℕ). (n ≡ (side_of part s).1) ⊎ IsEdge (few ++ more) s (n + 1)) (sym e) ((ends_at_first few more middle part m).ends s))
@@ -88,7 +93,8 @@ body_of_ending b s x v some lower = record {
 pub ends_of_ending : (edges : Edges) (b : Box5) (s : Side) (x : ℕ) → (x ≡ (side_of b s).1) ⊎ IsEdge edges s (x + 1) → EndsAtEdges edges (ending_at b s x) b
 ends_of_ending edges b s x e = record { ends = λ t. ⊎_elim (λ k. changed t k.0 k.1) inl (end-ending_at_cases b s t x) }
   where
-    changed : (t : Side) → t ≡ s → (side_of (ending_at b s x) t).1 ≡ x → ((side_of (ending_at b s x) t).1 ≡ (side_of b t).1) ⊎ IsEdge edges t ((side_of (ending_at b s x) t).1 + 1)
+    changed : (t : Side) → t ≡ s → (side_of (ending_at b s x) t).1 ≡ x
+        → ((side_of (ending_at b s x) t).1 ≡ (side_of b t).1) ⊎ IsEdge edges t ((side_of (ending_at b s x) t).1 + 1)
     changed t k f = ⊎_elim
         (λ g. inl (f ∙ g ∙ ap (λ (u : Side). (side_of b u).1) (sym k)))
         (λ g. inr (subst (λ (n : ℕ). IsEdge edges t (n + 1)) (sym f) (subst (λ (u : Side). IsEdge edges u (x + 1)) (sym k) g)))
@@ -98,11 +104,12 @@ ends_of_ending edges b s x e = record { ends = λ t. ⊎_elim (λ k. changed t k
 pub told_of_ending : (b : Box5) (s : Side) (add lo hi x : ℕ) → IsValid b → (side_of b s).0 ≤ x → x ≤ (side_of b s).1
     → (x ≡ (side_of b s).1) ⊎ (x + 1 + add ≡ lo) ⊎ (x + 1 + add ≡ hi + 1)
     → ((n : ℕ) → (side_of b s).0 ≤ n → n ≤ x → in_range (lo, hi) (n + add) ≡ in_range (lo, hi) ((side_of b s).0 + add))
-    → IsTold (range_edges (Of s add) lo hi) b (λ h. in_range (lo, hi) (value_of (Of s add) h)) (record { body = ending_at b s x; told = in_range (lo, hi) ((side_of b s).0 + add) })
+    → TellsRange (Of s add) lo hi b (record { body = ending_at b s x; told = in_range (lo, hi) ((side_of b s).0 + add) })
 told_of_ending b s add lo hi x v some lower edge alike = record {
   told = λ h t. let i = number_in_side h (ending_at b s x) t s in sym (alike (number_of h s) (above h i.0) (below h i.1));
   body = body_of_ending b s x v some lower;
-  ends = ends_of_ending (range_edges (Of s add) lo hi) b s x (⊎_elim inl (λ k. inr (⊎_elim (range_begins s add lo hi (x + 1)) (range_ends s add lo hi (x + 1)) k)) edge);
+  ends = ends_of_ending (range_edges (Of s add) lo hi) b s x
+      (⊎_elim inl (λ k. inr (⊎_elim (range_begins s add lo hi (x + 1)) (range_ends s add lo hi (x + 1)) k)) edge);
 }
   where
     above : (h : Header) → (side_of (ending_at b s x) s).0 ≤ number_of h s → (side_of b s).0 ≤ number_of h s

@@ -1,9 +1,9 @@
 -- Valid images, and the kinds of images in a walk.
-use Rattle.std.proofs.Common.{◌≡◌, ℕ, ◌≤◌, ◌<◌, ◌+◌, ◌⊎◌, Bool, true, false, refl, ap, sym, subst, ◌∙◌, arith, inl, inr, ⊎_elim}
+use Rattle.std.proofs.Common.{ℕ, ◌≤◌, arith}
 use Rattle.header_boxes.specs.Boxes.{IsValid, IsWithin}
 use Rattle.header_boxes.specs.declared.boxes.Box5.{Box5}
 use Rattle.header_boxes.proofs.Held.{valid_if_within}
-use Rattle.box_images.specs.Fields.{HasOffset, greatest_of, greatest_on, side_of}
+use Rattle.box_images.specs.Fields.{HasOffset, greatest_of, greatest_on}
 use Rattle.box_images.specs.Images.{IsValidImage, field_of}
 use Rattle.box_images.specs.declared.fields.Field.{Field}
 use Rattle.box_images.specs.declared.fields.Field.TheVariants.{Fixed, Of}
@@ -24,7 +24,8 @@ pub fixed_fits : (b : Box5) (s : Side) (n : ℕ) → n ≤ greatest_on s → Fit
 fixed_fits b s n le = record { offset = tt; fits = le }
 
 -- an image is valid where all five fields fit
-pub valid_if_fit : (i : Image) → IsValid i.part → FitsSide i.part Proto i.proto → FitsSide i.part Src i.src → FitsSide i.part Dst i.dst → FitsSide i.part P i.p → FitsSide i.part Q i.q → IsValidImage i
+pub valid_if_fit : (i : Image) → IsValid i.part → FitsSide i.part Proto i.proto → FitsSide i.part Src i.src → FitsSide i.part Dst i.dst
+    → FitsSide i.part P i.p → FitsSide i.part Q i.q → IsValidImage i
 valid_if_fit i v proto src dst p q = record { part = v; offset = λ s. (fit s).offset; fits = λ s. (fit s).fits }
   where
     fit : (s : Side) → FitsSide i.part s (field_of i s)

@@ -1,17 +1,16 @@
 -- The laws of bodies and images.
-use Rattle.std.proofs.Common.{◌≡◌, ℕ, ◌≤◌, ◌<◌, ◌+◌, ◌⊎◌, ◌^◌, ◌∷◌, [], true, false, List, refl, ap, sym, subst, ◌∙◌, arith, inl, inr, ⊎_elim}
+use Rattle.std.proofs.Common.{◌≡◌, ℕ, ◌≤◌, ◌<◌, ◌+◌, ◌⊎◌, ◌∷◌, [], true, false, List, refl, ap, sym, subst, ◌∙◌, arith, inl, inr, ⊎_elim}
 use Rattle.std.proofs.lemmas.Bool.{cases_lt}
 use Rattle.std.proofs.lemmas.List.Elements.{All-cons, All-contains, All-nil}
 use Rattle.std.specs.List.{Contains}
 use Rattle.vpc_base.specs.Cuts.{CutLists}
 use Rattle.vpc_base.specs.declared.headers.Header.{Header}
-use Rattle.header_boxes.specs.Boxes.{IsValid, holds, in_range}
-use Rattle.header_boxes.specs.Cells.{IsAligned}
+use Rattle.header_boxes.specs.Boxes.{holds, in_range}
 use Rattle.header_boxes.specs.declared.boxes.Box5.{Box5}
 use Rattle.header_boxes.proofs.CellNumbers.{aligned_by_low, aligned_through}
-use Rattle.box_images.specs.Fields.{AreComparable, greatest_of, greatest_on, number_of, side_of, value_of}
-use Rattle.box_images.specs.Images.{CanCompare, IsAddress, IsImageOfAnswer, IsImageOfEchoReply, IsImageOfOpen, IsImageOfReturn, IsPort, IsValidImage, field_of, header_at}
-use Rattle.box_images.specs.Bodies.{AreCutInside, Edges, EndsAtEdges, IsBody, IsCut, IsCutInside, IsEdge, cuts_on, range_edges}
+use Rattle.box_images.specs.Fields.{AreComparable, greatest_of, greatest_on, side_of, value_of}
+use Rattle.box_images.specs.Images.{CanCompare, IsAddress, IsImageOfEchoReply, IsImageOfReturn, IsPort, IsValidImage, field_of}
+use Rattle.box_images.specs.Bodies.{AreCutInside, Edges, IsBody, IsCut, IsCutInside, IsEdge, cuts_on, range_edges}
 use Rattle.box_images.specs.Laws.{AlignedBodiesCompose, AnswersCompare, BodiesAreAligned, CutsAreInside, EndsCompose, ImagesFit, NarrowedAreAligned, OpensCompare}
 use Rattle.box_images.specs.declared.fields.Field.{Field}
 use Rattle.box_images.specs.declared.fields.Field.TheVariants.{Fixed, Of}
@@ -19,7 +18,7 @@ use Rattle.box_images.specs.declared.fields.Side.{Side}
 use Rattle.box_images.specs.declared.fields.Side.TheVariants.{Proto, Src, Dst, P, Q}
 use Rattle.box_images.specs.declared.images.Image.{Image}
 use Rattle.box_images.proofs.BodyLemmas.{body_through, ends_through}
-use Rattle.box_images.proofs.SideLemmas.{number_in_side, side_begins, side_valid, side_within}
+use Rattle.box_images.proofs.SideLemmas.{number_in_side, side_begins, side_within}
 
 -- ---- values
 
@@ -52,7 +51,8 @@ cut_past_end : (cuts : CutLists) (edges : Edges) (body part : Box5) → IsBody b
 cut_past_end cuts edges body part b cut s lt e =
     let begins = side_begins body part b.low s in
     let some = (side_within body part b.within s).valid in
-    All-contains (λ (k : Field × ℕ). IsCutInside cuts part k.0 k.1) edges (Of s e.0, (side_of body s).1 + 1 + e.0) cut e.1 ((side_of body s).1 + 1) refl (omega arith) (omega arith)
+    All-contains (λ (k : Field × ℕ). IsCutInside cuts part k.0 k.1) edges (Of s e.0, (side_of body s).1 + 1 + e.0) cut e.1
+    ((side_of body s).1 + 1) refl (omega arith) (omega arith)
 
 pub bodies_are_aligned : BodiesAreAligned
 bodies_are_aligned cuts edges body part b e cut =
@@ -66,9 +66,10 @@ bodies_are_aligned cuts edges body part b e cut =
         (cases_lt (side_of body s).1 (side_of part s).1))
         (e.ends s)
 
-inside : (cuts : CutLists) (part : Box5) (greatest : ℕ) (f : Field) (v : ℕ) → greatest_of f part ≤ greatest → IsCut cuts greatest f v → IsCutInside cuts part f v
+inside : (cuts : CutLists) (part : Box5) (greatest : ℕ) (f : Field) (v : ℕ) → greatest_of f part ≤ greatest → IsCut cuts greatest f v
+    → IsCutInside cuts part f v
 inside cuts part greatest (Fixed n) v fits c = tt
-inside cuts part greatest (Of s add) v fits c = λ x e some le. c x e (omega arith)
+inside cuts part greatest (Of s add) v fits c = λ x e some le. c x e (omega arith) (omega arith)
 
 pub cuts_are_inside : CutsAreInside
 cuts_are_inside cuts i s v valid c = inside cuts i.part (greatest_on s) (field_of i s) v (valid.fits s) c

@@ -1,15 +1,15 @@
 -- What is told of one field, of two, and of all five.
-use Rattle.std.proofs.Common.{◌≡◌, ℕ, ◌≤◌, ◌<◌, ◌+◌, ◌⊎◌, ◌++◌, ◌&&◌, ◌==◌, ◌↔◌, IsTrue, Bool, true, false, Option, Some, IfSome, refl, ap, sym, subst, ◌∙◌, arith}
+use Rattle.std.proofs.Common.{◌≡◌, ℕ, ◌≤◌, ◌+◌, ◌⊎◌, ◌++◌, ◌&&◌, ◌==◌, ◌↔◌, IsTrue, Bool, true, false, Option, Some, IfSome, refl, ap, sym, subst, ◌∙◌, arith}
 use Rattle.std.proofs.lemmas.Bool.Decides.{nat_tests}
 use Rattle.vpc_base.specs.declared.headers.Header.{Header}
 use Rattle.header_boxes.specs.Boxes.{IsValid, common_box, holds, in_range}
 use Rattle.header_boxes.specs.declared.boxes.Box5.{Box5}
-use Rattle.box_images.specs.Fields.{side_of, value_of}
+use Rattle.box_images.specs.Fields.{side_of}
 use Rattle.header_boxes.proofs.Held.{holds-common_box}
 use Rattle.header_boxes.proofs.Order.{same_fields}
 use Rattle.box_images.specs.Images.{header_at}
-use Rattle.box_images.specs.Bodies.{Edges, meeting_edges, range_edges, same_edges}
-use Rattle.box_images.specs.Parts.{IsBoth, IsTold, ending_at}
+use Rattle.box_images.specs.Bodies.{Edges, same_edges}
+use Rattle.box_images.specs.Parts.{IsBoth, IsTold, TellsRange, TellsSame, ending_at}
 use Rattle.box_images.specs.declared.fields.Field.{Field}
 use Rattle.box_images.specs.declared.fields.Field.TheVariants.{Of}
 use Rattle.box_images.specs.declared.fields.Side.{Side}
@@ -25,21 +25,23 @@ AreAlike r add lo hi x = (n : ℕ) → r.0 ≤ n → n ≤ x → in_range (lo, h
 pub told_of_field : (b body : Box5) (f : Field) (s : Side) (add lo hi x : ℕ) (r : ℕ × ℕ) (told : Bool) → IsValid b → f ≡ Of s add → r ≡ side_of b s
     → r.0 ≤ x → x ≤ r.1 → (x ≡ r.1) ⊎ (x + 1 + add ≡ lo) ⊎ (x + 1 + add ≡ hi + 1) → AreAlike r add lo hi x
     → body ≡ ending_at b s x → told ≡ in_range (lo, hi) (r.0 + add)
-    → IsTold (range_edges f lo hi) b (λ h. in_range (lo, hi) (value_of f h)) (record { body = body; told = told })
+    → TellsRange f lo hi b (record { body = body; told = told })
 told_of_field b body f s add lo hi x r told v ef er some lower edge alike eb et =
     let k = told_of_ending b s add lo hi x v
     (subst (λ (t : ℕ × ℕ). t.0 ≤ x) er some)
     (subst (λ (t : ℕ × ℕ). x ≤ t.1) er lower)
     (subst (λ (t : ℕ × ℕ). (x ≡ t.1) ⊎ (x + 1 + add ≡ lo) ⊎ (x + 1 + add ≡ hi + 1)) er edge)
     (subst (λ (t : ℕ × ℕ). AreAlike t add lo hi x) er alike) in
-    let kt = subst (λ (t : Bool). IsTold (range_edges (Of s add) lo hi) b (λ h. in_range (lo, hi) (value_of (Of s add) h)) (record { body = ending_at b s x; told = t })) (sym (et ∙ ap (λ (t : ℕ × ℕ). in_range (lo, hi) (t.0 + add)) er)) k in
-    let kb = subst (λ (c : Box5). IsTold (range_edges (Of s add) lo hi) b (λ h. in_range (lo, hi) (value_of (Of s add) h)) (record { body = c; told = told })) (sym eb) kt in
-    subst (λ (g : Field). IsTold (range_edges g lo hi) b (λ h. in_range (lo, hi) (value_of g h)) (record { body = body; told = told })) (sym ef) kb
+    let kt = subst (λ (t : Bool). TellsRange (Of s add) lo hi b (record { body = ending_at b s x; told = t }))
+    (sym (et ∙ ap (λ (t : ℕ × ℕ). in_range (lo, hi) (t.0 + add)) er)) k in
+    let kb = subst (λ (c : Box5). TellsRange (Of s add) lo hi b (record { body = c; told = told })) (sym eb) kt in
+    subst (λ (g : Field). TellsRange g lo hi b (record { body = body; told = told })) (sym ef) kb
 
 -- ---- two tests
 
 -- where the first doesn't hold
-pub told_by_first : (few more : Edges) (part : Box5) (s t : Header → Bool) (x : Part Bool) → x.told ≡ false → IsTold few part s x → IsTold (few ++ more) part (λ h. s h && t h) x
+pub told_by_first : (few more : Edges) (part : Box5) (s t : Header → Bool) (x : Part Bool) → x.told ≡ false → IsTold few part s x
+    → IsTold (few ++ more) part (λ h. s h && t h) x
 told_by_first few more part s t x e k = record {
   told = λ h i. fails (s h) (t h) x.told e (k.told h i);
   body = k.body;
@@ -51,7 +53,8 @@ told_by_first few more part s t x e k = record {
     fails false b v e f = e
 
 -- where the second doesn't
-pub told_by_second : (few more : Edges) (part : Box5) (s t : Header → Bool) (x : Part Bool) → x.told ≡ false → IsTold more part t x → IsTold (few ++ more) part (λ h. s h && t h) x
+pub told_by_second : (few more : Edges) (part : Box5) (s t : Header → Bool) (x : Part Bool) → x.told ≡ false → IsTold more part t x
+    → IsTold (few ++ more) part (λ h. s h && t h) x
 told_by_second few more part s t x e k = record {
   told = λ h i. fails (s h) (t h) x.told e (k.told h i);
   body = k.body;
@@ -63,11 +66,13 @@ told_by_second few more part s t x e k = record {
     fails false b v e f = e
 
 -- where both hold
-pub told_by_both : (few more : Edges) (part body : Box5) (s t : Header → Bool) (x y : Part Bool) → x.told ≡ true → y.told ≡ true → body ≡ common_box x.body y.body
-    → IsTold few part s x → IsTold more part t y → IsTold (few ++ more) part (λ h. s h && t h) (record { body = body; told = true })
+pub told_by_both : (few more : Edges) (part body : Box5) (s t : Header → Bool) (x y : Part Bool) → x.told ≡ true → y.told ≡ true
+    → body ≡ common_box x.body y.body → IsTold few part s x → IsTold more part t y
+    → IsTold (few ++ more) part (λ h. s h && t h) (record { body = body; told = true })
 told_by_both few more part body s t x y ex ey eb k l =
     subst (λ (c : Box5). IsTold (few ++ more) part (λ h. s h && t h) (record { body = c; told = true })) (sym eb) (record {
-      told = λ h i. holding (s h) (t h) (holds h x.body) (holds h y.body) (sym (holds-common_box h x.body y.body) ∙ i) (λ j. sym ex ∙ k.told h j) (λ j. sym ey ∙ l.told h j);
+      told = λ h i. holding (s h) (t h) (holds h x.body) (holds h y.body) (sym (holds-common_box h x.body y.body) ∙ i)
+          (λ j. sym ex ∙ k.told h j) (λ j. sym ey ∙ l.told h j);
       body = body_of_both x.body y.body part k.body l.body;
       ends = ends_of_both few more x.body y.body part k.ends l.ends;
     })
@@ -115,11 +120,11 @@ same_headers a b told e = (λ t. same_if_numbers a b (sym e ∙ t), λ f. e ∙ 
 
 -- the two images are the same where all five fields are
 pub told_of_all : (part : Box5) (i j : Image) (proto src dst p q addresses ports ends all : Part Bool)
-    → IsTold (meeting_edges i.proto j.proto) part (λ h. value_of i.proto h == value_of j.proto h) proto
-    → IsTold (meeting_edges i.src j.src) part (λ h. value_of i.src h == value_of j.src h) src
-    → IsTold (meeting_edges i.dst j.dst) part (λ h. value_of i.dst h == value_of j.dst h) dst
-    → IsTold (meeting_edges i.p j.p) part (λ h. value_of i.p h == value_of j.p h) p
-    → IsTold (meeting_edges i.q j.q) part (λ h. value_of i.q h == value_of j.q h) q
+    → TellsSame i.proto j.proto part proto
+    → TellsSame i.src j.src part src
+    → TellsSame i.dst j.dst part dst
+    → TellsSame i.p j.p part p
+    → TellsSame i.q j.q part q
     → IsBoth src dst addresses → IsBoth p q ports → IsBoth addresses ports ends → IsBoth proto ends all
     → IsTold (same_edges i j) part (λ h. same_numbers (header_at i h) (header_at j h)) all
 told_of_all part i j proto src dst p q addresses ports ends all k1 k2 k3 k4 k5 l1 l2 l3 l4 =

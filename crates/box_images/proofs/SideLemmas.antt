@@ -3,7 +3,7 @@ use Rattle.std.proofs.Common.{◌≡◌, ℕ, ◌≤◌, ◌⊎◌, true, refl, 
 use Rattle.vpc_base.specs.declared.headers.Header.{Header}
 use Rattle.header_boxes.specs.Boxes.{IsRangeWithin, IsValid, IsWithin, holds, low_of}
 use Rattle.header_boxes.specs.declared.boxes.Box5.{Box5}
-use Rattle.header_boxes.proofs.Held.{holds_from_in, in_from_holds}
+use Rattle.header_boxes.proofs.Held.{in_from_holds}
 use Rattle.header_boxes.proofs.Order.{same_fields}
 use Rattle.box_images.specs.Fields.{number_of, side_of}
 use Rattle.box_images.specs.Parts.{ending_at}
@@ -68,7 +68,8 @@ end-ending_at b P x = refl
 end-ending_at b Q x = refl
 
 -- and the others as before
-pub end-ending_at_cases : (b : Box5) (s t : Side) (x : ℕ) → ((t ≡ s) × ((side_of (ending_at b s x) t).1 ≡ x)) ⊎ ((side_of (ending_at b s x) t).1 ≡ (side_of b t).1)
+pub end-ending_at_cases : (b : Box5) (s t : Side) (x : ℕ)
+    → ((t ≡ s) × ((side_of (ending_at b s x) t).1 ≡ x)) ⊎ ((side_of (ending_at b s x) t).1 ≡ (side_of b t).1)
 end-ending_at_cases b Proto Proto x = inl (refl, refl)
 end-ending_at_cases b Src Src x = inl (refl, refl)
 end-ending_at_cases b Dst Dst x = inl (refl, refl)

@@ -1,15 +1,15 @@
 -- Shifted ports and replies.
-use Rattle.std.proofs.Common.{◌≡◌, ℕ, zero, suc, ◌≤◌, ◌<◌, ◌+◌, ◌⊎◌, ◌∷◌, [], ◌++◌, ◌&&◌, nat_le, List, Bool, true, false, Option, Some, None, IfSome, refl, ap, sym, subst, ◌∙◌, arith, inl, inr, ⊎_elim}
+use Rattle.std.proofs.Common.{◌≡◌, ℕ, zero, suc, ◌≤◌, ◌<◌, ◌+◌, ◌⊎◌, ◌∷◌, [], List, Bool, true, false, Option, Some, None, IfSome, refl, ap, sym, subst, ◌∙◌, arith, inl, inr, ⊎_elim}
 use Rattle.std.proofs.lemmas.Bool.Decides.{nat_tests}
 use Rattle.std.specs.List.{Contains}
 use Rattle.vpc_base.specs.declared.headers.Header.{Header}
 use Rattle.header_boxes.specs.Boxes.{IsValid, IsWithin, holds, in_range, low_of}
 use Rattle.header_boxes.specs.declared.boxes.Box5.{Box5}
 use Rattle.header_boxes.proofs.Held.{holds_from_in, holds_low, valid_if_within}
-use Rattle.box_images.specs.Fields.{HasOffset, greatest_of, greatest_on, number_of, side_of, value_of}
-use Rattle.box_images.specs.Images.{IsAddress, IsImageOfAnswer, IsImageOfEchoReply, IsImageOfOpen, IsImageOfReturn, IsPort, IsValidImage}
-use Rattle.box_images.specs.Bodies.{Edges, EndsAtEdges, IsEdge, range_edges, reply_edges, shift_edges}
-use Rattle.box_images.specs.Parts.{IsTold, echo_image, exchanged_image, raised}
+use Rattle.box_images.specs.Fields.{HasOffset, greatest_of, side_of, value_of}
+use Rattle.box_images.specs.Images.{IsImageOfAnswer, IsImageOfOpen, IsPort, IsValidImage}
+use Rattle.box_images.specs.Bodies.{EndsAtEdges, range_edges}
+use Rattle.box_images.specs.Parts.{TellsRange, echo_image, exchanged_image, raised}
 use Rattle.box_images.specs.declared.fields.Field.{Field}
 use Rattle.box_images.specs.declared.fields.Field.TheVariants.{Fixed, Of}
 use Rattle.box_images.specs.declared.fields.Side.{Side}
@@ -42,22 +42,22 @@ range_of_value : (lo hi v : ℕ) → true ≡ in_range (lo, hi) v → (lo ≤ v)
 range_of_value lo hi v e = (grind (arith, nat_tests), grind (arith, nat_tests))
 
 -- all of its values are in the range
-pub value_told : (edges : Edges) (part : Box5) (f : Field) (lo hi : ℕ) (x : Part Bool) → IsTold edges part (λ h. in_range (lo, hi) (value_of f h)) x → x.told ≡ true
+pub value_told : (part : Box5) (f : Field) (lo hi : ℕ) (x : Part Bool) → TellsRange f lo hi part x → x.told ≡ true
     → (h : Header) → holds h x.body ≡ true → (lo ≤ value_of f h) × (value_of f h ≤ hi)
-value_told edges part f lo hi x k e h t = range_of_value lo hi (value_of f h) (sym e ∙ k.told h t)
+value_told part f lo hi x k e h t = range_of_value lo hi (value_of f h) (sym e ∙ k.told h t)
 
 -- the greatest one too
-pub greatest_told : (edges : Edges) (part : Box5) (f : Field) (lo hi : ℕ) (x : Part Bool) → IsTold edges part (λ h. in_range (lo, hi) (value_of f h)) x → x.told ≡ true
-    → greatest_of f x.body ≤ hi
-greatest_told edges part f lo hi x k e =
-    subst (λ (n : ℕ). n ≤ hi) (value_of-high f x.body) (value_told edges part f lo hi x k e (high_of x.body) (holds_high x.body (valid_if_within x.body part k.body.within))).1
+pub greatest_told : (part : Box5) (f : Field) (lo hi : ℕ) (x : Part Bool) → TellsRange f lo hi part x → x.told ≡ true → greatest_of f x.body ≤ hi
+greatest_told part f lo hi x k e =
+    subst (λ (n : ℕ). n ≤ hi) (value_of-high f x.body)
+    (value_told part f lo hi x k e (high_of x.body) (holds_high x.body (valid_if_within x.body part k.body.within))).1
 
 -- ---- shifted ports
 
-pub low_port_at : (i : Image) (x : Part Bool) → IsTold (range_edges i.p 0 1023) i.part (λ h. in_range (0, 1023) (value_of i.p h)) x → x.told ≡ true
+pub low_port_at : (i : Image) (x : Part Bool) → TellsRange i.p 0 1023 i.part x → x.told ≡ true
     → (h : Header) × (value_of i.p h < 1024)
 low_port_at i x k e =
-    let below = value_told (range_edges i.p 0 1023) i.part i.p 0 1023 x k e (high_of x.body) (holds_high x.body (valid_if_within x.body i.part k.body.within)) in
+    let below = value_told i.part i.p 0 1023 x k e (high_of x.body) (holds_high x.body (valid_if_within x.body i.part k.body.within)) in
     let le = below.1 in
     (high_of x.body, omega arith)
 
@@ -69,7 +69,8 @@ second_of a b x (suc k, lt, e) other = (k, omega arith, e)
 pub ends_past_zero : (f : Field) (n : ℕ) (body part : Box5) → EndsAtEdges (range_edges f 0 n) body part → EndsAtEdges ((f, n + 1) ∷ []) body part
 ends_past_zero f n body part k = record { ends = λ s. ⊎_elim inl (λ g. inr (g.0, past s g.0 g.1)) (k.ends s) }
   where
-    past : (s : Side) (add : ℕ) → Contains (range_edges f 0 n) (Of s add, (side_of body s).1 + 1 + add) → Contains {X = Field × ℕ} ((f, n + 1) ∷ []) (Of s add, (side_of body s).1 + 1 + add)
+    past : (s : Side) (add : ℕ) → Contains (range_edges f 0 n) (Of s add, (side_of body s).1 + 1 + add)
+        → Contains {X = Field × ℕ} ((f, n + 1) ∷ []) (Of s add, (side_of body s).1 + 1 + add)
     past s add g = second_of {X = Field × ℕ} (f, 0) (f, n + 1) _ g (λ e. let z = ap (λ (x : Field × ℕ). x.1) e in absurd (omega arith))
 
 -- what is shifted still fits
@@ -81,12 +82,13 @@ raised_fits b (Of s add) o le = record { offset = inr (⊎_elim (λ e. omega ari
 abbrev pub IsShifted : Field → Bool → Field → Type 0
 IsShifted f told g = ((told ≡ true) × (g ≡ raised f)) ⊎ (g ≡ f)
 
-pub valid_shifted : (i : Image) (x : Part Bool) (g : Field) → IsValidImage i → IsTold (range_edges i.p 0 1023) i.part (λ h. in_range (0, 1023) (value_of i.p h)) x → IsShifted i.p x.told g
+pub valid_shifted : (i : Image) (x : Part Bool) (g : Field) → IsValidImage i → TellsRange i.p 0 1023 i.part x → IsShifted i.p x.told g
     → IsValidImage (record i { part = x.body; p = g })
 valid_shifted i x g v k shifted =
-    valid_if_fit (record i { part = x.body; p = g }) (valid_if_within x.body i.part k.body.within) (over Proto i.proto (fits_side i v Proto)) (over Src i.src (fits_side i v Src)) (over Dst i.dst (fits_side i v Dst))
+    valid_if_fit (record i { part = x.body; p = g }) (valid_if_within x.body i.part k.body.within)
+    (over Proto i.proto (fits_side i v Proto)) (over Src i.src (fits_side i v Src)) (over Dst i.dst (fits_side i v Dst))
     (⊎_elim
-    (λ e. subst (FitsSide x.body P) (sym e.1) (raised_fits x.body i.p (v.offset P) (greatest_told (range_edges i.p 0 1023) i.part i.p 0 1023 x k e.0)))
+    (λ e. subst (FitsSide x.body P) (sym e.1) (raised_fits x.body i.p (v.offset P) (greatest_told i.part i.p 0 1023 x k e.0)))
     (λ e. subst (FitsSide x.body P) (sym e) (over P i.p (fits_side i v P)))
     shifted)
     (over Q i.q (fits_side i v Q))
@@ -94,7 +96,7 @@ valid_shifted i x g v k shifted =
     over : (s : Side) (f : Field) → FitsSide i.part s f → FitsSide x.body s f
     over s f fit = fits_within x.body i.part s f k.body.within fit
 
-pub open_shifted : (addresses : List ℕ) (i : Image) (x : Part Bool) (g : Field) → IsTold (range_edges i.p 0 1023) i.part (λ h. in_range (0, 1023) (value_of i.p h)) x → IsShifted i.p x.told g
+pub open_shifted : (addresses : List ℕ) (i : Image) (x : Part Bool) (g : Field) → TellsRange i.p 0 1023 i.part x → IsShifted i.p x.told g
     → IsImageOfOpen addresses i → IsImageOfOpen addresses (record i { part = x.body; p = g })
 open_shifted addresses i x g k shifted o = record {
   proto = o.proto;
@@ -107,7 +109,8 @@ open_shifted addresses i x g k shifted o = record {
     port : x.told ≡ true → g ≡ raised i.p → IsPort P g
     port t e = ⊎_elim
         (λ f. inr (e ∙ ap raised f))
-        (λ f. let le = subst (λ (u : Field). greatest_of u x.body ≤ 1023) f (greatest_told (range_edges i.p 0 1023) i.part i.p 0 1023 x k t) in absurd (omega arith))
+        (λ f. let le = subst (λ (u : Field). greatest_of u x.body ≤ 1023) f (greatest_told i.part i.p 0 1023 x k t) in
+        absurd (omega arith))
         o.p
 
 -- ---- replies
@@ -176,10 +179,11 @@ no_icmp body v none = decided (in_range body.proto 1) refl
     decided true e = absurd (let k = none (record (low_of body) { proto = 1 }) (held e) in grind (arith, nat_tests))
     decided false e = refl
 
-pub answer_exchanged : (addresses : List ℕ) (i : Image) (x : Part Bool) → IsTold (range_edges i.proto 1 1) i.part (λ h. in_range (1, 1) (value_of i.proto h)) x → x.told ≡ false
+pub answer_exchanged : (addresses : List ℕ) (i : Image) (x : Part Bool) → TellsRange i.proto 1 1 i.part x → x.told ≡ false
     → IsImageOfOpen addresses i → IsImageOfAnswer addresses (exchanged_image i x.body)
 answer_exchanged addresses i x k e o = inr (record {
-  other = no_icmp x.body (valid_if_within x.body i.part k.body.within) (λ h t. subst (λ (f : Field). false ≡ in_range (1, 1) (value_of f h)) o.proto (sym e ∙ k.told h t));
+  other = no_icmp x.body (valid_if_within x.body i.part k.body.within)
+      (λ h t. subst (λ (f : Field). false ≡ in_range (1, 1) (value_of f h)) o.proto (sym e ∙ k.told h t));
   proto = o.proto;
   src = o.dst;
   dst = o.src;
@@ -188,7 +192,8 @@ answer_exchanged addresses i x k e o = inr (record {
 })
 
 -- a body whose headers are all ICMP
-only_icmp : (body middle : Box5) (f : Field) → f ≡ Of Proto 0 → IsWithin body middle → IsValid middle → ((h : Header) → holds h middle ≡ true → (1 ≤ value_of f h) × (value_of f h ≤ 1)) → body.proto ≡ (1, 1)
+only_icmp : (body middle : Box5) (f : Field) → f ≡ Of Proto 0 → IsWithin body middle → IsValid middle
+    → ((h : Header) → holds h middle ≡ true → (1 ≤ value_of f h) × (value_of f h ≤ 1)) → body.proto ≡ (1, 1)
 only_icmp body middle f e w v all =
     let low = subst (λ (g : Field). 1 ≤ value_of g (low_of middle)) e (all (low_of middle) (holds_low middle v)).0 in
     let high = subst (λ (g : Field). value_of g (high_of middle) ≤ 1) e (all (high_of middle) (holds_high middle v)).1 in
@@ -199,10 +204,11 @@ only_icmp body middle f e w v all =
     let last : body.proto.1 ≡ 1 = omega arith in
     ap (λ (n : ℕ). (n, body.proto.1)) first ∙ ap (λ (n : ℕ). (1, n)) last
 
-pub answer_echo : (addresses : List ℕ) (i : Image) (x : Part Bool) (body : Box5) → IsTold (range_edges i.proto 1 1) i.part (λ h. in_range (1, 1) (value_of i.proto h)) x → x.told ≡ true → IsWithin body x.body
+pub answer_echo : (addresses : List ℕ) (i : Image) (x : Part Bool) (body : Box5) → TellsRange i.proto 1 1 i.part x → x.told ≡ true
+    → IsWithin body x.body
     → IsImageOfOpen addresses i → IsImageOfAnswer addresses (echo_image i body)
 answer_echo addresses i x body k e w o = inl (record {
-  icmp = only_icmp body x.body i.proto o.proto w (valid_if_within x.body i.part k.body.within) (value_told (range_edges i.proto 1 1) i.part i.proto 1 1 x k e);
+  icmp = only_icmp body x.body i.proto o.proto w (valid_if_within x.body i.part k.body.within) (value_told i.part i.proto 1 1 x k e);
   proto = o.proto;
   src = o.dst;
   dst = o.src;

@@ -64,15 +64,15 @@ cuts_on cuts Dst = cuts.addr
 cuts_on cuts P = cuts.p
 cuts_on cuts Q = cuts.q
 
--- the field comes to the value at a cut of the side it reads, unless that lies outside the part
+-- where the field comes to the value inside the part, that is at a cut of the side it reads
 abbrev pub IsCutInside : CutLists → Box5 → Field → ℕ → Type 0
 IsCutInside cuts part (Fixed n) v = Unit {0}
 IsCutInside cuts part (Of s add) v = (x : ℕ) → x + add ≡ v → (side_of part s).0 < x → x ≤ (side_of part s).1 → Contains (cuts_on cuts s) x
 
--- the value, less what the field adds, is a cut of the side it reads; a value past the greatest one is never had, and needs no cut
+-- the value, less what the field adds, is a cut of the side it reads; 0 divides nothing, and no value is past the greatest one
 abbrev pub IsCut : CutLists → ℕ → Field → ℕ → Type 0
 IsCut cuts greatest (Fixed n) v = Unit {0}
-IsCut cuts greatest (Of s add) v = (x : ℕ) → x + add ≡ v → v ≤ greatest → Contains (cuts_on cuts s) x
+IsCut cuts greatest (Of s add) v = (x : ℕ) → x + add ≡ v → 0 < x → v ≤ greatest → Contains (cuts_on cuts s) x
 
 -- all edges that lie inside the part are at cuts
 abbrev pub AreCutInside : CutLists → Box5 → Edges → Type 0

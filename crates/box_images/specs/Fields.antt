@@ -1,5 +1,5 @@
 -- Fields: the numbers of a header, and expressions for them over the headers of a request.
-use Rattle.std.specs.Prelude.{ℕ, ◌≡◌, ◌≤◌, ◌+◌, ◌⊎◌}
+use Rattle.std.specs.Prelude.{ℕ, ◌≡◌, ◌+◌, ◌⊎◌}
 use Rattle.vpc_base.specs.declared.headers.Header.{Header}
 use Rattle.header_boxes.specs.declared.boxes.Box5.{Box5}
 use Rattle.box_images.specs.declared.fields.Field.{Field}

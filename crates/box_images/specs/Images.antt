@@ -21,13 +21,13 @@ field_of i Q = i.q
 abbrev pub header_at : Image → Header → Header
 header_at i h = record { proto = value_of i.proto h; src = value_of i.src h; dst = value_of i.dst h; p = value_of i.p h; q = value_of i.q h }
 
--- a NAT gateway tries port p first, or p plus 1,024 where p is a well-known port (profile)
-abbrev pub shifted_port : ℕ → ℕ
-shifted_port p = if nat_lt p 1024 then p + 1024 else p
+-- the port that a NAT gateway tries first: p, or p plus 1,024 where p is a well-known port (profile)
+abbrev pub first_port : ℕ → ℕ
+first_port p = if nat_lt p 1024 then p + 1024 else p
 
 -- the header with that port
 abbrev pub shifted : Header → Header
-shifted h = record h { p = shifted_port h.p }
+shifted h = record h { p = first_port h.p }
 
 -- the part holds some header, 0 or 1,024 is added, and no field has a value over the part that is too great for its side
 pub record IsValidImage (i : Image) : Type 0 where

@@ -1,9 +1,10 @@
 -- How parts with answers are put together. Public clauses don't cite these: they say what an answer means.
-use Rattle.std.specs.Prelude.{ℕ, ◌≡◌, ◌+◌, ◌++◌, ◌&&◌, Bool, true}
+use Rattle.std.specs.Prelude.{ℕ, ◌≡◌, ◌+◌, ◌++◌, ◌==◌, ◌&&◌, Bool, true}
 use Rattle.vpc_base.specs.declared.headers.Header.{Header}
-use Rattle.header_boxes.specs.Boxes.{holds}
+use Rattle.header_boxes.specs.Boxes.{holds, in_range}
 use Rattle.header_boxes.specs.declared.boxes.Box5.{Box5}
-use Rattle.box_images.specs.Bodies.{Edges, EndsAtEdges, IsBody}
+use Rattle.box_images.specs.Fields.{value_of}
+use Rattle.box_images.specs.Bodies.{Edges, EndsAtEdges, IsBody, meeting_edges, range_edges}
 use Rattle.box_images.specs.declared.fields.Field.{Field}
 use Rattle.box_images.specs.declared.fields.Field.TheVariants.{Fixed, Of}
 use Rattle.box_images.specs.declared.fields.Side.{Side}
@@ -24,6 +25,14 @@ pub record IsTold (edges : Edges) (part : Box5) (test : Header → Bool) (x : Pa
   pub told : (h : Header) → holds h x.body ≡ true → x.told ≡ test h
   pub body : IsBody x.body part
   pub ends : EndsAtEdges edges x.body part
+
+-- it is told whether the field lies in the range
+abbrev pub TellsRange : Field → ℕ → ℕ → Box5 → Part Bool → Type 0
+TellsRange f lo hi part x = IsTold (range_edges f lo hi) part (λ h. in_range (lo, hi) (value_of f h)) x
+
+-- it is told whether the two fields are the same
+abbrev pub TellsSame : Field → Field → Box5 → Part Bool → Type 0
+TellsSame f g part x = IsTold (meeting_edges f g) part (λ h. value_of f h == value_of g h) x
 
 -- whatever tests the two tell, this tells whether both hold
 abbrev pub IsBoth : Part Bool → Part Bool → Part Bool → Type 0

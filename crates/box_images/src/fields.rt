@@ -2,7 +2,7 @@
 ghost use Rattle.std.specs.Prelude.{◌≡◌, ◌≤◌, ◌<◌, ◌^◌};
 ghost use Rattle.box_images.specs.Fields.{number_of, value_of};
 ghost use Rattle.box_images.specs.Parts.{raised};
-ghost use Rattle.vpc_base.specs.declared.headers.Header.{Header as Packet};
+ghost use Rattle.vpc_base.specs.declared.headers.Header.{Header};
 
 use vpc_base::Header;
 
@@ -16,8 +16,8 @@ pub enum Side {
     Q,
 }
 
-/// What stands in a field of a translated header: a constant, or the request's number on a side with 0 or
-/// 1,024 added, by which a NAT gateway shifts a port (a choice of this project's profile).
+/// What stands in a field of a translated header: a constant, or the request's number on a side
+/// with 0 or 1,024 added, by which a NAT gateway shifts a port (a choice of this project's profile).
 #[derive(Clone, Copy, Debug, PartialEq, Eq)]
 pub enum Field {
     Fixed(u32),
@@ -50,7 +50,7 @@ impl Field {
 
     // 1,024 more than a field that is below 1,024 at some header.
     pub(crate) fn raised(self) -> Field
-        requires { (h : Packet) × (value_of self h < 1024) }
+        requires { (h : Header) × (value_of self h < 1024) }
         ensures { result ≡ raised self }
     {
         match self {

@@ -2,7 +2,7 @@
 ghost use Rattle.std.specs.Prelude.{ℕ, ◌≡◌, List, Contains, true};
 ghost use Rattle.header_boxes.specs.Boxes.{IsValid, IsWithin, holds};
 ghost use Rattle.vpc_base.specs.Header.{IsHeader};
-ghost use Rattle.vpc_base.specs.declared.headers.Header.{Header as Packet};
+ghost use Rattle.vpc_base.specs.declared.headers.Header.{Header};
 ghost use Rattle.box_images.specs.Images.{IsImageOfOpen, IsValidImage, KeepsKind, header_at};
 ghost use Rattle.box_images.specs.declared.fields.Field.TheVariants.{Fixed};
 
@@ -11,8 +11,8 @@ use crate::{Field, Side};
 use header_boxes::Box5;
 use vpc_base::Header;
 
-/// What a walk makes of each header of a box of requests: five fields, each of them a constant or a field of
-/// the request.
+/// What a walk makes of each header of a box of requests: five fields, each of them a constant or a
+/// field of the request.
 #[derive(Clone, Copy, Debug, PartialEq, Eq)]
 pub struct Image {
     pub part: Box5,
@@ -23,7 +23,8 @@ pub struct Image {
     pub q: Field,
 }
 
-/// An answer, and the headers of the request that it holds for.
+/// An answer, and the requests that it holds for: a part of those that were asked about, with their
+/// low corner.
 #[derive(Clone, Copy, Debug, PartialEq, Eq)]
 pub struct Part<T> {
     pub body: Box5,
@@ -35,7 +36,7 @@ impl Image {
     pub fn of(b: &Box5) -> Image
         requires { IsValid b.now }
         ensures part { result.part ≡ b.now }
-        ensures value { (h : Packet) → header_at result h ≡ h }
+        ensures value { (h : Header) → header_at result h ≡ h }
         ensures valid { IsValidImage result }
         ensures kind { (addresses : List ℕ) → IsImageOfOpen addresses result }
     {
@@ -84,7 +85,8 @@ impl Image {
         requires { IsValidImage self.now }
         ensures image { result ≡ record self.now { src = Fixed a } }
         ensures valid { IsValidImage result }
-        ensures kind { (addresses : List ℕ) → Contains addresses a → KeepsKind addresses self.now result }
+        ensures kind { (addresses : List ℕ) → Contains addresses a
+            → KeepsKind addresses self.now result }
     {
         Image {
             src: Field::Fixed(a),
@@ -97,7 +99,8 @@ impl Image {
         requires { IsValidImage self.now }
         ensures image { result ≡ record self.now { dst = Fixed a } }
         ensures valid { IsValidImage result }
-        ensures kind { (addresses : List ℕ) → Contains addresses a → KeepsKind addresses self.now result }
+        ensures kind { (addresses : List ℕ) → Contains addresses a
+            → KeepsKind addresses self.now result }
     {
         Image {
             dst: Field::Fixed(a),

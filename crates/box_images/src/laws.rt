@@ -1,5 +1,5 @@
-// Laws of bodies and images, on which look-ups over images rest. The functions do nothing: their contracts
-// say the laws.
+// Laws of bodies and images, on which look-ups over images rest. The functions do nothing: their
+// contracts say the laws.
 ghost use Rattle.box_images.specs.Laws.{AlignedBodiesCompose, AnswersCompare, BodiesAreAligned, BodiesCompose, BodiesHoldLow, CutsAreInside, EndsCompose, ImagesFit, NarrowedAreAligned, OpensCompare};
 
 /// A valid image has a header of its part as a header: each field fits its size.
@@ -32,19 +32,19 @@ pub fn ends_compose()
     ensures { EndsCompose }
 {}
 
-/// A body that ends at edges is aligned to cuts where those edges that lie inside the part are at cuts.
+/// A body that ends at edges is aligned to cuts where all edges inside the part are at cuts.
 pub fn bodies_are_aligned()
     ensures { BodiesAreAligned }
 {}
 
-/// A value of a field that is, less what the field adds, a cut of the side that it reads, is one inside the
-/// part, or is never had there.
+/// A value of a field that is, less what the field adds, a cut of the side that it reads, is a cut
+/// inside the part or isn't had there.
 pub fn cuts_are_inside()
     ensures { CutsAreInside }
 {}
 
-/// The body that `narrow` answers for lo to hi is aligned where lo and hi plus 1 are cuts, less what the
-/// field adds.
+/// The body that `narrow` answers for lo to hi is aligned where lo and hi plus 1, less what the
+/// field adds, are cuts.
 pub fn narrowed_are_aligned()
     ensures { NarrowedAreAligned }
 {}

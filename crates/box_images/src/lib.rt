@@ -1,6 +1,6 @@
-//! Headers of requests as a walk changes them, for all headers of a box at once: each field is a constant or
-//! a field of the request. A question about them is answered on a part of the box on whose headers the
-//! answer is one.
+//! Headers of requests as a walk changes them, for all headers of a box at once: each field is a
+//! constant or a field of the request. A question about them is answered on a part of the box on all
+//! of whose headers the answer is the same.
 #![tactic(auto)]
 
 mod fields;

@@ -1,12 +1,12 @@
 // Questions about fields of an image.
-ghost use Rattle.std.specs.Prelude.{◌≡◌, ◌≤◌, ◌==◌, ◌↔◌, ℕ, IsTrue, true};
+ghost use Rattle.std.specs.Prelude.{◌≡◌, ◌≤◌, ◌↔◌, ℕ, IsTrue, true};
 ghost use Rattle.header_boxes.specs.Boxes.{IsValid, holds, in_range};
-ghost use Rattle.header_boxes.specs.declared.boxes.Box5.{Box5 as Whole};
-ghost use Rattle.vpc_base.specs.declared.headers.Header.{Header as Packet};
-ghost use Rattle.box_images.specs.Fields.{AreComparable, number_of, value_of};
+ghost use Rattle.header_boxes.specs.declared.boxes.Box5.{Box5};
+ghost use Rattle.vpc_base.specs.declared.headers.Header.{Header};
+ghost use Rattle.box_images.specs.Fields.{AreComparable, number_of};
 ghost use Rattle.box_images.specs.Images.{CanCompare, IsValidImage, field_of, header_at};
-ghost use Rattle.box_images.specs.Bodies.{EndsAtEdges, IsBody, meeting_edges, range_edges, same_edges};
-ghost use Rattle.box_images.specs.Parts.{IsBoth, IsTold};
+ghost use Rattle.box_images.specs.Bodies.{EndsAtEdges, IsBody, range_edges, same_edges};
+ghost use Rattle.box_images.specs.Parts.{IsBoth, TellsRange, TellsSame};
 
 use crate::sides::{ending_at, last_alike, side_of};
 use crate::{Field, Image, Part, Side};
@@ -22,7 +22,7 @@ fn is_between(x: u64, lo: u32, hi: u32) -> bool
 pub fn narrow_field(part: &Box5, field: Field, lo: u32, hi: u32) -> Part<bool>
     requires valid { IsValid part.now }
     requires ordered { lo ≤ hi }
-    ensures { IsTold (range_edges field lo hi) part.now (λ h. in_range (lo, hi) (value_of field h)) result }
+    ensures { TellsRange field lo hi part.now result }
 {
     match field {
         Field::Fixed(n) => Part {
@@ -43,7 +43,7 @@ pub fn narrow_field(part: &Box5, field: Field, lo: u32, hi: u32) -> Part<bool>
 fn compare(part: &Box5, a: Field, b: Field) -> Part<bool>
     requires valid { IsValid part.now }
     requires comparable { AreComparable a b }
-    ensures { IsTold (meeting_edges a b) part.now (λ h. value_of a h == value_of b h) result }
+    ensures { TellsSame a b part.now result }
 {
     match (a, b) {
         (Field::Of(_, add), Field::Of(_, more)) => Part {
@@ -61,7 +61,7 @@ fn compare(part: &Box5, a: Field, b: Field) -> Part<bool>
 
 // Whether both tests hold.
 fn both(a: &Part<bool>, b: &Part<bool>) -> Part<bool>
-    requires { (part : Whole) × (IsBody a.now.body part × IsBody b.now.body part) }
+    requires { (part : Box5) × (IsBody a.now.body part × IsBody b.now.body part) }
     ensures { IsBoth a.now b.now result }
 {
     if !a.told {
@@ -77,23 +77,25 @@ fn both(a: &Part<bool>, b: &Part<bool>) -> Part<bool>
 }
 
 impl Image {
-    /// Whether the field on the side lies in lo to hi.
+    /// Whether the field on the side lies in lo to hi, numbers of that side. A rule whose range is
+    /// reversed matches nothing, and isn't asked.
     pub fn narrow(&self, side: Side, lo: u32, hi: u32) -> Part<bool>
         requires valid { IsValidImage self.now }
         requires ordered { lo ≤ hi }
-        ensures told { (h : Packet) → holds h result.body ≡ true
+        ensures told { (h : Header) → holds h result.body ≡ true
             → result.told ≡ in_range (lo, hi) (number_of (header_at self.now h) side) }
         ensures body { IsBody result.body self.now.part }
-        ensures ends { EndsAtEdges (range_edges (field_of self.now side) lo hi) result.body self.now.part }
+        ensures ends { let edges = range_edges (field_of self.now side) lo hi in
+            EndsAtEdges edges result.body self.now.part }
     {
         narrow_field(&self.part, self.field(side), lo, hi)
     }
 
-    /// Whether the two images are the same.
+    /// Whether the two images have the same header.
     pub fn same(&self, other: &Image) -> Part<bool>
         requires valid { IsValidImage self.now }
         requires comparable { CanCompare self.now other.now }
-        ensures told { (h : Packet) → holds h result.body ≡ true
+        ensures told { (h : Header) → holds h result.body ≡ true
             → IsTrue result.told ↔ (header_at self.now h ≡ header_at other.now h) }
         ensures body { IsBody result.body self.now.part }
         ensures ends { EndsAtEdges (same_edges self.now other.now) result.body self.now.part }

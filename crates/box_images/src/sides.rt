@@ -1,7 +1,7 @@
 // The sides of a box by name, and lower upper ends.
 ghost use Rattle.std.specs.Prelude.{ℕ, ◌≡◌, ◌≤◌, ◌<◌, ◌+◌, ◌⊎◌};
 ghost use Rattle.box_images.specs.Fields.{greatest_on, side_of};
-ghost use Rattle.box_images.specs.declared.fields.Side.{Side as WhichSide};
+ghost use Rattle.box_images.specs.declared.fields.Side.{Side};
 ghost use Rattle.box_images.specs.Parts.{ending_at};
 ghost use Rattle.header_boxes.specs.Boxes.{in_range};
 
@@ -45,7 +45,7 @@ fn copy32(side: (u32, u32)) -> (u32, u32)
 /// The box, with the bounds that its type puts on its sides.
 pub fn copy_of(b: &Box5) -> Box5
     ensures same { result ≡ b.now }
-    ensures fits { (s : WhichSide) → (side_of result s).1 ≤ greatest_on s }
+    ensures fits { (s : Side) → (side_of result s).1 ≤ greatest_on s }
 {
     Box5 {
         proto: copy8(b.proto),
@@ -86,15 +86,16 @@ pub fn ending_at(b: &Box5, side: Side, end: u32) -> Box5
     lowered
 }
 
-/// The last number of a range up to which the numbers, with something added, are in lo to hi or not as
-/// the first one is.
+/// The last number of a range up to which the numbers, with something added, are in lo to hi, or
+/// aren't, as the first one.
 pub fn last_alike(range: (u32, u32), add: u16, lo: u32, hi: u32) -> u32
     requires some { range.0 ≤ range.1 }
     requires ordered { lo ≤ hi }
     ensures begins { range.0 ≤ result }
     ensures ends { result ≤ range.1 }
     ensures edge { (result ≡ range.1) ⊎ (result + 1 + add ≡ lo) ⊎ (result + 1 + add ≡ hi + 1) }
-    ensures alike { (x : ℕ) → range.0 ≤ x → x ≤ result → in_range (lo, hi) (x + add) ≡ in_range (lo, hi) (range.0 + add) }
+    ensures alike { (x : ℕ) → range.0 ≤ x → x ≤ result
+        → in_range (lo, hi) (x + add) ≡ in_range (lo, hi) (range.0 + add) }
 {
     let add = u32::from(add);
     let last = match lo.checked_sub(add) {

@@ -1,7 +1,7 @@
 // What no clause says: that the definitions compute, and each call on images worked out by hand.
 ghost use Rattle.std.specs.Prelude.{◌≡◌, ◌≤◌, ◌∷◌, [], List, IsTrue, false, true};
 ghost use Rattle.box_images.specs.Fields.{greatest_of, side_of, value_of};
-ghost use Rattle.box_images.specs.Images.{shifted_port};
+ghost use Rattle.box_images.specs.Images.{first_port};
 ghost use Rattle.box_images.specs.Bodies.{cuts_on, range_edges};
 ghost use Rattle.box_images.specs.declared.fields.Field.TheVariants.{Fixed, Of};
 ghost use Rattle.box_images.specs.declared.fields.Side.TheVariants.{Proto, Src, Dst, P, Q};
@@ -11,13 +11,16 @@ use crate::{Field, Image, Part, Side};
 use header_boxes::Box5;
 use vpc_base::Header;
 
-// A request from port 80 of 10.0.0.5 to HTTPS at 10.0.1.9, and a box around it.
+// Of a request from port 80, and of ports up to 1023.
 fn definitions_compute()
-    ensures value { value_of (Of P 1024) (record { proto = 6; src = 167772165; dst = 167772425; p = 80; q = 443 }) ≡ 1104 }
-    ensures constant { value_of (Fixed 7) (record { proto = 6; src = 167772165; dst = 167772425; p = 80; q = 443 }) ≡ 7 }
-    ensures greatest { greatest_of (Of P 1024) (record { proto = (6, 6); src = (0, 9); dst = (0, 9); p = (80, 1023); q = (443, 443) }) ≡ 2047 }
-    ensures shifted { shifted_port 1023 ≡ 2047 }
-    ensures kept { shifted_port 1024 ≡ 1024 }
+    ensures value { value_of (Of P 1024)
+        (record { proto = 6; src = 10; dst = 100; p = 80; q = 443 }) ≡ 1104 }
+    ensures constant { value_of (Fixed 7)
+        (record { proto = 6; src = 10; dst = 100; p = 80; q = 443 }) ≡ 7 }
+    ensures greatest { greatest_of (Of P 1024)
+        (record { proto = (6, 6); src = (1, 9); dst = (1, 9); p = (80, 1023); q = (443, 443) }) ≡ 2047 }
+    ensures shifted { first_port 1023 ≡ 2047 }
+    ensures kept { first_port 1024 ≡ 1024 }
     ensures edges { range_edges (Of Q 0) 443 443 ≡ (Of Q 0, 443) ∷ (Of Q 0, 444) ∷ [] }
 {}
 
@@ -132,7 +135,7 @@ fn shifts_ports(rt: HostRuntime) {
 }
 
 #[test]
-fn narrows_a_shifted_port(rt: HostRuntime) {
+fn narrows_a_first_port(rt: HostRuntime) {
     let image = Image::of(&from_ports(1000, 2000)).shift_p().told;
     // the ports 1000 to 1023 became 2024 to 2047
     let cases: [(u32, u32, u16, bool); 5] = [
@@ -171,7 +174,7 @@ fn back(part: Box5, p: Field, q: Field) -> Image {
 fn replies(rt: HostRuntime) {
     let ports = Some((Field::Of(Side::Q, 0), Field::Of(Side::P, 0)));
     let echo = Some((Field::Of(Side::P, 0), Field::Fixed(0)));
-    // proto and q of the requests, the last proto and the last q of the body, and p and q of the answer
+    // proto and q of the requests; the last ones of the body; p and q of the answer
     let cases: [((u8, u8), (u16, u16), u8, u16, Option<(Field, Field)>); 9] = [
         ((6, 6), (443, 443), 6, 443, ports),
         ((0, 255), (0, 65535), 0, 65535, ports),

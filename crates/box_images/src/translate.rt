@@ -2,7 +2,7 @@
 ghost use Rattle.std.specs.Prelude.{ℕ, ◌≡◌, List, IfSome, option_map, true};
 ghost use Rattle.header_boxes.specs.Boxes.{holds};
 ghost use Rattle.vpc_base.specs.Header.{reply_of};
-ghost use Rattle.vpc_base.specs.declared.headers.Header.{Header as Packet};
+ghost use Rattle.vpc_base.specs.declared.headers.Header.{Header};
 ghost use Rattle.box_images.specs.Images.{IsImageOfAnswer, IsImageOfOpen, IsValidImage, header_at, shifted};
 ghost use Rattle.box_images.specs.Bodies.{EndsAtEdges, IsBody, reply_edges, shift_edges};
 ghost use Rattle.box_images.specs.Parts.{echo_image, exchanged_image};
@@ -20,17 +20,18 @@ const ECHO_REPLY: u32 = 0;
 const LAST_WELL_KNOWN_PORT: u32 = 1023;
 
 impl Image {
-    /// The image with the port that a NAT gateway tries first: p, or p plus 1,024 where p is below 1,024
-    /// (a choice of this project's profile).
+    /// The image with the port that a NAT gateway tries first: p, or p plus 1,024 where p is below
+    /// 1,024 (a choice of this project's profile).
     pub fn shift_p(&self) -> Part<Image>
         requires { IsValidImage self.now }
-        ensures told { (h : Packet) → holds h result.body ≡ true
+        ensures told { (h : Header) → holds h result.body ≡ true
             → header_at result.told h ≡ shifted (header_at self.now h) }
         ensures body { IsBody result.body self.now.part }
         ensures ends { EndsAtEdges (shift_edges self.now) result.body self.now.part }
         ensures part { result.told.part ≡ result.body }
         ensures valid { IsValidImage result.told }
-        ensures kind { (addresses : List ℕ) → IsImageOfOpen addresses self.now → IsImageOfOpen addresses result.told }
+        ensures kind { (addresses : List ℕ) → IsImageOfOpen addresses self.now
+            → IsImageOfOpen addresses result.told }
     {
         let well_known = narrow_field(&self.part, self.p, 0, LAST_WELL_KNOWN_PORT);
         let p = if well_known.told {
@@ -51,7 +52,7 @@ impl Image {
     /// The image of the replies. ICMP messages other than echo requests have none.
     pub fn reply(&self) -> Part<Option<Image>>
         requires { IsValidImage self.now }
-        ensures told { (h : Packet) → holds h result.body ≡ true
+        ensures told { (h : Header) → holds h result.body ≡ true
             → option_map (λ i. header_at i h) result.told ≡ reply_of (header_at self.now h) }
         ensures body { IsBody result.body self.now.part }
         ensures ends { EndsAtEdges (reply_edges self.now) result.body self.now.part }

@@ -19,22 +19,29 @@ returns-then-not-icmp-clause-kind c addresses o =
 
 pub returns-clause-ends : goal.returns-clause-ends
 returns-clause-ends c =
-    ends_through (range_edges c.args.self.now.proto 1 1) (range_edges c.args.self.now.q 2048 2048) c.narrow_field-echo.result.body c.narrow_field-icmp.result.body c.args.self.now.part
+    let i = c.args.self.now in
+    ends_through (range_edges i.proto 1 1) (range_edges i.q 2048 2048) c.narrow_field-echo.result.body c.narrow_field-icmp.result.body i.part
     c.narrow_field-echo.ensures.ends c.narrow_field-icmp.ensures.ends
 
 pub returns-clause-valid : goal.returns-clause-valid
 returns-clause-valid c =
+    let i = c.args.self.now in
+    let icmp = c.narrow_field-icmp in
+    let echo = c.narrow_field-echo in
+    let body = body_through echo.result.body icmp.result.body i.part echo.ensures.body icmp.ensures.body in
+    let valid = valid_echo i echo.result.body c.requires body.within in
     elim c.if-echo.branch [
-      | then-echo w ↦ if_some c.if-echo.told w.echo.result (echo_image c.args.self.now c.narrow_field-echo.result.body) IsValidImage w.told-is w.echo.ensures
-          (valid_echo c.args.self.now c.narrow_field-echo.result.body c.requires
-          (body_through c.narrow_field-echo.result.body c.narrow_field-icmp.result.body c.args.self.now.part c.narrow_field-echo.ensures.body c.narrow_field-icmp.ensures.body).within)
+      | then-echo w ↦ if_some c.if-echo.told w.echo.result (echo_image i echo.result.body) IsValidImage w.told-is w.echo.ensures valid
       | else-echo w ↦ if_none c.if-echo.told IsValidImage w.told-is
     ]
 
 pub returns-clause-kind : goal.returns-clause-kind
 returns-clause-kind c addresses o =
+    let i = c.args.self.now in
+    let body = c.narrow_field-echo.result.body in
+    let within = c.narrow_field-echo.ensures.body.within in
+    let answer = answer_echo addresses i c.narrow_field-icmp.result body c.narrow_field-icmp.ensures c.if-not-icmp.false within o in
     elim c.if-echo.branch [
-      | then-echo w ↦ if_some c.if-echo.told w.echo.result (echo_image c.args.self.now c.narrow_field-echo.result.body) (IsImageOfAnswer addresses) w.told-is w.echo.ensures
-          (answer_echo addresses c.args.self.now c.narrow_field-icmp.result c.narrow_field-echo.result.body c.narrow_field-icmp.ensures c.if-not-icmp.false c.narrow_field-echo.ensures.body.within o)
+      | then-echo w ↦ if_some c.if-echo.told w.echo.result (echo_image i body) (IsImageOfAnswer addresses) w.told-is w.echo.ensures answer
       | else-echo w ↦ if_none c.if-echo.told (IsImageOfAnswer addresses) w.told-is
     ]

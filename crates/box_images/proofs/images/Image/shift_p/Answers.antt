@@ -1,5 +1,5 @@
 use Rattle.std.proofs.Common.{◌∙◌, inl, inr}
-use Rattle.box_images.proofs.TranslateLemmas.{IsShifted, ends_past_zero, low_port_at, open_shifted, valid_shifted}
+use Rattle.box_images.proofs.TranslateLemmas.{ends_past_zero, low_port_at, open_shifted, valid_shifted}
 use Rattle.box_images.proofs.images.Image.shift_p.Goals as goal
 use Rattle.box_images.proofs.images.Image.shift_p.Goals.{then-well_known, else-well_known}
 
