@@ -6,6 +6,7 @@ use Rattle.std.specs.List.{Contains}
 use Rattle.vpc_base.specs.Cuts.{CutLists}
 use Rattle.vpc_base.specs.declared.headers.Header.{Header}
 use Rattle.header_boxes.specs.Boxes.{holds, in_range}
+use Rattle.header_boxes.specs.Cells.{IsAligned}
 use Rattle.header_boxes.specs.declared.boxes.Box5.{Box5}
 use Rattle.header_boxes.proofs.CellNumbers.{aligned_by_low, aligned_through}
 use Rattle.box_images.specs.Fields.{AreComparable, greatest_of, greatest_on, side_of, value_of}
@@ -17,6 +18,8 @@ use Rattle.box_images.specs.declared.fields.Field.TheVariants.{Fixed, Of}
 use Rattle.box_images.specs.declared.fields.Side.{Side}
 use Rattle.box_images.specs.declared.fields.Side.TheVariants.{Proto, Src, Dst, P, Q}
 use Rattle.box_images.specs.declared.images.Image.{Image}
+use Rattle.box_images.specs.declared.images.Part.{Part}
+use Rattle.box_images.specs.Answers.{Answers}
 use Rattle.box_images.proofs.BodyLemmas.{body_through, ends_through}
 use Rattle.box_images.proofs.SideLemmas.{number_in_side, side_begins, side_within}
 
@@ -85,6 +88,16 @@ narrowed_are_aligned cuts i s lo hi body v b e first past =
 
 pub aligned_bodies_compose : AlignedBodiesCompose
 aligned_bodies_compose cuts body middle part b a c d = (body_through body middle part b c, aligned_through cuts body middle part a d)
+
+-- an answer for a body of an aligned body of the part is one for a body of the part
+pub answers_follow : {T : Type 0} (divide_enough : CutLists → Type 0) (answer : Header → T) (middle part : Box5) (x : Part T)
+    → IsBody middle part → ((cuts : CutLists) → divide_enough cuts → IsAligned cuts middle part)
+    → Answers divide_enough answer middle x → Answers divide_enough answer part x
+answers_follow {T} enough answer middle part x b a k = record {
+  told = k.told;
+  body = body_through x.body middle part k.body b;
+  aligned = λ cuts e. aligned_through cuts x.body middle part (k.aligned cuts e) (a cuts e);
+}
 
 -- ---- comparable images
 

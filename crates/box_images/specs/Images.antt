@@ -85,6 +85,10 @@ pub record IsImageOfReturn (addresses : List ℕ) (i : Image) : Type 0 where
 abbrev pub IsImageOfAnswer : List ℕ → Image → Type 0
 IsImageOfAnswer addresses i = IsImageOfEchoReply addresses i ⊎ IsImageOfReturn addresses i
 
+-- what a walk makes of requests and answers, over some addresses that it may put into them
+abbrev pub IsImageOfWalk : Image → Type 0
+IsImageOfWalk i = (addresses : List ℕ) × (IsImageOfOpen addresses i ⊎ IsImageOfAnswer addresses i)
+
 -- the later image is of the kind of the earlier one
 pub record KeepsKind (addresses : List ℕ) (old new : Image) : Type 0 where
   pub of_open : IsImageOfOpen addresses old → IsImageOfOpen addresses new

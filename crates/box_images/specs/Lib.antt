@@ -1,5 +1,6 @@
 pub mod Fields
 pub mod Images
 pub mod Bodies
+pub mod Answers
 pub mod Parts
 pub mod Laws
