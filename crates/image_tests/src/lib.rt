@@ -1,0 +1,7 @@
+//! Tests that rows make of packets, asked of all headers of an image at once: protocols, port ranges, blocks,
+//! boxes, sets of addresses, tables by addresses, and pieces.
+#![tactic(auto)]
+
+mod rules;
+
+pub use rules::{block_on, box_on, proto_on, range_on, rule_on};

@@ -1,0 +1,72 @@
+// What rules of ACLs and groups ask, and boxes of appliances.
+ghost use Rattle.std.specs.Prelude.{◌≡◌, ◌&&◌};
+ghost use Rattle.box_images.specs.Answers.{Answers};
+ghost use Rattle.box_images.specs.Fields.{number_of};
+ghost use Rattle.box_images.specs.Images.{IsImageOfWalk, IsValidImage, header_at};
+ghost use Rattle.cut_laws.specs.Dividing.{Divide};
+ghost use Rattle.header_boxes.specs.Boxes.{holds as box_holds};
+ghost use Rattle.prefix_text.specs.Block.{holds};
+ghost use Rattle.vpc_model.specs.Cuts.{cuts_of_box, cuts_of_rule};
+ghost use Rattle.vpc_model.specs.Filter.{is_between, matches_proto};
+ghost use Rattle.image_tests.specs.Tests.{IsAddressSide, cuts_of_block, cuts_of_proto, cuts_of_range, fits};
+
+use box_images::{Image, Part, Side};
+use header_boxes::Box5;
+use prefix_text::Prefix;
+
+/// Whether the protocol is a rule's; none stands for all protocols.
+pub fn proto_on(i: &Image, proto: Option<u8>) -> Part<bool>
+    requires valid { IsValidImage i.now }
+    requires walk { IsImageOfWalk i.now }
+    ensures { Answers (Divide (cuts_of_proto proto))
+        (λ h. matches_proto proto (header_at i.now h).proto) i.now.part result }
+{
+    match proto {
+        None => Part {
+            body: i.part,
+            told: true,
+        },
+        Some(n) => i.narrow(Side::Proto, u32::from(n), u32::from(n)),
+    }
+}
+
+/// Whether q lies in a rule's range of ports. A reversed range has none.
+pub fn range_on(i: &Image, from: u16, to: u16) -> Part<bool>
+    requires valid { IsValidImage i.now }
+    requires walk { IsImageOfWalk i.now }
+    ensures { Answers (Divide (cuts_of_range from to))
+        (λ h. is_between from to (header_at i.now h).q) i.now.part result }
+{
+    if from > to {
+        return Part {
+            body: i.part,
+            told: false,
+        };
+    }
+    i.narrow(Side::Q, u32::from(from), u32::from(to))
+}
+
+/// Whether a block holds the source or the destination.
+pub fn block_on(i: &Image, side: Side, block: &Prefix) -> Part<bool>
+    requires valid { IsValidImage i.now }
+    requires walk { IsImageOfWalk i.now }
+    requires address { IsAddressSide side }
+    ensures { Answers (Divide (cuts_of_block block.now))
+        (λ h. holds (number_of (header_at i.now h) side) block.now) i.now.part result }
+{
+    i.narrow(side, block.first(), block.last())
+}
+
+/// Whether protocol and range of a rule fit. The range is asked where the protocol fits.
+pub fn rule_on(i: &Image, proto: Option<u8>, from: u16, to: u16) -> Part<bool>
+    requires valid { IsValidImage i.now }
+    requires walk { IsImageOfWalk i.now }
+    ensures { Answers (Divide (cuts_of_rule proto from to []))
+        (λ h. fits proto from to (header_at i.now h)) i.now.part result }
+{
+    let fits = proto_on(i, proto);
+    if !fits.told {
+        return fits;
+    }
+    range_on(&i.within(&fits.body), from, to)
+}
