@@ -23,16 +23,19 @@ next-found {X} key n xs seen set k x same is up point within at =
   where
     split : IsPartitionPoint (λ y. nat_lt (key y) n ≡ true) (λ y. nat_lt (key y) n ≡ false) xs k
     split = subst (λ ys. IsPartitionPoint (λ y. nat_lt (key y) n ≡ true) (λ y. nat_lt (key y) n ≡ false) ys k) same point
+
     has : Contains (map key xs) (key x)
     has =
         let there = Contains-get_or (map key xs) k (key x) (omega (arith, length-map xs key)) in
         subst (Contains (map key xs)) (get_or-map key xs k x (key x) within ∙ ap key (sym at)) there
+
     by : (i : ℕ) (d : X) → i < length xs → (i < k) ⊎ (k ≤ i) → (key (slice_index_or xs i d) < n) ⊎ (key x ≤ key (slice_index_or xs i d))
     by i d inside (inl before) = inl (ltb-true _ n (split.0 i d (omega arith) before))
     by i d inside (inr after) =
         let here : key x ≡ key (slice_index_or xs k d) = ap key (at ∙ get_or_default xs k x d within) in
         let most = up k i d after inside in
         inr (omega arith)
+
     least : (m : ℕ) → (i : ℕ) × (d : X) × (i < length xs) × (key (slice_index_or xs i d) ≡ m) → (m < n) ⊎ (key x ≤ m)
     least m (i, d, inside, same) = subst (λ j. (j < n) ⊎ (key x ≤ j)) same (by i d inside (cases_lt i k))
 
@@ -45,5 +48,6 @@ next-none {X} key n xs seen set k same is point past =
   where
     split : IsPartitionPoint (λ y. nat_lt (key y) n ≡ true) (λ y. nat_lt (key y) n ≡ false) xs k
     split = subst (λ ys. IsPartitionPoint (λ y. nat_lt (key y) n ≡ true) (λ y. nat_lt (key y) n ≡ false) ys k) same point
+
     below : (m : ℕ) → (i : ℕ) × (d : X) × (i < length xs) × (key (slice_index_or xs i d) ≡ m) → m < n
     below m (i, d, inside, same) = subst (λ j. j < n) same (ltb-true _ n (split.0 i d (omega arith) (omega arith)))

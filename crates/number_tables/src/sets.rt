@@ -52,9 +52,9 @@ impl NumberSet {
     pub fn next(&self, number: u64) -> Option<u64>
         ensures { IsNext self.now number result }
     {
-        let below = self.numbers.partition_point(|n| *n < number);
-        if below < self.numbers.len() {
-            Some(self.numbers[below])
+        let next = self.numbers.partition_point(|n| *n < number);
+        if next < self.numbers.len() {
+            Some(self.numbers[next])
         } else {
             None
         }
