@@ -8,6 +8,7 @@ ghost use Rattle.header_boxes.specs.Boxes.{in_range};
 use crate::Side;
 use header_boxes::Box5;
 
+/// The closed range of the box on the side.
 pub fn side_of(b: &Box5, side: Side) -> (u32, u32)
     ensures { result ≡ side_of b.now side }
 {

@@ -7,7 +7,7 @@ use Rattle.vpc_model.specs.declared.places.Place.TheVariants as places
 use Rattle.vpc_model.specs.Cuts.{all_cuts, asked_at, cuts_at, cuts_at_tgw_table, cuts_of, cuts_of_group, cuts_of_group_id, cuts_of_list, cuts_of_table, cuts_of_tgw_table, unbounded_asked, unbounded_standing}
 use Rattle.vpc_model.specs.Lookup.{group_at, group_of_id, interface_at, no_group, table_at, table_of}
 use Rattle.vpc_model.specs.Transit.{table_of_attachment}
-use Rattle.cut_points.proofs.Among.{among_through, both_among, joined_among, among_itself, left_among, none_among, on_sides_among, right_among}
+use Rattle.cut_laws.proofs.Among.{among_through, both_among, joined_among, among_itself, left_among, none_among, on_sides_among, right_among}
 
 -- a row by its number, where the row in place of none has no cuts
 row_among : {X : Type 0} (f : X → CutLists) (none : X) → AreAmong (f none) no_cuts → (xs : List X) (k : ℕ) → AreAmong (f (slice_index_or xs k none)) (all_cuts f xs)

@@ -2,6 +2,8 @@
 //! boxes, sets of addresses, tables by addresses, and pieces.
 #![tactic(auto)]
 
+mod boxes;
 mod rules;
 
-pub use rules::{block_on, box_on, proto_on, range_on, rule_on};
+pub use boxes::box_on;
+pub use rules::{block_on, proto_on, range_on, rule_on};

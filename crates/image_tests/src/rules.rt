@@ -1,17 +1,15 @@
-// What rules of ACLs and groups ask, and boxes of appliances.
-ghost use Rattle.std.specs.Prelude.{◌≡◌, ◌&&◌};
+// What rules of ACLs and groups ask.
+ghost use Rattle.std.specs.Prelude.{[]};
 ghost use Rattle.box_images.specs.Answers.{Answers};
 ghost use Rattle.box_images.specs.Fields.{number_of};
 ghost use Rattle.box_images.specs.Images.{IsImageOfWalk, IsValidImage, header_at};
 ghost use Rattle.cut_laws.specs.Dividing.{Divide};
-ghost use Rattle.header_boxes.specs.Boxes.{holds as box_holds};
 ghost use Rattle.prefix_text.specs.Block.{holds};
-ghost use Rattle.vpc_model.specs.Cuts.{cuts_of_box, cuts_of_rule};
+ghost use Rattle.vpc_model.specs.Cuts.{cuts_of_rule};
 ghost use Rattle.vpc_model.specs.Filter.{is_between, matches_proto};
-ghost use Rattle.image_tests.specs.Tests.{IsAddressSide, cuts_of_block, cuts_of_proto, cuts_of_range, fits};
+ghost use Rattle.image_tests.specs.Tests.{IsAddressSide, TellsSide, cuts_of_block, cuts_of_proto, cuts_of_range, fits_rule};
 
 use box_images::{Image, Part, Side};
-use header_boxes::Box5;
 use prefix_text::Prefix;
 
 /// Whether the protocol is a rule's; none stands for all protocols.
@@ -26,8 +24,22 @@ pub fn proto_on(i: &Image, proto: Option<u8>) -> Part<bool>
             body: i.part,
             told: true,
         },
-        Some(n) => i.narrow(Side::Proto, u32::from(n), u32::from(n)),
+        Some(n) => side_on(i, Side::Proto, u32::from(n), u32::from(n)),
     }
+}
+
+/// Whether the number on a side lies between the two, which it doesn't where the first is greater.
+pub fn side_on(i: &Image, side: Side, from: u32, to: u32) -> Part<bool>
+    requires { IsValidImage i.now }
+    ensures { TellsSide i.now side from to result }
+{
+    if from > to {
+        return Part {
+            body: i.part,
+            told: false,
+        };
+    }
+    i.narrow(side, from, to)
 }
 
 /// Whether q lies in a rule's range of ports. A reversed range has none.
@@ -37,13 +49,7 @@ pub fn range_on(i: &Image, from: u16, to: u16) -> Part<bool>
     ensures { Answers (Divide (cuts_of_range from to))
         (λ h. is_between from to (header_at i.now h).q) i.now.part result }
 {
-    if from > to {
-        return Part {
-            body: i.part,
-            told: false,
-        };
-    }
-    i.narrow(Side::Q, u32::from(from), u32::from(to))
+    side_on(i, Side::Q, u32::from(from), u32::from(to))
 }
 
 /// Whether a block holds the source or the destination.
@@ -54,7 +60,7 @@ pub fn block_on(i: &Image, side: Side, block: &Prefix) -> Part<bool>
     ensures { Answers (Divide (cuts_of_block block.now))
         (λ h. holds (number_of (header_at i.now h) side) block.now) i.now.part result }
 {
-    i.narrow(side, block.first(), block.last())
+    side_on(i, side, block.first(), block.last())
 }
 
 /// Whether protocol and range of a rule fit. The range is asked where the protocol fits.
@@ -62,7 +68,7 @@ pub fn rule_on(i: &Image, proto: Option<u8>, from: u16, to: u16) -> Part<bool>
     requires valid { IsValidImage i.now }
     requires walk { IsImageOfWalk i.now }
     ensures { Answers (Divide (cuts_of_rule proto from to []))
-        (λ h. fits proto from to (header_at i.now h)) i.now.part result }
+        (λ h. fits_rule proto from to (header_at i.now h)) i.now.part result }
 {
     let fits = proto_on(i, proto);
     if !fits.told {

@@ -17,7 +17,7 @@ use Rattle.one_subnet.specs.declared.site.Rule.{Rule}
 use Rattle.one_subnet.specs.declared.site.RuleSet.{RuleSet}
 use Rattle.one_subnet.specs.declared.site.Site.{Site}
 use Rattle.subnet_walk.specs.Trace.{names, no_set, rules_of}
-use Rattle.cut_points.proofs.Among.{among_itself, among_through, joined_among, left_among, none_among, on_sides_among, right_among}
+use Rattle.cut_laws.proofs.Among.{among_itself, among_through, joined_among, left_among, none_among, on_sides_among, right_among}
 use Rattle.subnet_reach.specs.Ports.{group_opens, groups_open, opens, rules_at}
 
 -- the answers are the same, or the number is a cut
