@@ -1,3 +1,5 @@
 pub mod Fields
 pub mod Answering
 pub mod EdgeCuts
+pub mod KeyStretches
+pub mod Stretches

@@ -72,7 +72,7 @@ impl<T: Copy + Drop> NumberTable<T> {
     pub fn next_key(&self, key: u64) -> Option<u64>
         ensures { IsNext (map (λ e. e.key) self.now) key result }
     {
-        let next = self.entries.partition_point(|entry| entry.key <= key);
+        let next = self.entries.partition_point(|entry| entry.key < key);
         if next < self.entries.len() {
             Some(self.entries[next].key)
         } else {
