@@ -6,4 +6,4 @@ mod boxes;
 mod rules;
 
 pub use boxes::box_on;
-pub use rules::{block_on, proto_on, range_on, rule_on};
+pub use rules::{block_on, far_side, proto_on, range_on, rule_on};
