@@ -4,8 +4,10 @@
 
 mod boxes;
 mod rules;
+#[cfg(test)]
+mod set_tests;
 mod sets;
 
 pub use boxes::box_on;
 pub use rules::{block_on, far_side, proto_on, range_on, rule_on};
-pub use sets::{entry_on, member_on, set_on};
+pub use sets::{entry_on, low_on, member_on, set_on, up_to};
