@@ -10,6 +10,8 @@ mod maps;
 mod pairs;
 mod peerings;
 mod sides;
+#[cfg(test)]
+mod tests;
 mod vpcs;
 
 pub use internet::{unroutable, unroutable_on};

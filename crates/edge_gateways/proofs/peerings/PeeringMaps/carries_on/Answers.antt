@@ -35,7 +35,7 @@ returns-then-destination c =
     let source : Header → Bool = λ h. has_address maps.blocks.items c.args.sender (header_at i h).src in
     let destination : Header → Bool = λ h. has_address maps.blocks.items receiver (header_at i h).dst in
     let over = subst (λ (j : Image). Answers (DivideTurns (has_address maps.blocks.items c.other_of-receiver.result)) (λ h. has_address maps.blocks.items c.other_of-receiver.result (header_at j h).dst) j.part y)
-        c.within-rest.ensures.image c.address_on-destination.ensures in
+    c.within-rest.ensures.image c.address_on-destination.ensures in
     let asked = subst (λ (v : VpcNo). Answers (DivideTurns (has_address maps.blocks.items v)) (λ h. has_address maps.blocks.items v (header_at i h).dst) x.body y) is over in
     answers_by_destination enough source destination i.part x y true c.requires.valid.part c.if-not-source.false c.if-destination.true
     (answers_more (DivideTurns (has_address maps.blocks.items c.args.sender)) enough source i.part x (λ cuts d. d.sender) c.address_on-source.ensures)
@@ -53,7 +53,7 @@ returns-else-destination c =
     let source : Header → Bool = λ h. has_address maps.blocks.items c.args.sender (header_at i h).src in
     let destination : Header → Bool = λ h. has_address maps.blocks.items receiver (header_at i h).dst in
     let over = subst (λ (j : Image). Answers (DivideTurns (has_address maps.blocks.items c.other_of-receiver.result)) (λ h. has_address maps.blocks.items c.other_of-receiver.result (header_at j h).dst) j.part y)
-        c.within-rest.ensures.image c.address_on-destination.ensures in
+    c.within-rest.ensures.image c.address_on-destination.ensures in
     let asked = subst (λ (v : VpcNo). Answers (DivideTurns (has_address maps.blocks.items v)) (λ h. has_address maps.blocks.items v (header_at i h).dst) x.body y) is over in
     answers_by_destination enough source destination i.part x y false c.requires.valid.part c.if-not-source.false c.if-destination.false
     (answers_more (DivideTurns (has_address maps.blocks.items c.args.sender)) enough source i.part x (λ cuts d. d.sender) c.address_on-source.ensures)
