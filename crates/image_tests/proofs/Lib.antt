@@ -2,3 +2,5 @@ pub mod Fields
 pub mod Answering
 pub mod EdgeCuts
 pub mod Trying
+pub mod KeyStretches
+pub mod Stretches

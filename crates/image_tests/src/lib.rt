@@ -4,6 +4,8 @@
 
 mod boxes;
 mod rules;
+mod sets;
 
 pub use boxes::box_on;
 pub use rules::{block_on, far_side, proto_on, range_on, rule_on};
+pub use sets::{entry_on, member_on, set_on};
