@@ -1,3 +1,4 @@
 pub mod Fields
 pub mod Answering
 pub mod EdgeCuts
+pub mod PieceLemmas

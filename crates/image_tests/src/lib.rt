@@ -3,7 +3,11 @@
 #![tactic(auto)]
 
 mod boxes;
+mod pieces;
 mod rules;
+#[cfg(test)]
+mod tests;
 
 pub use boxes::box_on;
+pub use pieces::piece_on;
 pub use rules::{block_on, proto_on, range_on, rule_on};
