@@ -4,3 +4,4 @@ pub mod EdgeCuts
 pub mod Trying
 pub mod KeyStretches
 pub mod Stretches
+pub mod PieceLemmas
