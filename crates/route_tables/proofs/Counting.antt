@@ -1,9 +1,9 @@
 -- The blocks of routes tell the route that the table chooses.
-use Rattle.std.proofs.Common.{◌≡◌, ℕ, ◌≤◌, ◌<◌, ◌+◌, ◌-◌, ◌*◌, ◌^◌, ◌&&◌, ◌⊎◌, Bool, List, None, Option, Some, [], ◌∷◌, ◌++◌, ap, arith, cond, false, get_or, if◌then◌else◌, inl, inr, length, length-append, map, nat_le, not, refl, subst, suc, sym, true, zero, ◌∙◌}
+use Rattle.std.proofs.Common.{◌≡◌, ℕ, ◌≤◌, ◌<◌, ◌+◌, ◌-◌, ◌*◌, ◌^◌, ◌&&◌, ◌⊎◌, Bool, List, None, Option, Some, [], ◌∷◌, ◌++◌, ap, arith, false, if◌then◌else◌, inl, inr, length, length-append, map, nat_le, not, refl, subst, suc, sym, true, zero, ◌∙◌}
 use Rattle.std.specs.Prelude.{is_some, option_map, unwrap_or}
 use Rattle.std.specs.List.{All, Contains, filter, flat_map, list_any, slice_get}
-use Rattle.std.proofs.lemmas.Bool.{and_cases, and_from, and_left, and_parts, and_right, both_ways, cases_Bool, cases_lt, cond_both, false_from_ne_true, le-leb, leb-false, leb-true, not-false, not_from_false, not_from_true}
-use Rattle.std.proofs.lemmas.List.{get_or_default, length-map}
+use Rattle.std.proofs.lemmas.Bool.{and_cases, and_from, and_left, and_parts, and_right, both_ways, cases_Bool, cases_lt, cond_both, false_from_ne_true, le-leb, leb-true, not-false, not_from_false, not_from_true}
+use Rattle.std.proofs.lemmas.List.{length-map}
 use Rattle.std.proofs.lemmas.List.Elements.{All-contains, Contains-append_cases, Contains-append_left, Contains-append_right}
 use Rattle.std.proofs.lemmas.List.Folds.{Any-from_list_any}
 use Rattle.std.proofs.lemmas.Option.{get_or_from_slice_get, slice_get-get_or, slice_get_within}

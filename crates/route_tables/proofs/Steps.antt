@@ -1,8 +1,7 @@
 -- Loops that add the rows of one more block or route.
 use Rattle.std.proofs.Common.{◌≡◌, ℕ, ◌<◌, ◌≤◌, ◌+◌, Bool, List, [], ◌∷◌, ◌++◌, ap, append_assoc, drop, get_or, length, map, subst, sym, take, ◌∙◌}
-use Rattle.std.specs.List.{All, filter, flat_map}
-use Rattle.std.proofs.lemmas.Grind.{flat_map-append}
-use Rattle.std.proofs.lemmas.List.{append-nil, drop_all, drop_more, map_more, take_all, take_more}
+use Rattle.std.specs.List.{All, filter}
+use Rattle.std.proofs.lemmas.List.{append-nil, drop_all, drop_more, map_more, take_all}
 use Rattle.std.proofs.lemmas.List.Elements.{All-more, filter-append}
 use Rattle.block_pieces.specs.declared.rows.BlockRow.{BlockRow}
 use Rattle.piece_table.specs.Pieces.{PieceLists}

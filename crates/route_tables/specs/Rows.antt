@@ -1,5 +1,5 @@
 -- Routes as blocks that tell their numbers.
-use Rattle.std.specs.Prelude.{◌∷◌, ◌++◌, ◌+◌, ◌-◌, ◌*◌, ◌&&◌, [], All, Bool, List, Option, false, filter, if◌then◌else◌, map, nat_le, not, option_map, unwrap_or, ℕ}
+use Rattle.std.specs.Prelude.{◌∷◌, ◌++◌, ◌+◌, ◌-◌, ◌*◌, ◌&&◌, [], All, Bool, List, false, filter, if◌then◌else◌, map, nat_le, not, option_map, unwrap_or, ℕ}
 use Rattle.std.specs.List.{flat_map}
 use Rattle.block_pieces.specs.declared.rows.BlockRow.{BlockRow}
 use Rattle.piece_table.specs.Pieces.{PieceLists, told_at}

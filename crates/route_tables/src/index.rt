@@ -1,5 +1,8 @@
 // The index of a route table.
 ghost use Rattle.std.specs.Prelude.{◌≡◌, ◌≤◌, ◌<◌, ◌+◌, ◌-◌, ◌*◌, ◌^◌, ◌⊎◌, ℕ, Contains, IfOk, IsTrue, length};
+ghost use Rattle.box_images.specs.Answers.{Answers};
+ghost use Rattle.box_images.specs.Images.{IsImageOfWalk, IsValidImage, header_at};
+ghost use Rattle.cut_laws.specs.Dividing.{DivideFirsts};
 ghost use Rattle.piece_table.specs.Pieces.{told_at};
 ghost use Rattle.vpc_model.specs.Cuts.{cuts_of_table};
 ghost use Rattle.vpc_model.specs.Lookup.{table_at};
@@ -10,6 +13,8 @@ ghost use Rattle.route_tables.specs.Rows.{blocks_in, route_cuts};
 use crate::counted::counted_rows;
 use crate::locals::local_rows;
 use block_pieces::pieces_of;
+use box_images::{Image, Part};
+use image_tests::piece_on;
 use piece_table::{Pieces, Steps};
 use reference_check::Network;
 use std::alloc::Global;
@@ -63,7 +68,7 @@ impl RouteIndex {
         requires table { IsTrue (is_table n.now t) }
         ensures chosen { IfOk result (λ x. (a : ℕ) → a < 2 ^ 32 → told_at x a ≡ chosen_route n.now (table_at n.now t).routes a) }
         ensures few { IfOk result (λ x. length x.firsts ≤ 2 * length (blocks_in n.now (table_at n.now t).routes) + 1) }
-        ensures firsts { IfOk result (λ x. (f : ℕ) → Contains x.firsts f → (f ≡ 0) ⊎ Contains (cuts_of_table n.now (table_at n.now t)).addr f) }
+        ensures firsts { IfOk result (λ x. DivideFirsts x.firsts (cuts_of_table n.now (table_at n.now t))) }
     {
         let table = &n.description().tables.as_slice()[t.0 as usize];
         index_of::<Brand>(alloc, n, table.routes.as_slice(), Blank::new(1))
@@ -78,5 +83,18 @@ impl RouteIndex {
     {
         let (_, _, told) = self.pieces.find(dst, steps);
         told
+    }
+
+    /// The same for all headers of an image: the route that the table chooses for their destination, and
+    /// those of them that go to the same piece as the low corner.
+    pub fn choose_on<L: Ledger>(&self, i: &Image, steps: &mut Steps<L>) -> Part<Option<u32>>
+        requires valid { IsValidImage i.now }
+        requires walk { IsImageOfWalk i.now }
+        ensures answer { Answers (DivideFirsts self.now.firsts)
+            (λ h. told_at self.now (header_at i.now h).dst) i.now.part result }
+        ensures later { steps.old ≤ steps.new }
+        ensures few { 2 ^ (steps.new - steps.old) ≤ 4 * length self.now.firsts }
+    {
+        piece_on(i, &self.pieces, steps)
     }
 }

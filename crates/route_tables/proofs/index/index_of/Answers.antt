@@ -1,8 +1,6 @@
-use Rattle.std.proofs.Common.{◌≡◌, ◌<◌, ◌∙◌, ap, arith, length, subst, sym}
-use Rattle.std.specs.List.{Contains}
-use Rattle.piece_table.specs.Pieces.{told_at}
-use Rattle.block_pieces.specs.Told.{borders_of, told_by}
-use Rattle.route_tables.proofs.Counting.{AreLocals, borders-cuts, first-in_cuts, length-counted_rows, told_by-counted}
+use Rattle.std.proofs.Common.{◌∙◌, ap, arith, length}
+use Rattle.block_pieces.specs.Told.{told_by}
+use Rattle.route_tables.proofs.Counting.{AreLocals, first-in_cuts, length-counted_rows, told_by-counted}
 use Rattle.route_tables.proofs.index.index_of.Goals as goal
 
 pub returns-clause-chosen : goal.returns-clause-chosen
