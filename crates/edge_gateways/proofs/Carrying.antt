@@ -1,12 +1,10 @@
 -- What peerings carry, by the lists of the maps.
-use Rattle.std.proofs.Common.{◌≡◌, ◌∙◌, ◌&&◌, ◌<◌, ◌==◌, ◌||◌, [], ℕ, Bool, List, None, Option, Some, ap, arith, bytes_eq, cond, false, get_or, inl, inr, length, map, refl, subst, sym, true}
-use Rattle.std.specs.List.{AllZip, list_any}
+use Rattle.std.proofs.Common.{◌≡◌, ◌∙◌, ◌&&◌, ◌<◌, ◌==◌, [], ℕ, Bool, List, None, Option, Some, ap, bytes_eq, cond, false, get_or, inl, inr, length, map, refl, true}
+use Rattle.std.specs.List.{AllZip}
 use Rattle.std.proofs.lemmas.Bool.{cases_Bool, cases_lt, eq-eqb, ltb-true, or_cases, or_left, or_right}
 use Rattle.std.proofs.lemmas.List.{get_or-map, get_or_past}
-use Rattle.address_sets.specs.Runs.{is_in}
 use Rattle.address_sets.specs.declared.sets.Run.{Run}
 use Rattle.number_tables.specs.declared.tables.Entry.{Entry}
-use Rattle.vpc_base.specs.declared.headers.Header.{Header}
 use Rattle.vpc_model.specs.declared.numbers.PeerNo.{PeerNo}
 use Rattle.vpc_model.specs.declared.numbers.VpcNo.{VpcNo}
 use Rattle.vpc_model.specs.declared.rows.Description.{Description}
@@ -18,10 +16,10 @@ use Rattle.vpc_model.specs.Sound.{is_vpc}
 use Rattle.vpc_laws.proofs.Numbering.{accepted_numbers_are_own, ids_are_found, same_bytes}
 use Rattle.edge_gateways.specs.declared.pairs.Owner.{Owner}
 use Rattle.edge_gateways.specs.declared.sides.Sides.{Sides}
-use Rattle.edge_gateways.specs.Carry.{carried, carry_if}
-use Rattle.edge_gateways.specs.Edges.{AreEdgesOf, CanCarry, carry_of}
+use Rattle.edge_gateways.specs.Carry.{carry_if}
+use Rattle.edge_gateways.specs.Edges.{AreEdgesOf, CanCarry}
 use Rattle.edge_gateways.specs.Pairs.{HasPairsOf}
-use Rattle.edge_gateways.specs.Sides.{HasBlocksOf, HasPeeringsOf, has_address, is_one_of, other_of, sides_by, sides_if, sides_of}
+use Rattle.edge_gateways.specs.Sides.{HasBlocksOf, HasPeeringsOf, has_address, is_one_of, other_of, sides_if, sides_of}
 use Rattle.edge_gateways.proofs.Numbers.{ids_agree}
 use Rattle.edge_gateways.proofs.Zips.{zip_at}
 

@@ -1,5 +1,5 @@
 -- VPCs by their ids and numbers.
-use Rattle.std.proofs.Common.{◌≡◌, ◌∙◌, ◌==◌, ◌∷◌, [], ℕ, Bool, Contains, List, ap, bytes_eq, false, get_or, inl, inr, sym, true}
+use Rattle.std.proofs.Common.{◌≡◌, ◌∙◌, ◌==◌, ◌∷◌, [], ℕ, Contains, List, ap, bytes_eq, get_or, inl, inr, sym, true}
 use Rattle.std.specs.List.{AllByRecursion}
 use Rattle.std.proofs.lemmas.Bool.{both_ways, cases_Bool, eq-eqb, ne_eqb}
 use Rattle.vpc_model.specs.declared.numbers.VpcNo.{VpcNo}

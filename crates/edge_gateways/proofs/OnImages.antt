@@ -1,11 +1,11 @@
 -- What edges answer for all headers of a body.
-use Rattle.std.proofs.Common.{◌≡◌, ◌∙◌, ◌*◌, ◌+◌, ◌||◌, [], ℕ, Bool, List, None, Option, Some, ap, arith, false, is_some, option_map, refl, subst, sym, true}
+use Rattle.std.proofs.Common.{◌≡◌, ◌∙◌, ◌||◌, ℕ, Bool, List, None, Option, Some, ap, arith, false, is_some, option_map, refl, sym, true}
 use Rattle.vpc_base.specs.Cuts.{CutLists}
 use Rattle.vpc_base.specs.declared.headers.Header.{Header}
 use Rattle.header_boxes.specs.Boxes.{IsValid}
 use Rattle.header_boxes.specs.declared.boxes.Box5.{Box5}
 use Rattle.box_images.proofs.Reducing.{reduced_all, reduced_by, reduced_nothing, reduced_to}
-use Rattle.box_images.specs.Answers.{Answers, Reduces}
+use Rattle.box_images.specs.Answers.{Answers}
 use Rattle.box_images.specs.Images.{header_at}
 use Rattle.box_images.specs.declared.images.Image.{Image}
 use Rattle.box_images.specs.declared.images.Part.{Part}

@@ -1,5 +1,5 @@
 -- The public addresses of VPCs, found in tables.
-use Rattle.std.proofs.Common.{◌≡◌, ◌∙◌, ◌++◌, ◌*◌, ◌+◌, ◌<◌, ◌==◌, ◌∷◌, ◌^◌, [], ℕ, All, Bool, Contains, IfSome, List, None, Option, Some, ap, arith, bytes_eq, cond, false, find, inl, inr, map, option_map, refl, subst, sym, true}
+use Rattle.std.proofs.Common.{◌≡◌, ◌∙◌, ◌++◌, ◌<◌, ◌==◌, ◌∷◌, ◌^◌, [], ℕ, All, Bool, Contains, IfSome, List, None, Option, Some, ap, arith, cond, false, find, inl, inr, map, option_map, refl, subst, sym, true}
 use Rattle.std.specs.List.{AllByRecursion, filter, flat_map}
 use Rattle.std.specs.Option.{option_or}
 use Rattle.std.proofs.lemmas.Bool.{cases_Bool, cases_eq, eq-eqb, eqb-true, eqb-false, ne_eqb}
@@ -13,14 +13,14 @@ use Rattle.vpc_model.specs.declared.numbers.VpcNo.{VpcNo}
 use Rattle.vpc_model.specs.declared.rows.Description.{Description}
 use Rattle.vpc_model.specs.declared.rows.Interface.{Interface}
 use Rattle.vpc_model.specs.Accepted.{IsAccepted}
-use Rattle.vpc_model.specs.Internet.{owned_by, owner_of, pairs_of, private_of, public_of}
-use Rattle.vpc_model.specs.Lookup.{has_vpc, is_in_vpc, vpc_at, vpc_no, vpc_of_interface}
+use Rattle.vpc_model.specs.Internet.{owned_by, pairs_of, private_of}
+use Rattle.vpc_model.specs.Lookup.{is_in_vpc, vpc_no, vpc_of_interface}
 use Rattle.vpc_model.specs.Sound.{is_vpc}
 use Rattle.vpc_laws.proofs.Members.{Contains-cases, Contains-none, find-member, flat_map-member}
 use Rattle.vpc_laws.proofs.Numbering.{ids_are_found}
 use Rattle.edge_gateways.specs.declared.pairs.Owner.{Owner}
 use Rattle.edge_gateways.specs.declared.pairs.Pair.{Pair}
-use Rattle.edge_gateways.specs.Pairs.{HasPairsOf, all_pairs, in_vpc, owner_at, owner_entry, pairs_with, public_at, public_entry}
+use Rattle.edge_gateways.specs.Pairs.{HasPairsOf, all_pairs, in_vpc, owner_entry, pairs_with, public_entry}
 use Rattle.edge_gateways.proofs.Numbers.{all_members, ids_agree, vpc_described}
 
 -- ---- searches

@@ -1,10 +1,10 @@
 -- How far from an address on the internet carries packets, by ascending runs.
-use Rattle.std.proofs.Common.{◌≡◌, ◌∙◌, ◌+◌, ◌-◌, ◌<◌, ◌≤◌, ◌⊎◌, ◌∷◌, [], ℕ, List, ap, arith, false, inl, inr, length, slice_index_or, subst, sym, true}
+use Rattle.std.proofs.Common.{◌≡◌, ◌∙◌, ◌+◌, ◌-◌, ◌<◌, ◌≤◌, ◌⊎◌, ℕ, List, ap, arith, false, inl, inr, length, slice_index_or, sym, true}
 use Rattle.std.proofs.lemmas.Bool.{cases_lt, leb-true}
 use Rattle.std.proofs.lemmas.List.{get_or_default}
 use Rattle.address_sets.proofs.Searching.{firsts-ascend}
 use Rattle.address_sets.proofs.Stretches.{HaveEnded, gap-between, stretch-before, stretch-in, stretch-rest}
-use Rattle.address_sets.specs.Runs.{AreRuns, HaveBegun, IsStretch}
+use Rattle.address_sets.specs.Runs.{AreRuns, IsStretch}
 use Rattle.address_sets.specs.declared.sets.Run.{Run}
 
 -- those that have ended have begun

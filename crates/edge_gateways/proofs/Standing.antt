@@ -1,31 +1,26 @@
 -- The standing cuts of a description, and its edges.
-use Rattle.std.proofs.Common.{◌≡◌, ◌∙◌, ◌+◌, ◌<◌, ◌≤◌, ◌==◌, ◌^◌, ◌⊎◌, ◌++◌, ◌∷◌, [], ℕ, Bool, Contains, List, None, Option, Some, ap, arith, bytes_eq, cond, find, get_or, inl, inr, is_some, map, not, option_map, refl, slice_index_or, subst, suc, sym, true, false, zero}
-use Rattle.std.specs.List.{filter_map, flat_map, list_any}
-use Rattle.std.specs.Prelude.{filter, nat_le}
-use Rattle.std.proofs.lemmas.Bool.{cases_Bool, eqb-true}
-use Rattle.std.proofs.lemmas.Bool.Decides.{nat_tests}
+use Rattle.std.proofs.Common.{◌≡◌, ◌∙◌, ◌+◌, ◌==◌, ◌∷◌, [], ℕ, Bool, Contains, List, None, Option, Some, ap, arith, cond, find, is_some, map, not, option_map, refl, subst, suc, sym, true, false, zero}
+use Rattle.std.specs.List.{flat_map}
+use Rattle.std.specs.Prelude.{filter}
+use Rattle.std.proofs.lemmas.Bool.{eqb-true}
 use Rattle.std.proofs.lemmas.List.Elements.{Contains-append_left, Contains-append_right}
 use Rattle.vpc_base.specs.Cuts.{CutLists}
-use Rattle.address_sets.specs.declared.sets.Run.{Run}
 use Rattle.cut_laws.proofs.Among.{among_through, on_sides_among}
 use Rattle.cut_laws.proofs.Rows.{interfaces_are_standing, vpcs_are_standing}
-use Rattle.cut_laws.specs.Dividing.{CutOut, Divide, DivideTurns}
-use Rattle.prefix_text.specs.Block.{holds}
+use Rattle.cut_laws.specs.Dividing.{Divide, DivideTurns}
 use Rattle.vpc_laws.proofs.Members.{Contains-here, Contains-later, filter-member, filter_map-member, find-member, flat_map-member}
 use Rattle.vpc_laws.proofs.Numbering.{ids_are_found, row-member}
-use Rattle.vpc_model.specs.Cuts.{address_cuts, block_cuts, cuts_of_blocks, cuts_of_interface, cuts_of_vpc, on_sides, pair_cuts, public_cuts, standing_cuts}
+use Rattle.vpc_model.specs.Cuts.{address_cuts, cuts_of_blocks, cuts_of_interface, cuts_of_vpc, on_sides, pair_cuts, standing_cuts}
 use Rattle.vpc_model.specs.Internet.{owned_by, owner_of, pair_of, pairs_in, pairs_of, public_of}
 use Rattle.vpc_model.specs.Lookup.{is_in_vpc, vpc_at, vpc_no, vpc_of_interface}
 use Rattle.vpc_model.specs.Peerings.{has_block}
 use Rattle.vpc_model.specs.Sound.{is_vpc}
-use Rattle.vpc_model.specs.declared.numbers.PeerNo.{PeerNo}
 use Rattle.vpc_model.specs.declared.numbers.VpcNo.{VpcNo}
 use Rattle.vpc_model.specs.declared.rows.Description.{Description}
 use Rattle.vpc_model.specs.declared.rows.Interface.{Interface}
-use Rattle.edge_gateways.specs.Edges.{AreEdgesOf, CanCarry, EdgeLists}
+use Rattle.edge_gateways.specs.Edges.{AreEdgesOf, EdgeLists}
 use Rattle.edge_gateways.specs.Laws.{OwnersAreCutOut, PublicsAreCutOut, SidesAreDivided}
-use Rattle.edge_gateways.specs.OnImages.{DivideSides}
-use Rattle.edge_gateways.specs.Pairs.{owner_at, public_at}
+use Rattle.edge_gateways.specs.Pairs.{owner_at}
 use Rattle.edge_gateways.specs.Sides.{has_address, other_of}
 use Rattle.edge_gateways.specs.declared.sides.Sides.{Sides}
 use Rattle.edge_gateways.proofs.Carrying.{has_address-is, numbers_of, sides-at}

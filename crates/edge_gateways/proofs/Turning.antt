@@ -1,5 +1,5 @@
 -- Where blocks turn, one of them begins or has ended.
-use Rattle.std.proofs.Common.{◌≡◌, ◌∙◌, ◌&&◌, ◌+◌, ◌<◌, ◌≤◌, ◌||◌, ◌∷◌, ◌++◌, [], ℕ, Bool, Contains, List, ap, arith, false, inl, inr, not, refl, subst, sym, true}
+use Rattle.std.proofs.Common.{◌≡◌, ◌∙◌, ◌&&◌, ◌+◌, ◌≤◌, ◌||◌, ◌∷◌, [], ℕ, Bool, Contains, List, ap, arith, false, inl, inr, not, refl, subst, sym, true}
 use Rattle.std.specs.List.{flat_map, list_any}
 use Rattle.std.specs.Prelude.{nat_le}
 use Rattle.std.proofs.lemmas.Bool.{cases_Bool}
@@ -7,7 +7,7 @@ use Rattle.std.proofs.lemmas.Bool.Decides.{nat_tests}
 use Rattle.std.proofs.lemmas.List.Elements.{Contains-append_left, Contains-append_right}
 use Rattle.vpc_base.specs.Cuts.{CutLists}
 use Rattle.prefix_text.specs.Block.{Block, holds, last_of}
-use Rattle.vpc_model.specs.Cuts.{block_cuts, cuts_of_blocks, fixed_cuts}
+use Rattle.vpc_model.specs.Cuts.{block_cuts, fixed_cuts}
 use Rattle.vpc_model.specs.Internet.{is_unroutable, unroutable_blocks}
 use Rattle.cut_laws.proofs.Among.{filter_in}
 use Rattle.cut_laws.specs.Dividing.{Divide, DivideTurns}

@@ -1,4 +1,4 @@
-use Rattle.std.proofs.Common.{List, [], arith, subst, sym, ◌∙◌}
+use Rattle.std.proofs.Common.{List, [], arith, subst, ◌∙◌}
 use Rattle.std.proofs.lemmas.List.{get_or_default}
 use Rattle.address_sets.specs.Runs.{is_in}
 use Rattle.address_sets.specs.declared.sets.Run.{Run}
