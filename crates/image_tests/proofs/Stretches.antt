@@ -1,5 +1,5 @@
 -- Bodies that end where a stretch of addresses does, and the answers for them.
-use Rattle.std.proofs.Common.{◌≡◌, ℕ, ◌≤◌, ◌<◌, ◌+◌, ◌⊎◌, ◌∷◌, ◌∙◌, ◌==◌, [], Bool, List, Option, is_some, map, not, true, ap, sym, subst, arith, inl, inr, refl}
+use Rattle.std.proofs.Common.{◌≡◌, ℕ, ◌≤◌, ◌<◌, ◌+◌, ◌⊎◌, ◌∷◌, ◌∙◌, [], Bool, List, Option, is_some, map, not, true, ap, sym, subst, arith, inl, inr, refl}
 use Rattle.std.specs.List.{Contains}
 use Rattle.std.proofs.lemmas.Bool.Decides.{nat_tests}
 use Rattle.std.proofs.lemmas.List.Elements.{All-cons, All-nil}
@@ -14,7 +14,7 @@ use Rattle.box_images.proofs.LawLemmas.{bodies_are_aligned, cuts_are_inside}
 use Rattle.box_images.proofs.SideLemmas.{number_in_side}
 use Rattle.box_images.specs.Answers.{Answers}
 use Rattle.box_images.specs.Bodies.{EndsAtEdges, IsBody, IsCut, IsCutInside, range_edges}
-use Rattle.box_images.specs.Fields.{greatest_on, number_of, side_of, value_of}
+use Rattle.box_images.specs.Fields.{number_of, side_of, value_of}
 use Rattle.box_images.specs.Images.{IsImageOfWalk, IsValidImage, field_of, header_at}
 use Rattle.box_images.specs.declared.fields.Field.{Field}
 use Rattle.box_images.specs.declared.fields.Field.TheVariants.{Fixed, Of}
