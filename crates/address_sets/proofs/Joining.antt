@@ -1,13 +1,14 @@
 -- Joined runs have the addresses of the runs, and are apart.
-use Rattle.std.proofs.Common.{◌≡◌, ◌∙◌, ◌||◌, ◌+◌, ◌<◌, ◌≤◌, ◌∷◌, [], ℕ, Bool, List, ap, arith, false, inl, inr, nat_lt, refl, suc, sym, true}
+use Rattle.std.proofs.Common.{◌≡◌, ◌∙◌, ◌||◌, ◌+◌, ◌<◌, ◌≤◌, ◌∷◌, [], ℕ, Bool, List, ap, arith, false, filter, inl, inr, nat_lt, refl, suc, sym, true}
 use Rattle.std.specs.List.{AllByRecursion}
 use Rattle.std.specs.List.Sorted.{IsNonDecreasingBy, IsPermutation}
-use Rattle.std.proofs.lemmas.List.Elements.{recursion_from_All}
-use Rattle.std.proofs.lemmas.List.Sorted.{list_any-IsPermutation}
-use Rattle.std.proofs.lemmas.Bool.{cases_Bool, leb-false}
+use Rattle.std.proofs.lemmas.List.Elements.{All-from_recursion, filter_passes, recursion_from_All}
+use Rattle.std.proofs.lemmas.List.Sorted.{All-permutation, list_any-IsPermutation}
+use Rattle.std.proofs.lemmas.Map.Views.{any-filter_same}
+use Rattle.std.proofs.lemmas.Bool.{cases_Bool, le-leb, leb-false, leb-true}
 use Rattle.std.proofs.lemmas.Bool.Decides.{nat_tests}
 use Rattle.address_sets.specs.declared.sets.Run.{Run}
-use Rattle.address_sets.specs.Runs.{AreApart, is_in, is_of, joined_with, joins, runs_joined, with_last}
+use Rattle.address_sets.specs.Runs.{AreApart, AreRuns, has_some, is_in, is_of, joined_with, joins, runs_joined, with_last}
 
 -- runs whose firsts ascend
 abbrev pub Ascend : List Run → Type 0
@@ -69,16 +70,50 @@ are_apart-joined_with r (s ∷ ss) up =
           )
     ]
 
+-- and none of them is empty
+some-with_last : (r : Run) (last : ℕ) → r.first ≤ r.last → (with_last r last).first ≤ (with_last r last).last
+some-with_last r last some = grind (arith, nat_tests)
+
+some-joined_with : (r : Run) (rs : List Run) → r.first ≤ r.last → AllByRecursion (λ s. s.first ≤ s.last) rs → AllByRecursion (λ s. s.first ≤ s.last) (joined_with r rs)
+some-joined_with r [] some all = (some, tt)
+some-joined_with r (s ∷ ss) some all =
+    elim (cases_Bool (joins r s)) [
+      | inl meets ↦ rw meets (some-joined_with (with_last r s.last) ss (some-with_last r s.last some) all.1)
+      | inr gap ↦ rw gap (some, some-joined_with s ss all.0 all.1)
+    ]
+
+some-runs_joined : (runs : List Run) → AllByRecursion (λ s. s.first ≤ s.last) runs → AllByRecursion (λ s. s.first ≤ s.last) (runs_joined runs)
+some-runs_joined [] all = tt
+some-runs_joined (r ∷ rs) all = some-joined_with r rs all.0 all.1
+
 -- sorted runs ascend
 ascend-sorted : (runs : List Run) → IsNonDecreasingBy (λ r. r.first) runs → Ascend runs
 ascend-sorted [] up = tt
 ascend-sorted (r ∷ rs) up =
     (recursion_from_All (λ s. r.first ≤ s.first) rs (λ k d within. up 0 (suc k) d (omega arith) (omega arith)), ascend-sorted rs (λ i j d le within. up (suc i) (suc j) d (omega arith) (omega arith)))
 
-pub is_in-joined : (a : ℕ) (given sorted : List Run) → IsPermutation given sorted → IsNonDecreasingBy (λ r. r.first) sorted → is_in a (runs_joined sorted) ≡ is_in a given
+is_in-joined : (a : ℕ) (given sorted : List Run) → IsPermutation given sorted → IsNonDecreasingBy (λ r. r.first) sorted → is_in a (runs_joined sorted) ≡ is_in a given
 is_in-joined a given [] same up = sym (list_any-IsPermutation (is_of a) given [] same)
 is_in-joined a given (r ∷ rs) same up = is_in-joined_with a r rs (ascend-sorted (r ∷ rs) up) ∙ sym (list_any-IsPermutation (is_of a) given (r ∷ rs) same)
 
-pub are_apart-joined : (sorted : List Run) → IsNonDecreasingBy (λ r. r.first) sorted → AreApart (runs_joined sorted)
+are_apart-joined : (sorted : List Run) → IsNonDecreasingBy (λ r. r.first) sorted → AreApart (runs_joined sorted)
 are_apart-joined [] up = tt
 are_apart-joined (r ∷ rs) up = are_apart-joined_with r rs (ascend-sorted (r ∷ rs) up)
+
+-- sorted runs that aren't empty, joined where they meet
+pub are_runs-joined : (given sorted : List Run) → IsPermutation (filter has_some given) sorted → IsNonDecreasingBy (λ r. r.first) sorted → AreRuns (runs_joined sorted)
+are_runs-joined given sorted same up =
+    let some = All-permutation (λ r. has_some r ≡ true) (filter has_some given) sorted same (filter_passes has_some given) in
+    record {
+      apart = are_apart-joined sorted up;
+      some = λ k d inside. le-leb _ _ (All-from_recursion (λ s. s.first ≤ s.last) (runs_joined sorted)
+          (some-runs_joined sorted (recursion_from_All (λ s. s.first ≤ s.last) sorted (λ j e within. leb-true _ _ (some j e within)))) k d inside);
+    }
+
+-- an empty run has no address
+is_of-some : (a : ℕ) (r : Run) → is_of a r ≡ true → has_some r ≡ true
+is_of-some a r of = grind (arith, nat_tests)
+
+pub is_in-joined_some : (a : ℕ) (given sorted : List Run) → IsPermutation (filter has_some given) sorted → IsNonDecreasingBy (λ r. r.first) sorted
+    → is_in a (runs_joined sorted) ≡ is_in a given
+is_in-joined_some a given sorted same up = is_in-joined a (filter has_some given) sorted same up ∙ any-filter_same (is_of a) has_some true (is_of-some a) given

@@ -1,3 +1,4 @@
 pub mod Joining
 pub mod Searching
 pub mod Blocks
+pub mod Stretches

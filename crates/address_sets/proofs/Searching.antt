@@ -5,7 +5,7 @@ use Rattle.std.specs.List.Sorted.{IsNonDecreasingBy, IsPartitionPoint}
 use Rattle.std.proofs.lemmas.Bool.{and_left, and_right, le-leb, le-ltb, leb-false, leb-true, lt-leb, or_from}
 use Rattle.std.proofs.lemmas.List.Elements.{All-from_recursion, recursion_from_All}
 use Rattle.address_sets.specs.declared.sets.Run.{Run}
-use Rattle.address_sets.specs.Runs.{AreApart, is_in, is_of}
+use Rattle.address_sets.specs.Runs.{AreApart, HaveBegun, is_in, is_of}
 
 -- no run that begins later has the address
 none-in : (a : ℕ) (runs : List Run) → AllByRecursion (λ r. a < r.first) runs → is_in a runs ≡ false
@@ -38,22 +38,27 @@ firsts-ascend (r ∷ rs) apart zero (suc j) d le within = (All-from_recursion (�
 firsts-ascend (r ∷ rs) apart (suc i) zero d le within = absurd (omega arith)
 firsts-ascend (r ∷ rs) apart (suc i) (suc j) d le within = firsts-ascend rs apart.1 i j d (omega arith) (omega arith)
 
--- the first n runs have begun at the address, and no others: the last of them tells
-pub has-some : (a : ℕ) (runs seen set : List Run) (n : ℕ) (r : Run) → AreApart runs → seen ≡ runs → runs ≡ set → 0 < n → n ≤ length seen
-    → IsPartitionPoint (λ s. nat_le s.first a ≡ true) (λ s. nat_le s.first a ≡ false) seen n
-    → r ≡ slice_index_or runs (n - 1) r
+-- the runs that have begun, by their firsts
+pub have_begun : (a : ℕ) (runs seen set : List Run) (n : ℕ) → seen ≡ runs → runs ≡ set → n ≤ length seen
+    → IsPartitionPoint (λ s. nat_le s.first a ≡ true) (λ s. nat_le s.first a ≡ false) seen n → HaveBegun a set n
+have_begun a runs seen set n same is bound point =
+    let at = subst (λ xs. IsPartitionPoint (λ s. nat_le s.first a ≡ true) (λ s. nat_le s.first a ≡ false) xs n) (same ∙ is) point in
+    let within : n ≤ length set = subst (λ (xs : List Run). n ≤ length xs) (same ∙ is) bound in
+    record {
+      count = within;
+      begun = λ k d lt. leb-true (slice_index_or set k d).first a (at.0 k d (omega arith) lt);
+      later = λ k d le inside. leb-false (slice_index_or set k d).first a (at.1 k d le inside);
+    }
+
+-- the last run that has begun tells
+pub has-some : (a : ℕ) (runs set : List Run) (n : ℕ) (r : Run) → AreApart runs → runs ≡ set → HaveBegun a set n → 0 < n → r ≡ slice_index_or runs (n - 1) r
     → nat_le a r.last ≡ is_in a set
-has-some a runs seen set n r apart same is some within begun at =
-    let early = begun.0 (n - 1) r (omega arith) (omega arith) in
-    let first : (slice_index_or runs (n - 1) r).first ≤ a = leb-true (slice_index_or runs (n - 1) r).first a (subst (λ xs. nat_le (slice_index_or xs (n - 1) r).first a ≡ true) same early) in
-    let long : length seen ≡ length runs = ap length same in
-    let last = last-in a runs (n - 1) r apart (omega (arith, long)) first
-    (λ k e lt inside. leb-false (slice_index_or runs k e).first a (subst (λ xs. nat_le (slice_index_or xs k e).first a ≡ false) same (begun.1 k e (omega arith) (omega (arith, long))))) in
+has-some a runs set n r apart is h some at =
+    let b : HaveBegun a runs n = subst (λ xs. HaveBegun a xs n) (sym is) h in
+    let count = b.count in
+    let last = last-in a runs (n - 1) r apart (omega arith) (b.begun (n - 1) r (omega arith)) (λ k e lt inside. b.later k e (omega arith) inside) in
     ap (λ (s : Run). nat_le a s.last) at ∙ sym last ∙ ap (is_in a) is
 
-pub has-none : (a : ℕ) (runs seen set : List Run) (n : ℕ) → seen ≡ runs → runs ≡ set → n ≤ 0
-    → IsPartitionPoint (λ s. nat_le s.first a ≡ true) (λ s. nat_le s.first a ≡ false) seen n
-    → nat_lt 0 n ≡ is_in a set
-has-none a runs seen set n same is none begun =
-    let nothing = none-in a seen (recursion_from_All (λ r. a < r.first) seen (λ k e inside. leb-false (slice_index_or seen k e).first a (begun.1 k e (omega arith) inside))) in
-    le-ltb 0 n none ∙ sym nothing ∙ ap (is_in a) (same ∙ is)
+pub has-none : (a : ℕ) (set : List Run) (n : ℕ) → n ≤ 0 → HaveBegun a set n → nat_lt 0 n ≡ is_in a set
+has-none a set n none h =
+    le-ltb 0 n none ∙ sym (none-in a set (recursion_from_All (λ r. a < r.first) set (λ k e inside. h.later k e (omega arith) inside)))

@@ -1,5 +1,5 @@
 -- Runs of addresses.
-use Rattle.std.specs.Prelude.{◌&&◌, ◌+◌, ◌<◌, ◌≤◌, ◌∷◌, [], if◌then◌else◌, Bool, List, nat_le, nat_lt, ℕ}
+use Rattle.std.specs.Prelude.{◌&&◌, ◌+◌, ◌<◌, ◌≡◌, ◌≤◌, ◌⊎◌, ◌∷◌, [], if◌then◌else◌, All, Bool, List, length, nat_le, nat_lt, not, slice_index_or, true, ℕ}
 use Rattle.std.specs.List.{AllByRecursion, list_any}
 use Rattle.prefix_text.specs.Block.{Block, last_of}
 use Rattle.address_sets.specs.declared.sets.Run.{Run}
@@ -20,6 +20,27 @@ run_of b = record { first = b.first; last = last_of b }
 abbrev pub AreApart : List Run → Type 0
 AreApart [] = Unit {0}
 AreApart (r ∷ rs) = AllByRecursion (λ s. (r.first ≤ s.first) × (r.last + 1 < s.first)) rs × AreApart rs
+
+-- the run isn't empty
+abbrev pub has_some : Run → Bool
+has_some r = nat_le r.first r.last
+
+-- each run has an address, and there are gaps between them
+pub record AreRuns (runs : List Run) : Type 0 where
+  pub apart : AreApart runs
+  pub some : All (λ r. has_some r ≡ true) runs
+
+-- the first n runs have begun at the address, and no others
+pub record HaveBegun (a : ℕ) (runs : List Run) (n : ℕ) : Type 0 where
+  pub count : n ≤ length runs
+  pub begun : (k : ℕ) (d : Run) → k < n → (slice_index_or runs k d).first ≤ a
+  pub later : (k : ℕ) (d : Run) → n ≤ k → k < length runs → a < (slice_index_or runs k d).first
+
+-- the addresses from a to the last are all in the runs, or none is, and the one past the last is the other way
+pub record IsStretch (runs : List Run) (a : ℕ) (x : ℕ × Bool) : Type 0 where
+  pub from : a ≤ x.0
+  pub alike : (b : ℕ) → a ≤ b → b ≤ x.0 → is_in b runs ≡ x.1
+  pub turns : (x.0 ≡ 4294967295) ⊎ (is_in (x.0 + 1) runs ≡ not x.1)
 
 -- ---- runs that are joined
 

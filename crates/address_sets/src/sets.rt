@@ -1,7 +1,7 @@
 // Sets of addresses.
-ghost use Rattle.std.specs.Prelude.{◌≡◌, IfOk, IsPermutation, map};
+ghost use Rattle.std.specs.Prelude.{◌≡◌, IfOk, IsPermutation, filter, map};
 ghost use Rattle.std.specs.List.Sorted.{IsNonDecreasingBy};
-ghost use Rattle.address_sets.specs.Runs.{joined_with, joins, run_of, runs_joined, with_last};
+ghost use Rattle.address_sets.specs.Runs.{has_some, joined_with, joins, run_of, runs_joined, with_last};
 
 use prefix_text::Prefix;
 use std::alloc::{AllocError, Global};
@@ -77,6 +77,12 @@ fn joined(alloc: Global, runs: &[Run]) -> Result<Vec<Run>, AllocError>
     }
 }
 
+fn drop_empty(runs: &mut Vec<Run>)
+    ensures { runs.new.items ≡ filter has_some runs.old.items }
+{
+    runs.retain(|run| run.first <= run.last);
+}
+
 fn sort(runs: &mut Vec<Run>)
     ensures same { IsPermutation runs.old.items runs.new.items }
     ensures sorted { IsNonDecreasingBy (λ r. r.first) runs.new.items }
@@ -84,7 +90,7 @@ fn sort(runs: &mut Vec<Run>)
     runs.sort_unstable_by_key(|run| run.first);
 }
 
-/// A set of addresses. Contracts see its runs, which ascend and don't meet.
+/// A set of addresses. Contracts see its runs: each has an address, and they ascend with gaps between.
 #[derive(Debug, Drop)]
 pub struct AddressSet {
     runs: Vec<Run>,
@@ -93,20 +99,20 @@ pub struct AddressSet {
 impl Model for AddressSet {
     ghost use Rattle.std.specs.Prelude.{List};
     ghost use Rattle.address_sets.specs.declared.sets.Run.{Run};
-    ghost use Rattle.address_sets.specs.Runs.{AreApart};
+    ghost use Rattle.address_sets.specs.Runs.{AreRuns};
 
     ghost Value = { List Run };
 
     ghost view = { λ s. s.runs.items };
 
-    ghost invariant = { λ s. AreApart s.runs.items };
+    ghost invariant = { λ s. AreRuns s.runs.items };
 }
 
 impl AddressSet {
     ghost use Rattle.std.specs.Prelude.{[], IfOk, ℕ};
     ghost use Rattle.std.specs.List.{list_any};
     ghost use Rattle.prefix_text.specs.Block.{holds};
-    ghost use Rattle.address_sets.specs.Runs.{is_in};
+    ghost use Rattle.address_sets.specs.Runs.{HaveBegun, IsStretch, is_in};
 
     /// No addresses.
     pub fn empty(alloc: Global) -> AddressSet
@@ -122,6 +128,7 @@ impl AddressSet {
     pub fn of(alloc: Global, mut runs: Vec<Run>) -> Result<AddressSet, AllocError>
         ensures { IfOk result (λ s. (a : ℕ) → is_in a s ≡ is_in a runs.items) }
     {
+        drop_empty(&mut runs);
         sort(&mut runs);
         Ok(AddressSet {
             runs: joined(alloc, runs.as_slice())?,
@@ -135,11 +142,37 @@ impl AddressSet {
         AddressSet::of(alloc, runs_of(alloc, blocks)?)
     }
 
+    // How many runs begin at the address or before it.
+    fn begun(&self, address: u32) -> usize
+        ensures { HaveBegun address self.now result }
+    {
+        self.runs.partition_point(|run| run.first <= address)
+    }
+
     /// Whether the address is in the set. It reads about log2 n runs.
     pub fn has(&self, address: u32) -> bool
         ensures { result ≡ is_in address self.now }
     {
-        let begun = self.runs.partition_point(|run| run.first <= address);
+        let begun = self.begun(address);
         begun > 0 && address <= self.runs[begun - 1].last
+    }
+
+    /// How far the addresses from this one on are alike: the last of them, and whether the set has them.
+    /// It reads about log2 n runs.
+    pub fn stretch(&self, address: u32) -> (u32, bool)
+        ensures { IsStretch self.now address result }
+    {
+        let begun = self.begun(address);
+        if begun > 0 {
+            let last = self.runs[begun - 1].last;
+            if address <= last {
+                return (last, true);
+            }
+        }
+        if begun < self.runs.len() {
+            (self.runs[begun].first - 1, false)
+        } else {
+            (u32::MAX, false)
+        }
     }
 }

@@ -40,6 +40,23 @@ fn has_what_its_runs_have(rt: HostRuntime) -> Result<(), Fail> {
         assert_eq!(rt; set.has(address), want);
     }
     assert_eq!(rt; AddressSet::empty(alloc).has(0), false);
+    let stretches = [
+        (0, (0, true)),
+        (1, (9, false)),
+        (9, (9, false)),
+        (10, (24, true)),
+        (20, (24, true)),
+        (24, (24, true)),
+        (25, (29, false)),
+        (30, (39, true)),
+        (59, (59, false)),
+        (61, (u32::MAX, true)),
+        (u32::MAX, (u32::MAX, true)),
+    ];
+    for (address, want) in stretches {
+        assert_eq!(rt; set.stretch(address), want);
+    }
+    assert_eq!(rt; AddressSet::empty(alloc).stretch(7), (u32::MAX, false));
     Ok(())
 }
 

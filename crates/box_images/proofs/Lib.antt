@@ -1,6 +1,7 @@
 pub mod SideLemmas
 pub mod BodyLemmas
 pub mod LawLemmas
+pub mod Reducing
 pub mod NarrowLemmas
 pub mod ImageLemmas
 pub mod TranslateLemmas

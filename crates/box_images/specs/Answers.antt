@@ -24,3 +24,9 @@ pub record AnswersImage (divide_enough : CutLists → Type 0) (answer : Header �
   pub aligned : (cuts : CutLists) → divide_enough cuts → IsAligned cuts x.body part
   pub valid : IfSome x.told IsValidImage
   pub over : IfSome x.told (λ i. i.part ≡ x.body)
+
+-- for each header of the body, an aligned one, what is left to ask is another question
+pub record Reduces {T : Type 0} (divide_enough : CutLists → Type 0) (whole rest : Header → T) (part body : Box5) : Type 0 where
+  pub same : (h : Header) → holds h body ≡ true → whole h ≡ rest h
+  pub inside : IsBody body part
+  pub aligned : (cuts : CutLists) → divide_enough cuts → IsAligned cuts body part

@@ -115,3 +115,10 @@ row_among f [] x (k, below, e) = absurd (omega arith)
 row_among f (y ∷ ys) x (zero, below, e) = subst (λ z. AreAmong (f z) (all_cuts f (y ∷ ys))) e (left_among (f y) (all_cuts f ys))
 row_among f (y ∷ ys) x (suc k, below, e) =
     among_through (f x) (all_cuts f ys) (all_cuts f (y ∷ ys)) (row_among f ys x (k, omega arith, e)) (right_among (f y) (all_cuts f ys))
+
+-- rows each of which has its cuts among some
+pub rows_among : {X : Type 0} (f : X → CutLists) (cuts : CutLists) (xs : List X) → ((x : X) → Contains xs x → AreAmong (f x) cuts) → AreAmong (all_cuts f xs) cuts
+rows_among f cuts [] each = none_among cuts
+rows_among f cuts (x ∷ xs) each =
+    both_among (f x) (all_cuts f xs) cuts (each x (0, omega arith, refl))
+    (rows_among f cuts xs (λ y has. each y (Contains-append_right (x ∷ []) xs y has)))

@@ -66,3 +66,8 @@ answers_both enough f g part x y e k l =
 pub answers_same : {T : Type 0} (enough : CutLists → Type 0) (f g : Header → T) (part : Box5) (x : Part T) → ((h : Header) → f h ≡ g h)
     → Answers enough f part x → Answers enough g part x
 answers_same {T} enough f g part x same k = record { told = λ h i. k.told h i ∙ same h; body = k.body; aligned = k.aligned }
+
+-- something is made of the answer
+pub answers_map : {S T : Type 0} (f : S → T) (enough : CutLists → Type 0) (answer : Header → S) (part : Box5) (x : Part S)
+    → Answers enough answer part x → Answers enough (λ h. f (answer h)) part (record { body = x.body; told = f x.told })
+answers_map {S} {T} f enough answer part x k = record { told = λ h i. ap f (k.told h i); body = k.body; aligned = k.aligned }

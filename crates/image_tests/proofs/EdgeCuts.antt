@@ -43,13 +43,13 @@ address_cut cuts few i s v w k has divide =
 pub proto_edges : (i : Image) (n : ℕ) → IsImageOfWalk i → EdgesAreCut (Divide (cuts_of_proto (Some n))) i Proto n n
 proto_edges i n w cuts divide = (
   proto_cut cuts (cuts_of_proto (Some n)) i n w (first_edge n n) divide,
-  proto_cut cuts (cuts_of_proto (Some n)) i (n + 1) w (last_edge n n) divide
+  proto_cut cuts (cuts_of_proto (Some n)) i (n + 1) w (last_edge n n) divide,
 )
 
 pub range_edges : (i : Image) (from to : ℕ) → IsImageOfWalk i → EdgesAreCut (Divide (cuts_of_range from to)) i Q from to
 range_edges i from to w cuts divide = (
   port_is_cut cuts (cuts_of_range from to) (edges from to) i.q from (q_field i w) refl refl (first_edge from to) divide,
-  port_is_cut cuts (cuts_of_range from to) (edges from to) i.q (to + 1) (q_field i w) refl refl (last_edge from to) divide
+  port_is_cut cuts (cuts_of_range from to) (edges from to) i.q (to + 1) (q_field i w) refl refl (last_edge from to) divide,
 )
 
 pub block_edges : (i : Image) (s : Side) (b : Block) → IsImageOfWalk i → IsAddressSide s
@@ -57,7 +57,7 @@ pub block_edges : (i : Image) (s : Side) (b : Block) → IsImageOfWalk i → IsA
     → IsCut cuts 4294967295 (field_of i s) b.first × IsCut cuts 4294967295 (field_of i s) (last_of b + 1)
 block_edges i s b w k cuts divide = (
   address_cut cuts (cuts_of_block b) i s b.first w k (0, omega arith, refl) divide,
-  address_cut cuts (cuts_of_block b) i s (last_of b + 1) w k (1, omega arith, refl) divide
+  address_cut cuts (cuts_of_block b) i s (last_of b + 1) w k (1, omega arith, refl) divide,
 )
 
 -- the parts of a rule's cuts
@@ -82,31 +82,27 @@ range_of_rule proto from to cuts divide = record {
 pub box_edges : (i : Image) (b : Box5) (s : Side) → IsImageOfWalk i → EdgesAreCut (Divide (cuts_of_box b)) i s (side_of b s).0 (side_of b s).1
 box_edges i b Proto w cuts divide = (
   proto_cut cuts (cuts_of_box b) i b.proto.0 w (first_edge b.proto.0 b.proto.1) divide,
-  proto_cut cuts (cuts_of_box b) i (b.proto.1 + 1) w (last_edge b.proto.0 b.proto.1) divide
+  proto_cut cuts (cuts_of_box b) i (b.proto.1 + 1) w (last_edge b.proto.0 b.proto.1) divide,
 )
 box_edges i b Src w cuts divide =
-    let first = Contains-append_left (edges b.src.0 b.src.1) (edges b.dst.0 b.dst.1) in
-    (
+    let first = Contains-append_left (edges b.src.0 b.src.1) (edges b.dst.0 b.dst.1) in (
       address_cut cuts (cuts_of_box b) i Src b.src.0 w (inl refl) (first b.src.0 (first_edge b.src.0 b.src.1)) divide,
-      address_cut cuts (cuts_of_box b) i Src (b.src.1 + 1) w (inl refl) (first (b.src.1 + 1) (last_edge b.src.0 b.src.1)) divide
+      address_cut cuts (cuts_of_box b) i Src (b.src.1 + 1) w (inl refl) (first (b.src.1 + 1) (last_edge b.src.0 b.src.1)) divide,
     )
 box_edges i b Dst w cuts divide =
-    let second = Contains-append_right (edges b.src.0 b.src.1) (edges b.dst.0 b.dst.1) in
-    (
+    let second = Contains-append_right (edges b.src.0 b.src.1) (edges b.dst.0 b.dst.1) in (
       address_cut cuts (cuts_of_box b) i Dst b.dst.0 w (inr refl) (second b.dst.0 (first_edge b.dst.0 b.dst.1)) divide,
-      address_cut cuts (cuts_of_box b) i Dst (b.dst.1 + 1) w (inr refl) (second (b.dst.1 + 1) (last_edge b.dst.0 b.dst.1)) divide
+      address_cut cuts (cuts_of_box b) i Dst (b.dst.1 + 1) w (inr refl) (second (b.dst.1 + 1) (last_edge b.dst.0 b.dst.1)) divide,
     )
 box_edges i b P w cuts divide =
     let es = edges b.p.0 b.p.1 ++ edges b.q.0 b.q.1 in
-    let first = Contains-append_left (edges b.p.0 b.p.1) (edges b.q.0 b.q.1) in
-    (
+    let first = Contains-append_left (edges b.p.0 b.p.1) (edges b.q.0 b.q.1) in (
       port_is_cut cuts (cuts_of_box b) es i.p b.p.0 (p_field i w) refl refl (first b.p.0 (first_edge b.p.0 b.p.1)) divide,
-      port_is_cut cuts (cuts_of_box b) es i.p (b.p.1 + 1) (p_field i w) refl refl (first (b.p.1 + 1) (last_edge b.p.0 b.p.1)) divide
+      port_is_cut cuts (cuts_of_box b) es i.p (b.p.1 + 1) (p_field i w) refl refl (first (b.p.1 + 1) (last_edge b.p.0 b.p.1)) divide,
     )
 box_edges i b Q w cuts divide =
     let es = edges b.p.0 b.p.1 ++ edges b.q.0 b.q.1 in
-    let second = Contains-append_right (edges b.p.0 b.p.1) (edges b.q.0 b.q.1) in
-    (
+    let second = Contains-append_right (edges b.p.0 b.p.1) (edges b.q.0 b.q.1) in (
       port_is_cut cuts (cuts_of_box b) es i.q b.q.0 (q_field i w) refl refl (second b.q.0 (first_edge b.q.0 b.q.1)) divide,
-      port_is_cut cuts (cuts_of_box b) es i.q (b.q.1 + 1) (q_field i w) refl refl (second (b.q.1 + 1) (last_edge b.q.0 b.q.1)) divide
+      port_is_cut cuts (cuts_of_box b) es i.q (b.q.1 + 1) (q_field i w) refl refl (second (b.q.1 + 1) (last_edge b.q.0 b.q.1)) divide,
     )

@@ -6,7 +6,7 @@ use Rattle.std.proofs.lemmas.Bool.Decides.{nat_tests}
 use Rattle.std.proofs.lemmas.List.Elements.{Contains-append_left, Contains-append_right}
 use Rattle.vpc_base.specs.Cuts.{CutLists}
 use Rattle.box_images.specs.Bodies.{IsCut}
-use Rattle.box_images.specs.Fields.{HasOffset}
+use Rattle.box_images.specs.Fields.{HasOffset, greatest_on}
 use Rattle.box_images.specs.Images.{IsAddress, IsImageOfAnswer, IsImageOfEchoReply, IsImageOfOpen, IsImageOfReturn, IsImageOfWalk, IsPort, field_of}
 use Rattle.box_images.specs.declared.fields.Field.{Field}
 use Rattle.box_images.specs.declared.fields.Field.TheVariants.{Fixed, Of}
@@ -35,6 +35,13 @@ ReadsPort (Of Src add) = ⊥
 ReadsPort (Of Dst add) = ⊥
 ReadsPort (Of P add) = (add ≡ 0) ⊎ (add ≡ 1024)
 ReadsPort (Of Q add) = add ≡ 0
+
+-- an address has 32 bits (RFC 791)
+pub greatest_address : (s : Side) → IsAddressSide s → greatest_on s ≡ 4294967295
+greatest_address s k = ⊎_elim
+    (λ e. subst (λ (t : Side). greatest_on t ≡ 4294967295) (sym e) refl)
+    (λ e. subst (λ (t : Side). greatest_on t ≡ 4294967295) (sym e) refl)
+    k
 
 -- ---- the fields of each kind
 

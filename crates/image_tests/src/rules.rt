@@ -1,16 +1,18 @@
 // What rules of ACLs and groups ask.
-ghost use Rattle.std.specs.Prelude.{[]};
+ghost use Rattle.std.specs.Prelude.{[], ◌≡◌};
 ghost use Rattle.box_images.specs.Answers.{Answers};
 ghost use Rattle.box_images.specs.Fields.{number_of};
 ghost use Rattle.box_images.specs.Images.{IsImageOfWalk, IsValidImage, header_at};
 ghost use Rattle.cut_laws.specs.Dividing.{Divide};
 ghost use Rattle.prefix_text.specs.Block.{holds};
+ghost use Rattle.vpc_base.specs.declared.headers.Header.{Header};
 ghost use Rattle.vpc_model.specs.Cuts.{cuts_of_rule};
-ghost use Rattle.vpc_model.specs.Filter.{is_between, matches_proto};
+ghost use Rattle.vpc_model.specs.Filter.{far_address, is_between, matches_proto};
 ghost use Rattle.image_tests.specs.Tests.{IsAddressSide, TellsSide, cuts_of_block, cuts_of_proto, cuts_of_range, fits_rule};
 
 use box_images::{Image, Part, Side};
 use prefix_text::Prefix;
+use vpc_base::Dir;
 
 /// Whether the protocol is a rule's; none stands for all protocols.
 pub fn proto_on(i: &Image, proto: Option<u8>) -> Part<bool>
@@ -61,6 +63,17 @@ pub fn block_on(i: &Image, side: Side, block: &Prefix) -> Part<bool>
         (λ h. holds (number_of (header_at i.now h) side) block.now) i.now.part result }
 {
     side_on(i, side, block.first(), block.last())
+}
+
+/// The side of the far address: the source of inbound packets, the destination of outbound ones.
+pub fn far_side(dir: Dir) -> Side
+    ensures far { (h : Header) → number_of h result ≡ far_address dir h }
+    ensures address { IsAddressSide result }
+{
+    match dir {
+        Dir::Inward => Side::Src,
+        Dir::Outward => Side::Dst,
+    }
 }
 
 /// Whether protocol and range of a rule fit. The range is asked where the protocol fits.

@@ -1,1 +1,3 @@
 pub mod Directions
+pub mod Matching
+pub mod Standing

@@ -1,12 +1,19 @@
 -- The rows of an ACL in the order in which they are tried (VPC User Guide, "Network ACL rules").
-use Rattle.std.specs.Prelude.{◌&&◌, ◌≡◌, All, Bool, IsPermutation, IsSortedByKey, List, filter, true, ℕ}
+use Rattle.std.specs.Prelude.{◌&&◌, ◌≡◌, All, Bool, IsPermutation, IsSortedByKey, List, filter, true}
 use Rattle.std.specs.Ordering.{nat_cmp}
+use Rattle.cut_laws.specs.Dividing.{Divide}
+use Rattle.vpc_base.specs.Cuts.{CutLists}
 use Rattle.vpc_base.specs.declared.headers.Dir.{Dir}
 use Rattle.vpc_base.specs.declared.headers.Dir.TheVariants as dirs
 use Rattle.vpc_base.specs.declared.headers.Header.{Header}
 use Rattle.vpc_model.specs.declared.rows.AclRow.{AclRow}
+use Rattle.vpc_model.specs.declared.numbers.AclNo.{AclNo}
+use Rattle.vpc_model.specs.declared.rows.Description.{Description}
 use Rattle.prefix_text.specs.Block.{holds}
 use Rattle.vpc_model.specs.Acls.{acl_verdict, is_of_dir}
+use Rattle.vpc_model.specs.Cuts.{all_cuts, cuts_of_acl_row, standing_cuts}
+use Rattle.vpc_model.specs.Lookup.{acl_at}
+use Rattle.vpc_model.specs.Sound.{is_acl}
 use Rattle.vpc_model.specs.Filter.{far_address, is_between, matches_proto}
 
 -- the rows of each direction
@@ -32,3 +39,13 @@ row_matches dir h r = matches_proto r.proto h.proto && (is_between r.q_from r.q_
 pub record SortsRows (rows : List AclRow) (i : TriedRows) : Type 0 where
   pub same : (dir : Dir) → IsPermutation (filter (is_of_dir dir) rows) (rows_tried dir i)
   pub verdicts : (dir : Dir) (h : Header) → acl_verdict (rows_tried dir i) dir h ≡ acl_verdict rows dir h
+
+-- the cuts divide at all edges of the rows
+abbrev pub DivideRows : List AclRow → CutLists → Type 0
+DivideRows rows cuts = Divide (all_cuts cuts_of_acl_row rows) cuts
+
+-- the standing cuts of a description divide at the rows of its ACLs
+abbrev pub TriedRowsAreStanding : Type 0
+TriedRowsAreStanding =
+    (d : Description) (a : AclNo) (i : TriedRows) (dir : Dir) → is_acl d a ≡ true → SortsRows (acl_at d a).rows i
+    → DivideRows (rows_tried dir i) (standing_cuts d)

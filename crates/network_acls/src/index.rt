@@ -5,13 +5,15 @@ ghost use Rattle.std.specs.Ordering.{nat_cmp};
 ghost use Rattle.vpc_model.specs.Acls.{acl_verdict, is_of_dir, verdict_of_row};
 ghost use Rattle.network_acls.specs.Tried.{AreTried, row_matches};
 
+use crate::on_images::first_verdict_on;
+use box_images::{Image, Part};
 use std::alloc::{AllocError, Global};
 use std::marker::Model;
 use vpc_base::{Dir, Header, NoMemory};
 use vpc_model::{AclNo, AclRow, Description, far_address, is_between, matches_proto};
 
 // The number of the rule that ends every ACL and denies (EC2 API, DescribeNetworkAcls).
-const LAST_RULE: u16 = 32767;
+pub const LAST_RULE: u16 = 32767;
 
 fn is_of(row: &AclRow, dir: Dir) -> bool
     ensures { result ≡ is_of_dir dir row.now }
@@ -101,7 +103,9 @@ impl AclIndex {
     ghost use Rattle.vpc_model.specs.Acls.{acl_verdict};
     ghost use Rattle.vpc_model.specs.Lookup.{acl_at};
     ghost use Rattle.vpc_model.specs.Sound.{is_acl};
-    ghost use Rattle.network_acls.specs.Tried.{SortsRows, rows_tried};
+    ghost use Rattle.box_images.specs.Answers.{Answers};
+    ghost use Rattle.box_images.specs.Images.{IsImageOfWalk, IsValidImage, header_at};
+    ghost use Rattle.network_acls.specs.Tried.{DivideRows, SortsRows, rows_tried};
 
     /// The index of an ACL. It takes time n log n in the ACL's rows.
     pub fn of(alloc: Global, d: &Description, a: AclNo) -> Result<AclIndex, NoMemory>
@@ -123,6 +127,20 @@ impl AclIndex {
         match dir {
             Dir::Inward => first_verdict(self.inward.as_slice(), Dir::Inward, h),
             Dir::Outward => first_verdict(self.outward.as_slice(), Dir::Outward, h),
+        }
+    }
+    /// The same for all headers of an image, on a body. It asks the rows in their order up to the first one
+    /// that matches, in time that grows with them: AWS allows 40 rows in a direction at most (VPC User Guide,
+    /// "Network ACL quotas").
+    pub fn decide_on(&self, dir: Dir, i: &Image) -> Part<(bool, u16)>
+        requires valid { IsValidImage i.now }
+        requires walk { IsImageOfWalk i.now }
+        ensures { Answers (DivideRows (rows_tried dir self.now))
+            (λ h. acl_verdict (rows_tried dir self.now) dir (header_at i.now h)) i.now.part result }
+    {
+        match dir {
+            Dir::Inward => first_verdict_on(self.inward.as_slice(), Dir::Inward, i),
+            Dir::Outward => first_verdict_on(self.outward.as_slice(), Dir::Outward, i),
         }
     }
 }

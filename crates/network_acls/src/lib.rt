@@ -2,7 +2,10 @@
 #![tactic(auto)]
 
 mod index;
+mod laws;
+mod on_images;
 #[cfg(test)]
 mod tests;
 
 pub use index::AclIndex;
+pub use laws::tried_rows_are_standing;

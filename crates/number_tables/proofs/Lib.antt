@@ -1,3 +1,4 @@
 pub mod Searching
 pub mod Among
 pub mod KeyLemmas
+pub mod Following

@@ -31,6 +31,7 @@ impl Model for NumberSet {
 impl NumberSet {
     ghost use Rattle.std.specs.Prelude.{◌==◌, ℕ};
     ghost use Rattle.std.specs.List.{list_any};
+    ghost use Rattle.number_tables.specs.Next.{IsNext};
 
     /// The set of some numbers, in any order. It takes time n log n and no memory.
     pub fn of(mut numbers: Vec<u64>) -> NumberSet
@@ -45,5 +46,17 @@ impl NumberSet {
         ensures { result ≡ list_any (λ n. n == number) self.now }
     {
         self.numbers.binary_search(&number).is_ok()
+    }
+
+    /// The least number there that is at least this one. It reads about log2 n numbers.
+    pub fn next(&self, number: u64) -> Option<u64>
+        ensures { IsNext self.now number result }
+    {
+        let next = self.numbers.partition_point(|n| *n < number);
+        if next < self.numbers.len() {
+            Some(self.numbers[next])
+        } else {
+            None
+        }
     }
 }

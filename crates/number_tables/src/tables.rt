@@ -42,7 +42,8 @@ impl<T> Model for NumberTable<T> {
 }
 
 impl<T: Copy + Drop> NumberTable<T> {
-    ghost use Rattle.std.specs.Prelude.{IfOk, ℕ};
+    ghost use Rattle.std.specs.Prelude.{IfOk, map, ℕ};
+    ghost use Rattle.number_tables.specs.Next.{IsNext};
 
     /// The table of some entries, in any order; of those with one key the first counts. It takes time
     /// n log n.
@@ -65,5 +66,17 @@ impl<T: Copy + Drop> NumberTable<T> {
             }
         }
         None
+    }
+
+    /// The least key there that is at least this one. It reads about log2 n entries.
+    pub fn next_key(&self, key: u64) -> Option<u64>
+        ensures { IsNext (map (λ e. e.key) self.now) key result }
+    {
+        let next = self.entries.partition_point(|entry| entry.key < key);
+        if next < self.entries.len() {
+            Some(self.entries[next].key)
+        } else {
+            None
+        }
     }
 }

@@ -22,6 +22,17 @@ fn gives_values(rt: HostRuntime) -> Result<(), Fail> {
     for (key, want) in cases {
         assert_eq!(rt; table.get(key), want);
     }
+    let nexts = [
+        (0, Some(0)),
+        (1, Some(7)),
+        (7, Some(7)),
+        (8, Some(8)),
+        (9, Some(u64::MAX)),
+        (u64::MAX, Some(u64::MAX)),
+    ];
+    for (key, want) in nexts {
+        assert_eq!(rt; table.next_key(key), want);
+    }
     Ok(())
 }
 
@@ -41,6 +52,20 @@ fn has_numbers(rt: HostRuntime) -> Result<(), Fail> {
     for (number, want) in cases {
         assert_eq!(rt; set.has(number), want);
     }
-    assert_eq!(rt; NumberSet::of(Vec::new(rt.alloc())).has(0), false);
+    let set = NumberSet::of(vec![in rt.alloc(); 9, 7, 7]?);
+    let nexts = [
+        (0, Some(7)),
+        (7, Some(7)),
+        (8, Some(9)),
+        (9, Some(9)),
+        (10, None),
+        (u64::MAX, None),
+    ];
+    for (number, want) in nexts {
+        assert_eq!(rt; set.next(number), want);
+    }
+    let none = NumberSet::of(Vec::new(rt.alloc()));
+    assert_eq!(rt; none.has(0), false);
+    assert_eq!(rt; none.next(0), None);
     Ok(())
 }

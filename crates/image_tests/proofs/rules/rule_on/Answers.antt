@@ -32,7 +32,7 @@ returns c =
     let proto : Header → Bool = λ h. matches_proto c.args.proto (header_at i h).proto in
     let range : Header → Bool = λ h. is_between from to (header_at i h).q in
     let later = subst (λ (j : Image). Answers (Divide (cuts_of_range from to)) (λ h. is_between from to (header_at j h).q) j.part y)
-        c.within.ensures.image c.range_on.ensures in
+    c.within.ensures.image c.range_on.ensures in
     answers_both enough proto range i.part x y c.if-not-fits.false
     (answers_more (Divide (cuts_of_proto c.args.proto)) enough proto i.part x (proto_of_rule c.args.proto from to) c.proto_on-fits.ensures)
     (answers_more (Divide (cuts_of_range from to)) enough range x.body y (range_of_rule c.args.proto from to) later)

@@ -1,0 +1,62 @@
+-- Rows that are asked one after the other, until one passes a test.
+use Rattle.std.proofs.Common.{◌≡◌, ◌<◌, ◌+◌, ◌∷◌, Bool, true, false, List, ℕ, ap, drop, get_or, length, refl, subst, suc, sym, ◌∙◌, arith}
+use Rattle.std.proofs.Math.Seq.{drop-cons}
+use Rattle.vpc_base.specs.Cuts.{CutLists}
+use Rattle.vpc_base.specs.declared.headers.Header.{Header}
+use Rattle.header_boxes.specs.Boxes.{holds}
+use Rattle.box_images.proofs.Reducing.{reduced_all, reduced_by, reduced_nothing, walk_within}
+use Rattle.box_images.specs.Answers.{Answers, Reduces}
+use Rattle.box_images.specs.Images.{IsImageOfWalk, IsValidImage, KeepsKind, header_at}
+use Rattle.box_images.specs.declared.images.Image.{Image}
+use Rattle.box_images.specs.declared.images.Part.{Part}
+
+-- the image is over what is left to ask, which depends on the rows from a number on
+pub record IsTrying {X T : Type 0} (enough : CutLists → Type 0) (whole : Header → T) (asked : List X → Header → T) (rows : List X) (i : Image) (k : ℕ) (rest : Image) : Type 0 where
+  pub image : rest ≡ record i { part = rest.part }
+  pub valid : IsValidImage rest
+  pub walk : IsImageOfWalk rest
+  pub reduced : Reduces enough whole (asked (drop k rows)) i.part rest.part
+
+pub trying_first : {X T : Type 0} (enough : CutLists → Type 0) (asked : List X → Header → T) (rows : List X) (i : Image) → IsValidImage i → IsImageOfWalk i
+    → IsTrying enough (asked rows) asked rows i 0 i
+trying_first enough asked rows i v w = record { image = refl; valid = v; walk = w; reduced = reduced_nothing enough (asked rows) i.part v.part }
+
+rows_from : {X : Type 0} (rows : List X) (k : ℕ) (row : X) → k < length rows → row ≡ get_or rows k row → drop k rows ≡ row ∷ drop (k + 1) rows
+rows_from rows k row below is =
+    let next : suc k ≡ k + 1 = omega arith in
+    drop-cons rows k row below ∙ ap (λ n. get_or rows k row ∷ drop n rows) next ∙ ap (λ y. y ∷ drop (k + 1) rows) (sym is)
+
+-- a row that doesn't pass is left behind
+pub trying_next : {X T : Type 0} (enough : CutLists → Type 0) (whole : Header → T) (asked : List X → Header → T) (test : X → Header → Bool)
+    → ((x : X) (xs : List X) (h : Header) → test x h ≡ false → asked (x ∷ xs) h ≡ asked xs h)
+    → (rows : List X) (i : Image) (k : ℕ) (rest : Image) (row : X) (x : Part Bool) (next : Image)
+    → k < length rows → row ≡ get_or rows k row → x.told ≡ false
+    → next ≡ record rest { part = x.body } → IsValidImage next → ((addresses : List ℕ) → KeepsKind addresses rest next)
+    → IsTrying enough whole asked rows i k rest → Answers enough (test row) rest.part x
+    → IsTrying enough whole asked rows i (k + 1) next
+trying_next {X} {T} enough whole asked test skips rows i k rest row x next below is fails image valid keeps t a = record {
+  image = subst (λ (j : Image). j ≡ record i { part = j.part }) (sym image) (ap (λ (j : Image). record j { part = x.body }) t.image);
+  valid = valid;
+  walk = walk_within rest next t.walk keeps;
+  reduced = subst (λ (j : Image). Reduces enough whole (asked (drop (k + 1) rows)) i.part j.part) (sym image)
+      (reduced_by enough whole (asked (drop k rows)) (asked (drop (k + 1) rows)) i.part rest.part (test row) x false fails
+      (λ h e. ap (λ xs. asked xs h) (rows_from rows k row below is) ∙ skips row (drop (k + 1) rows) h e)
+      t.reduced a);
+}
+
+-- a row that passes decides
+pub trying_last : {X T : Type 0} (enough : CutLists → Type 0) (whole : Header → T) (asked : List X → Header → T) (test : X → Header → Bool) (rows : List X) (i : Image) (k : ℕ) (rest : Image) (row : X)
+    (x : Part Bool) (told : T) → ((xs : List X) (h : Header) → test row h ≡ true → asked (row ∷ xs) h ≡ told)
+    → k < length rows → row ≡ get_or rows k row → x.told ≡ true
+    → IsTrying enough whole asked rows i k rest → Answers enough (test row) rest.part x
+    → Answers enough whole i.part (record { body = x.body; told = told })
+trying_last {X} {T} enough whole asked test rows i k rest row x told decides below is passes t a =
+    let next : Header → T = λ h. told in
+    reduced_all enough whole next i.part x.body told (λ h e. refl)
+    (reduced_by enough whole (asked (drop k rows)) next i.part rest.part (test row) x true passes
+    (λ h e. ap (λ xs. asked xs h) (rows_from rows k row below is) ∙ decides (drop (k + 1) rows) h e)
+    t.reduced a)
+
+-- the header of an image over a part is that of the image
+pub header_of_rest : (i rest : Image) (h : Header) → rest ≡ record i { part = rest.part } → header_at rest h ≡ header_at i h
+header_of_rest i rest h e = ap (λ (j : Image). header_at j h) e

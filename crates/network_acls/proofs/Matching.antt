@@ -1,0 +1,98 @@
+-- Rows asked of images.
+use Rattle.std.proofs.Common.{◌≡◌, ◌&&◌, ◌∷◌, [], Bool, true, false, List, Option, Some, ◌<◌, ℕ, ap, get_or, length, refl, subst, sym, arith, ◌∙◌}
+use Rattle.std.specs.List.{Contains, find}
+use Rattle.vpc_base.specs.declared.headers.Dir.{Dir}
+use Rattle.vpc_base.specs.declared.headers.Header.{Header}
+use Rattle.header_boxes.specs.declared.boxes.Box5.{Box5}
+use Rattle.box_images.specs.Answers.{Answers}
+use Rattle.box_images.specs.Fields.{number_of}
+use Rattle.box_images.specs.Images.{header_at}
+use Rattle.box_images.specs.declared.fields.Side.{Side}
+use Rattle.box_images.specs.declared.images.Image.{Image}
+use Rattle.box_images.specs.declared.images.Part.{Part}
+use Rattle.cut_laws.proofs.Among.{among_through, on_sides_among, row_among}
+use Rattle.cut_laws.specs.Dividing.{Divide}
+use Rattle.image_tests.proofs.Answering.{answers_more, answers_same}
+use Rattle.image_tests.proofs.Trying.{header_of_rest}
+use Rattle.image_tests.specs.Tests.{cuts_of_block, fits_rule}
+use Rattle.prefix_text.specs.Block.{holds}
+use Rattle.vpc_model.specs.Cuts.{all_cuts, cuts_of_acl_row, cuts_of_rule, on_sides}
+use Rattle.vpc_model.specs.Filter.{far_address, is_between, matches_proto}
+use Rattle.vpc_model.specs.declared.rows.AclRow.{AclRow}
+use Rattle.vpc_model.specs.Acls.{acl_verdict, verdict_of_row}
+use Rattle.network_acls.proofs.Directions.{decided}
+use Rattle.network_acls.specs.Tried.{AreTried, DivideRows, TriedRows, row_matches, rows_tried}
+
+-- the cuts of a row are those of its rule and of its block
+pub rule_of_row : (i : Image) (r : AclRow) (x : Part Bool)
+    → Answers (Divide (cuts_of_rule r.proto r.q_from r.q_to [])) (λ h. fits_rule r.proto r.q_from r.q_to (header_at i h)) i.part x
+    → Answers (Divide (cuts_of_acl_row r)) (λ h. fits_rule r.proto r.q_from r.q_to (header_at i h)) i.part x
+rule_of_row i r x k =
+    answers_more (Divide (cuts_of_rule r.proto r.q_from r.q_to [])) (Divide (cuts_of_acl_row r)) (λ h. fits_rule r.proto r.q_from r.q_to (header_at i h)) i.part x
+    (λ cuts d. record { proto = d.proto; addr = λ c (n, below, e). absurd (omega arith); p = d.p; q = d.q }) k
+
+pub block_of_row : (i : Image) (dir : Dir) (r : AclRow) (s : Side) (body : Box5) (x : Part Bool) → ((h : Header) → number_of h s ≡ far_address dir h)
+    → Answers (Divide (cuts_of_block r.block)) (λ h. holds (number_of (header_at i h) s) r.block) body x
+    → Answers (Divide (cuts_of_acl_row r)) (λ h. holds (far_address dir (header_at i h)) r.block) body x
+block_of_row i dir r s body x far k =
+    answers_more (Divide (cuts_of_block r.block)) (Divide (cuts_of_acl_row r)) (λ h. holds (far_address dir (header_at i h)) r.block) body x
+    (λ cuts d. record {
+      proto = λ c (n, below, e). absurd (omega arith);
+      addr = d.addr;
+      p = λ c (n, below, e). absurd (omega arith);
+      q = λ c (n, below, e). absurd (omega arith);
+    })
+    (answers_same (Divide (cuts_of_block r.block)) (λ h. holds (number_of (header_at i h) s) r.block) (λ h. holds (far_address dir (header_at i h)) r.block) body x
+    (λ h. ap (λ a. holds a r.block) (far (header_at i h))) k)
+
+and_associates : (a b c : Bool) → ((a && b) && c) ≡ (a && (b && c))
+and_associates true b c = refl
+and_associates false b c = refl
+
+-- rule and block together are the row
+pub one_after_the_other : (i : Image) (dir : Dir) (r : AclRow) (x : Part Bool)
+    → Answers (Divide (cuts_of_acl_row r)) (λ h. fits_rule r.proto r.q_from r.q_to (header_at i h) && holds (far_address dir (header_at i h)) r.block) i.part x
+    → Answers (Divide (cuts_of_acl_row r)) (λ h. row_matches dir (header_at i h) r) i.part x
+one_after_the_other i dir r x k =
+    answers_same (Divide (cuts_of_acl_row r))
+    (λ h. fits_rule r.proto r.q_from r.q_to (header_at i h) && holds (far_address dir (header_at i h)) r.block)
+    (λ h. row_matches dir (header_at i h) r) i.part x
+    (λ h. and_associates (matches_proto r.proto (header_at i h).proto) (is_between r.q_from r.q_to (header_at i h).q) (holds (far_address dir (header_at i h)) r.block))
+    k
+
+-- the first of some rows that matches
+abbrev pub first_match : Dir → Image → List AclRow → Header → Option AclRow
+first_match dir i rows h = find (row_matches dir (header_at i h)) rows
+
+abbrev pub row_test : Dir → Image → AclRow → Header → Bool
+row_test dir i r h = row_matches dir (header_at i h) r
+
+pub row_has : (rows : List AclRow) (k : ℕ) (r : AclRow) → k < length rows → r ≡ get_or rows k r → Contains rows r
+row_has rows k r below is = (k, below, sym is)
+
+pub no_match_yet : (dir : Dir) (i : Image) (r : AclRow) (rows : List AclRow) (h : Header) → row_matches dir (header_at i h) r ≡ false → first_match dir i (r ∷ rows) h ≡ first_match dir i rows h
+no_match_yet dir i r rows h fails = rw fails refl
+
+pub match_found : (dir : Dir) (i : Image) (r : AclRow) (rows : List AclRow) (h : Header) → row_matches dir (header_at i h) r ≡ true → first_match dir i (r ∷ rows) h ≡ Some r
+match_found dir i r rows h passes = rw passes refl
+
+-- where the edges of all rows are cuts, those of each are; and what is left of the image has the same headers
+pub answer_of_row : (rows : List AclRow) (dir : Dir) (i rest : Image) (r : AclRow) (x : Part Bool) → Contains rows r → rest ≡ record i { part = rest.part }
+    → Answers (Divide (cuts_of_acl_row r)) (λ h. row_matches dir (header_at rest h) r) rest.part x
+    → Answers (DivideRows rows) (λ h. row_matches dir (header_at i h) r) rest.part x
+answer_of_row rows dir i rest r x has e k =
+    answers_more (Divide (cuts_of_acl_row r)) (DivideRows rows) (λ h. row_matches dir (header_at i h) r) rest.part x
+    (λ cuts d. among_through (on_sides (cuts_of_acl_row r)) (on_sides (all_cuts cuts_of_acl_row rows)) cuts
+    (on_sides_among (cuts_of_acl_row r) (all_cuts cuts_of_acl_row rows) (row_among cuts_of_acl_row rows r has)) d)
+    (answers_same (Divide (cuts_of_acl_row r)) (λ h. row_matches dir (header_at rest h) r) (λ h. row_matches dir (header_at i h) r) rest.part x
+    (λ h. ap (λ g. row_matches dir g r) (header_of_rest i rest h e)) k)
+
+-- the verdict on an image of the rows of one direction, of an index that is asked for that direction
+pub decided_on : (dir asked : Dir) (i : Image) (x : Part (Bool × ℕ)) (rows seen : List AclRow) (t : TriedRows) → dir ≡ asked → AreTried asked rows → seen ≡ rows → rows ≡ rows_tried asked t
+    → Answers (DivideRows seen) (λ h. verdict_of_row (find (row_matches asked (header_at i h)) seen)) i.part x
+    → Answers (DivideRows (rows_tried dir t)) (λ h. acl_verdict (rows_tried dir t) dir (header_at i h)) i.part x
+decided_on dir asked i x rows seen t same tried is in_index k = record {
+  told = λ h inside. decided dir asked (header_at i h) rows seen t x.told same tried is in_index (k.told h inside);
+  body = k.body;
+  aligned = λ cuts d. k.aligned cuts (subst (λ rs. DivideRows rs cuts) (sym (is ∙ in_index ∙ ap (λ d. rows_tried d t) (sym same))) d);
+}
