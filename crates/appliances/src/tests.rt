@@ -1,9 +1,14 @@
-// That deciders ask their closure is what no clause says: this one counts its calls.
+// That deciders ask their closure of one header, and their boxes of many, is what no clause says: this closure
+// counts its calls. Nor does one say that a body reaches to where the answer may turn.
 ghost use Rattle.std.specs.Prelude.{◌≡◌, ◌∷◌, [], IfOk};
+ghost use Rattle.box_images.specs.Images.{IsImageOfWalk, IsValidImage};
+ghost use Rattle.header_boxes.specs.Boxes.{IsValid};
 ghost use Rattle.vpc_model.specs.Appliances.{boxes_of_kind, passes};
 ghost use Rattle.vpc_model.specs.declared.rows.ApplianceKind.TheVariants as forwards;
 
+use crate::on_images::passes_on;
 use crate::{Deciders, kind_boxes, kind_passes};
+use box_images::{Image, Part};
 use header_boxes::Box5;
 use std::alloc::Global;
 use std::cell::Cell;
@@ -32,6 +37,47 @@ fn to_port(q: u16) -> Header {
     }
 }
 
+// Requests of these protocols from and to these ports.
+fn requests(proto: (u8, u8), p: (u16, u16), q: (u16, u16)) -> Box5 {
+    Box5 {
+        proto,
+        src: (1, 9),
+        dst: (1, 9),
+        p,
+        q,
+    }
+}
+
+fn opens(part: &Box5) -> Image
+    requires { IsValid part.now }
+    ensures valid { IsValidImage result }
+    ensures walk { IsImageOfWalk result }
+{
+    Image::of(part)
+}
+
+#[test]
+fn passes_parts_alike(rt: HostRuntime) -> Result<(), Fail> {
+    let boxes = kind_boxes(rt.alloc(), &HTTPS)?;
+    let any = (1024, 65535);
+    // what is asked, and the part of it that is told to pass or not
+    let cases: [(Box5, Box5, bool); 8] = [
+        (requests((6, 6), any, (443, 500)), requests((6, 6), any, (443, 443)), true),
+        (requests((6, 6), any, (0, 500)), requests((6, 6), any, (0, 442)), false),
+        (requests((6, 6), any, (444, 65535)), requests((6, 6), any, (444, 65535)), false),
+        (requests((6, 6), (0, 500), (80, 80)), requests((6, 6), (0, 442), (80, 80)), false),
+        (requests((6, 6), (443, 500), (80, 90)), requests((6, 6), (443, 443), (80, 90)), true),
+        (requests((0, 255), any, (443, 443)), requests((0, 5), any, (443, 443)), false),
+        (requests((7, 255), any, (443, 443)), requests((7, 16), any, (443, 443)), false),
+        (requests((17, 255), any, (443, 443)), requests((17, 17), any, (443, 443)), true),
+    ];
+    for (part, body, told) in cases {
+        assert!(rt; part.is_valid());
+        assert_eq!(rt; passes_on(&boxes, &opens(&part)), Part { body, told });
+    }
+    Ok(())
+}
+
 #[test]
 fn the_closure_is_asked(rt: HostRuntime) -> Result<(), Fail> {
     let alloc = rt.alloc();
@@ -52,6 +98,10 @@ fn the_closure_is_asked(rt: HostRuntime) -> Result<(), Fail> {
     for (q, passes) in [(443, true), (444, false), (442, false)] {
         assert_eq!(rt; deciders.passes(0, &to_port(q)), passes);
     }
+    let https = requests((6, 6), (1024, 65535), (443, 443));
+    assert!(rt; https.is_valid());
+    let part = Part { body: https, told: true };
+    assert_eq!(rt; deciders.passes_on(0, &opens(&https)), part);
     assert_eq!(rt; asked.get(), 3);
     Ok(())
 }
