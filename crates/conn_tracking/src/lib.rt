@@ -4,11 +4,15 @@
 
 mod entry;
 mod growing;
+mod on_images;
+mod replies;
 mod small;
 mod tracker;
 
 pub use entry::Entry;
 pub use growing::GrowingConns;
+pub use on_images::{ImageEntry, tracked_on};
+pub use replies::{answers_on, reply_on};
 pub use small::SmallConns;
 pub use tracker::Tracker;
 
