@@ -52,7 +52,7 @@ address_cut addresses cuts a c d listed around le =
 nothing_inside : (cuts : CutLists) (part : Box5) → AreCutInside cuts part []
 nothing_inside cuts part = All-nil (λ (e : Field × ℕ). IsCutInside cuts part e.0 e.1)
 
-range_inside : (cuts : CutLists) (part : Box5) (f : Field) (lo hi : ℕ) → IsCutInside cuts part f lo → IsCutInside cuts part f (hi + 1)
+pub range_inside : (cuts : CutLists) (part : Box5) (f : Field) (lo hi : ℕ) → IsCutInside cuts part f lo → IsCutInside cuts part f (hi + 1)
     → AreCutInside cuts part (range_edges f lo hi)
 range_inside cuts part f lo hi first past =
     All-cons (λ (e : Field × ℕ). IsCutInside cuts part e.0 e.1) (f, lo) ((f, hi + 1) ∷ []) first
@@ -63,7 +63,7 @@ both_inside : (cuts : CutLists) (part : Box5) (few more : List (Field × ℕ)) �
 both_inside cuts part few more k l = All-append (λ (e : Field × ℕ). IsCutInside cuts part e.0 e.1) few more k l
 
 -- a field that reads a side comes to a cut of it there
-cut_inside : (cuts : CutLists) (part : Box5) (f : Field) (s : Side) (v : ℕ) → f ≡ Of s 0 → Contains (cuts_on cuts s) v → IsCutInside cuts part f v
+pub cut_inside : (cuts : CutLists) (part : Box5) (f : Field) (s : Side) (v : ℕ) → f ≡ Of s 0 → Contains (cuts_on cuts s) v → IsCutInside cuts part f v
 cut_inside cuts part f s v e c =
     subst (λ (g : Field). IsCutInside cuts part g v) (sym e) (λ x k some le. subst (Contains (cuts_on cuts s)) (omega arith) c)
 
