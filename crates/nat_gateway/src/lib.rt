@@ -5,6 +5,7 @@
 mod book;
 mod entry;
 mod growing;
+mod on_images;
 mod parts;
 mod ports;
 mod sent;
@@ -14,6 +15,7 @@ mod table;
 pub use book::NatBook;
 pub use entry::{NatEntry, NatStop};
 pub use growing::GrowingNats;
+pub use on_images::{first_open_is_sent, inward_on, outward_on};
 pub use small::SmallNats;
 
 #[cfg(test)]
