@@ -1,5 +1,6 @@
 //! The connections that passed an interface's security groups, and whether a packet answers one of them:
-//! a small form without memory for single requests, and one that grows for whole sessions.
+//! a small form without memory for single requests, one that grows for whole sessions, and a list of images
+//! for all headers of a box.
 #![tactic(auto)]
 
 mod entry;

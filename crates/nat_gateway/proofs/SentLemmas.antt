@@ -1,7 +1,7 @@
 -- Opens and answers on images at a NAT gateway.
 use Rattle.std.proofs.Common.{◌≡◌, ◌<◌, ◌+◌, ◌-◌, ◌==◌, ◌&&◌, ◌||◌, ◌∷◌, [], ℕ, suc, zero, Bool, List, None, Option, Some, true, false, arith, ap, cond, count_by, if◌then◌else◌, find, option_and_then, refl, subst, sym, ◌∙◌, ⊎_elim}
-use Rattle.std.specs.List.{AllByRecursion, Contains, list_any}
-use Rattle.std.proofs.lemmas.Bool.{eq-eqb}
+use Rattle.std.specs.List.{Contains, list_any}
+use Rattle.std.proofs.lemmas.Bool.{eq-eqb, or_parts}
 use Rattle.std.proofs.lemmas.List.Elements.{All-cons, All-nil}
 use Rattle.std.proofs.lemmas.Bool.Decides.{nat_tests}
 use Rattle.vpc_base.specs.Cuts.{CutLists}
@@ -33,22 +33,19 @@ use Rattle.nat_gateway.specs.OnImages.{FirstOpenIsSent, GivesInward, GivesSent, 
 
 -- ---- a list without a translation of the gateway
 
-find-none : {X : Type 0} (p q : X → Bool) (xs : List X) → AllByRecursion (λ x. q x ≡ false) xs → find (λ x. q x && p x) xs ≡ None
+find-none : {X : Type 0} (p q : X → Bool) (xs : List X) → list_any q xs ≡ false → find (λ x. q x && p x) xs ≡ None
 find-none p q [] none = refl
-find-none p q (x ∷ xs) none = rw none.0 (find-none p q xs none.1)
+find-none p q (x ∷ xs) none = let each = or_parts (q x) (list_any q xs) none in rw each.0 (find-none p q xs each.1)
 
-list_any-none : {X : Type 0} (p q : X → Bool) (xs : List X) → AllByRecursion (λ x. q x ≡ false) xs → list_any (λ x. q x && p x) xs ≡ false
-list_any-none p q [] none = refl
-list_any-none p q (x ∷ xs) none = rw none.0 (list_any-none p q xs none.1)
-
-count_by-none : {X : Type 0} (p q : X → Bool) (xs : List X) → AllByRecursion (λ x. q x ≡ false) xs → count_by (λ x. q x && p x) xs ≡ 0
+count_by-none : {X : Type 0} (p q : X → Bool) (xs : List X) → list_any q xs ≡ false → count_by (λ x. q x && p x) xs ≡ 0
 count_by-none p q [] none = refl
-count_by-none p q (x ∷ xs) none = rw none.0 (count_by-none p q xs none.1)
+count_by-none p q (x ∷ xs) none = let each = or_parts (q x) (list_any q xs) none in rw each.0 (count_by-none p q xs each.1)
 
 -- no port is taken by such a list
 taken-none : (ts : List Translation) (n : NatNo) (h : Header) → HasNone n ts → (port : ℕ) → is_taken ts n h port ≡ false
 taken-none [] n h none port = refl
-taken-none (t ∷ ts) n h none port = rw none.0 (taken-none ts n h none.1 port)
+taken-none (t ∷ ts) n h none port =
+    let each = or_parts (t.nat.0 == n.0) (list_any (λ (s : Translation). s.nat.0 == n.0) ts) none in rw each.0 (taken-none ts n h each.1 port)
 
 -- so that the first one is free
 first_free-first : (taken : ℕ → Bool) (n port : ℕ) → taken port ≡ false → 0 < n → first_free taken n port ≡ Some port

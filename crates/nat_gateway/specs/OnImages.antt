@@ -1,6 +1,6 @@
 -- NAT gateways on images, in walks that start without translations.
 use Rattle.std.specs.Prelude.{◌≡◌, ◌==◌, ◌∷◌, [], if◌then◌else◌, List, None, Option, Some, false, ℕ}
-use Rattle.std.specs.List.{AllByRecursion}
+use Rattle.std.specs.List.{list_any}
 use Rattle.box_images.specs.Answers.{AnswersImage}
 use Rattle.box_images.specs.Images.{IsImageOfAnswer, IsImageOfOpen, header_at}
 use Rattle.box_images.specs.declared.images.Image.{Image}
@@ -24,7 +24,7 @@ sent_first own h = if is_translatable h.proto then Some (from_gateway own h) els
 
 -- no translation is of the gateway
 abbrev pub HasNone : NatNo → List Translation → Type 0
-HasNone n ts = AllByRecursion (λ t. (t.nat.0 == n.0) ≡ false) ts
+HasNone n ts = list_any (λ t. t.nat.0 == n.0) ts ≡ false
 
 -- a gateway translates an open so where it has no translation yet
 pub record IsSentFirst (ts : List Translation) (n : NatNo) (own : ℕ) (h : Header) : Type 0 where

@@ -1,5 +1,6 @@
 //! What NAT gateways remember of the opens that they sent out: the port that an open gets, and the open that an
-//! answer belongs to. A small form without memory serves single requests, and one that grows whole sessions.
+//! answer belongs to. A small form without memory serves single requests, one that grows whole sessions, and
+//! questions without a list all headers of a box.
 #![tactic(auto)]
 
 mod book;
