@@ -18,4 +18,6 @@ pub use small::SmallConns;
 pub use tracker::Tracker;
 
 #[cfg(test)]
+mod box_tests;
+#[cfg(test)]
 mod tests;

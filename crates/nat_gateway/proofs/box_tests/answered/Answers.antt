@@ -3,7 +3,7 @@ use Rattle.header_boxes.specs.Boxes.{IsWithin}
 use Rattle.box_images.specs.Images.{IsImageOfAnswer, IsValidImage}
 use Rattle.box_images.specs.declared.images.Image.{Image}
 use Rattle.conn_tracking.proofs.ReplyLemmas.{known_of_some}
-use Rattle.nat_gateway.proofs.tests.answered.Goals as goal
+use Rattle.nat_gateway.proofs.box_tests.answered.Goals as goal
 
 abbrev all : List ℕ
 all = 7 ∷ 150 ∷ []
