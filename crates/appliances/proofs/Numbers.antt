@@ -1,5 +1,5 @@
 -- Appliances by their numbers.
-use Rattle.std.proofs.Common.{◌≡◌, ◌∙◌, ◌++◌, ◌+◌, ◌<◌, ◌≤◌, ◌==◌, ◌∷◌, [], Bool, List, None, Option, Some, ap, arith, cond, drop, false, get_or, length, refl, sym, true, ℕ}
+use Rattle.std.proofs.Common.{◌≡◌, ◌∙◌, ◌++◌, ◌+◌, ◌<◌, ◌≤◌, ◌==◌, ◌∷◌, [], Bool, List, Some, ap, arith, cond, drop, false, get_or, length, refl, sym, true, ℕ}
 use Rattle.std.specs.List.{find, position_from}
 use Rattle.std.specs.Prelude.{Err, IfOk, Ok, Result, option_map}
 use Rattle.std.proofs.lemmas.Grind.{common_steps}

@@ -5,7 +5,10 @@ use Rattle.header_boxes.specs.declared.boxes.Box5.{Box5}
 use Rattle.vpc_base.specs.declared.headers.Header.{Header}
 use Rattle.vpc_model.specs.declared.numbers.EniNo.{EniNo}
 use Rattle.vpc_model.specs.declared.rows.ApplianceKind.{ApplianceKind}
-use Rattle.vpc_model.specs.Appliances.{Appliances, boxes_of_kind, passes}
+use Rattle.vpc_model.specs.declared.rows.Description.{Description}
+use Rattle.vpc_model.specs.Appliances.{Appliances, appliances_of, boxes_of_kind, passes}
+use Rattle.vpc_model.specs.Cuts.{all_cuts, cuts_of_box, standing_cuts}
+use Rattle.cut_laws.specs.Dividing.{Divide}
 
 -- the number of the first appliance at an interface
 abbrev pub number_of : Appliances → EniNo → Option ℕ
@@ -27,3 +30,7 @@ kind_passes_at kinds k h =
       | None ↦ false
       | Some kind ↦ passes (boxes_of_kind kind) h
     ]
+
+-- the boxes of a description's appliances cut by its standing cuts
+abbrev pub BoxesAreStanding : Type 0
+BoxesAreStanding = (d : Description) (k : ℕ) → Divide (all_cuts cuts_of_box (boxes_of (slice_get (appliances_of d) k))) (standing_cuts d)

@@ -1,9 +1,15 @@
 // A closure beside the boxes that it stands for.
-ghost use Rattle.std.specs.Prelude.{◌≡◌, ◌<◌, ◌^◌, Bool, IfOk, length, ℕ};
+ghost use Rattle.std.specs.Prelude.{◌≡◌, ◌<◌, ◌^◌, Bool, IfOk, length, slice_get, ℕ};
 ghost use Rattle.number_tables.specs.Entries.{value_at};
+ghost use Rattle.box_images.specs.Answers.{Answers};
+ghost use Rattle.box_images.specs.Images.{IsImageOfWalk, IsValidImage, header_at};
+ghost use Rattle.cut_laws.specs.Dividing.{Divide};
+ghost use Rattle.vpc_model.specs.Cuts.{all_cuts, cuts_of_box};
 ghost use Rattle.vpc_model.specs.declared.numbers.EniNo.{EniNo};
-ghost use Rattle.appliances.specs.Passing.{number_of, passes_at};
+ghost use Rattle.appliances.specs.Passing.{boxes_of, number_of, passes_at};
 
+use crate::on_images::passes_on;
+use box_images::{Image, Part};
 use header_boxes::Box5;
 use number_tables::{Entry, NumberTable};
 use std::alloc::{AllocError, Global};
@@ -76,5 +82,18 @@ impl Deciders {
         ensures { result ≡ passes_at self.now.appliances k h.now }
     {
         (self.decide)(k, h)
+    }
+
+    /// The same for all headers of an image. It asks the boxes, not the closure: those up to the first one
+    /// that has the low corner.
+    pub fn passes_on(&self, k: u32, i: &Image) -> Part<bool>
+        requires number { k < length self.now.appliances }
+        requires valid { IsValidImage i.now }
+        requires walk { IsImageOfWalk i.now }
+        ensures { Answers (Divide (all_cuts cuts_of_box (boxes_of (slice_get self.now.appliances k))))
+            (λ h. passes_at self.now.appliances k (header_at i.now h)) i.now.part result }
+    {
+        let boxes = self.appliances.as_slice()[k as usize].1.as_slice();
+        passes_on(boxes, i)
     }
 }

@@ -5,10 +5,13 @@
 mod deciders;
 mod described;
 mod kinds;
+mod laws;
+mod on_images;
 
 pub use deciders::{Decide, Deciders};
 pub use described::{Kinds, appliances_of};
 pub use kinds::{kind_boxes, kind_passes};
+pub use laws::boxes_are_standing;
 
 #[cfg(test)]
 mod tests;

@@ -1,9 +1,14 @@
-// That deciders ask their closure is what no clause says: this one counts its calls.
-ghost use Rattle.std.specs.Prelude.{◌≡◌, ◌∷◌, [], IfOk};
+// That deciders ask their closure of one header, and their boxes of many, is what no clause says: this closure
+// counts its calls. Nor does one say that a body reaches to where the answer may turn.
+ghost use Rattle.std.specs.Prelude.{◌≡◌, ◌≤◌, ◌∷◌, [], IfOk};
+ghost use Rattle.box_images.specs.Images.{IsImageOfWalk, IsValidImage};
+ghost use Rattle.header_boxes.specs.Boxes.{IsValid};
 ghost use Rattle.vpc_model.specs.Appliances.{boxes_of_kind, passes};
 ghost use Rattle.vpc_model.specs.declared.rows.ApplianceKind.TheVariants as forwards;
 
+use crate::on_images::passes_on;
 use crate::{Deciders, kind_boxes, kind_passes};
+use box_images::{Image, Part};
 use header_boxes::Box5;
 use std::alloc::Global;
 use std::cell::Cell;
@@ -32,6 +37,80 @@ fn to_port(q: u16) -> Header {
     }
 }
 
+/// Protocols, and ports from and to which requests go.
+type Sides = ((u8, u8), (u16, u16), (u16, u16));
+
+fn requests(proto: (u8, u8), p: (u16, u16), q: (u16, u16)) -> Box5
+    ensures { proto.0 ≤ proto.1 → p.0 ≤ p.1 → q.0 ≤ q.1 → IsValid result }
+{
+    Box5 {
+        proto,
+        src: (1, 9),
+        dst: (1, 9),
+        p,
+        q,
+    }
+}
+
+fn opens(part: &Box5) -> Image
+    requires { IsValid part.now }
+    ensures valid { IsValidImage result }
+    ensures walk { IsImageOfWalk result }
+{
+    Image::of(part)
+}
+
+const ANY: (u16, u16) = (1024, 65535);
+
+#[test]
+fn passes_parts_alike(rt: HostRuntime) -> Result<(), Fail> {
+    let boxes = kind_boxes(rt.alloc(), &HTTPS)?;
+    // what is asked, and the part of it that is told to pass or not
+    let cases: [(Sides, Sides, bool); 8] = [
+        (((6, 6), ANY, (443, 500)), ((6, 6), ANY, (443, 443)), true),
+        (((6, 6), ANY, (0, 500)), ((6, 6), ANY, (0, 442)), false),
+        (
+            ((6, 6), ANY, (444, 65535)),
+            ((6, 6), ANY, (444, 65535)),
+            false,
+        ),
+        (
+            ((6, 6), (0, 500), (80, 80)),
+            ((6, 6), (0, 442), (80, 80)),
+            false,
+        ),
+        (
+            ((6, 6), (443, 500), (80, 90)),
+            ((6, 6), (443, 443), (80, 90)),
+            true,
+        ),
+        (
+            ((0, 255), ANY, (443, 443)),
+            ((0, 5), ANY, (443, 443)),
+            false,
+        ),
+        (
+            ((7, 255), ANY, (443, 443)),
+            ((7, 16), ANY, (443, 443)),
+            false,
+        ),
+        (
+            ((17, 255), ANY, (443, 443)),
+            ((17, 17), ANY, (443, 443)),
+            true,
+        ),
+    ];
+    for ((proto, p, q), within, told) in cases {
+        assert!(rt; proto.0 <= proto.1);
+        assert!(rt; p.0 <= p.1);
+        assert!(rt; q.0 <= q.1);
+        let part = requests(proto, p, q);
+        let body = requests(within.0, within.1, within.2);
+        assert_eq!(rt; passes_on(&boxes, &opens(&part)), Part { body, told });
+    }
+    Ok(())
+}
+
 #[test]
 fn the_closure_is_asked(rt: HostRuntime) -> Result<(), Fail> {
     let alloc = rt.alloc();
@@ -52,6 +131,9 @@ fn the_closure_is_asked(rt: HostRuntime) -> Result<(), Fail> {
     for (q, passes) in [(443, true), (444, false), (442, false)] {
         assert_eq!(rt; deciders.passes(0, &to_port(q)), passes);
     }
+    let body = requests((6, 6), ANY, (443, 443));
+    let told = true;
+    assert_eq!(rt; deciders.passes_on(0, &opens(&body)), Part { body, told });
     assert_eq!(rt; asked.get(), 3);
     Ok(())
 }

@@ -1,8 +1,9 @@
 -- Bodies on which pieces tell one value of the destination.
-use Rattle.std.proofs.Common.{◌≡◌, ℕ, ◌≤◌, ◌<◌, ◌+◌, ◌-◌, ◌^◌, ◌⊎◌, ◌∷◌, [], List, Option, Bool, true, refl, sym, subst, ◌∙◌, arith, inr, ⊎_elim}
+use Rattle.std.proofs.Common.{◌≡◌, ℕ, ◌≤◌, ◌<◌, ◌+◌, ◌-◌, ◌^◌, ◌⊎◌, ◌∷◌, [], List, Option, Bool, true, refl, sym, subst, ◌∙◌, arith, inl, inr, ⊎_elim}
 use Rattle.std.proofs.lemmas.Bool.Decides.{nat_tests}
-use Rattle.std.proofs.lemmas.List.Elements.{All-cons, All-nil}
+use Rattle.std.proofs.lemmas.List.Elements.{All-cons, All-contains, All-nil}
 use Rattle.std.specs.List.{Contains}
+use Rattle.std.specs.Prelude.{nat_le}
 use Rattle.vpc_base.specs.Cuts.{CutLists}
 use Rattle.vpc_base.specs.declared.headers.Header.{Header}
 use Rattle.header_boxes.specs.Boxes.{holds, in_range, low_of}
@@ -21,7 +22,9 @@ use Rattle.box_images.specs.declared.fields.Side.TheVariants.{Proto, Src, Dst, P
 use Rattle.box_images.specs.declared.images.Image.{Image}
 use Rattle.box_images.specs.declared.images.Part.{Part}
 use Rattle.box_images.proofs.LawLemmas.{bodies_are_aligned}
-use Rattle.cut_laws.specs.Dividing.{DivideFirsts}
+use Rattle.cut_laws.proofs.Among.{filter_in}
+use Rattle.cut_laws.specs.Dividing.{Divide, DivideFirsts}
+use Rattle.vpc_model.specs.Cuts.{on_sides}
 use Rattle.image_tests.proofs.Fields.{ReadsAddress, address_field}
 
 -- ---- what is told
@@ -83,6 +86,16 @@ aligned_to_pieces cuts i p body a first last valid walk pieces fits is_last from
     (All-cons (λ (k : Field × ℕ). IsCutInside cuts i.part k.0 k.1) (i.dst, last + 1) []
     (next_is_cut cuts i.part i.dst p.firsts last reads below end divide)
     (All-nil (λ (k : Field × ℕ). IsCutInside cuts i.part k.0 k.1))))
+
+-- the first addresses are numbers of their side
+pub firsts_on_sides : (p : PieceLists) (few : CutLists) → ArePieces p → DivideFirsts p.firsts few → DivideFirsts p.firsts (on_sides few)
+firsts_on_sides p few pieces divide f listed =
+    let below = All-contains (λ (n : ℕ). n < 2 ^ 32) p.firsts f pieces.fit listed in
+    ⊎_elim inl (λ cut. inr (filter_in (λ n. nat_le n 4294967295) few.addr f (grind (arith, nat_tests)) cut)) (divide f listed)
+
+-- what divides at cuts divides at the first addresses among them
+pub firsts_divide : (firsts : List ℕ) (few cuts : CutLists) → DivideFirsts firsts (on_sides few) → Divide few cuts → DivideFirsts firsts cuts
+firsts_divide firsts few cuts listed divide f has = ⊎_elim inl (λ cut. inr (divide.addr f cut)) (listed f has)
 
 -- ---- the answer
 

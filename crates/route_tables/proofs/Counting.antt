@@ -23,7 +23,7 @@ use Rattle.block_pieces.proofs.Borders.{told-best, told-nothing}
 use Rattle.block_pieces.proofs.Members.{Contains-cons_cases, Contains-filter, Contains-flat_map, Contains-head, Contains-nil, Contains-of_filter, Contains-of_flat_map, Contains-tail, filter-passes, length-filter-le, list_any-member}
 use Rattle.block_pieces.proofs.Nested.{nested}
 use Rattle.block_pieces.proofs.ToldLemmas.{best_is_told, none_is_told}
-use Rattle.route_tables.specs.Rows.{AreBlocks, blocks_in, counted_rows, counted_rows_of, is_covered, length_row, local_rows, local_rows_of, route_cuts, row_of}
+use Rattle.route_tables.specs.Rows.{AreBlocks, blocks_in, counted_rows, counted_rows_of, is_covered, length_row, local_rows, local_rows_of, row_of}
 
 -- ---- by which block a route matches
 
@@ -388,6 +388,10 @@ length-counted_rows d p k (r ∷ rs) =
     let one = length-counted_rows_of d p k r in
     let rest = length-counted_rows d p (k + 1) rs in
     omega (arith, length-append (counted_rows_of d p k r) (counted_rows d p (k + 1) rs), length-append (blocks_of_reach d r.reach) (blocks_in d rs))
+
+-- where blocks of routes begin, and where they have ended
+abbrev pub route_cuts : Description → List Route → List ℕ
+route_cuts d routes = flat_map (λ r. flat_map block_cuts (blocks_of_reach d r.reach)) routes
 
 pub borders-cuts : (d : Description) (p : PieceLists) (routes : List Route) (f : ℕ) → Contains (borders_of (counted_rows d p 0 routes)) f → Contains (route_cuts d routes) f
 borders-cuts d p routes f h =

@@ -5,16 +5,12 @@ use Rattle.block_pieces.specs.declared.rows.BlockRow.{BlockRow}
 use Rattle.piece_table.specs.Pieces.{PieceLists, told_at}
 use Rattle.prefix_text.specs.Block.{Block, IsBlock}
 use Rattle.vpc_laws.specs.Types.{Description, Route}
-use Rattle.vpc_model.specs.Cuts.{block_cuts, blocks_of_reach}
+use Rattle.vpc_model.specs.Cuts.{blocks_of_reach}
 use Rattle.vpc_model.specs.Routes.{is_local, kind_of}
 
 -- the blocks of routes and the entries of the prefix lists that they name, each route's apart
 abbrev pub blocks_in : Description → List Route → List Block
 blocks_in d routes = flat_map (λ r. blocks_of_reach d r.reach) routes
-
--- where they begin, and where they have ended
-abbrev pub route_cuts : Description → List Route → List ℕ
-route_cuts d routes = flat_map (λ r. flat_map block_cuts (blocks_of_reach d r.reach)) routes
 
 -- each of them is a block
 abbrev pub AreBlocks : Description → List Route → Type 0

@@ -1,14 +1,14 @@
 // The index of a route table.
-ghost use Rattle.std.specs.Prelude.{◌≡◌, ◌≤◌, ◌<◌, ◌+◌, ◌-◌, ◌*◌, ◌^◌, ◌⊎◌, ℕ, Contains, IfOk, IsTrue, length};
+ghost use Rattle.std.specs.Prelude.{◌≡◌, ◌≤◌, ◌<◌, ◌+◌, ◌-◌, ◌*◌, ◌^◌, ℕ, IfOk, IsTrue, length};
 ghost use Rattle.box_images.specs.Answers.{Answers};
 ghost use Rattle.box_images.specs.Images.{IsImageOfWalk, IsValidImage, header_at};
 ghost use Rattle.cut_laws.specs.Dividing.{DivideFirsts};
-ghost use Rattle.piece_table.specs.Pieces.{told_at};
-ghost use Rattle.vpc_model.specs.Cuts.{cuts_of_table};
+ghost use Rattle.piece_table.specs.Pieces.{ArePieces, told_at};
+ghost use Rattle.vpc_model.specs.Cuts.{all_cuts, cuts_of_route, cuts_of_table, on_sides};
 ghost use Rattle.vpc_model.specs.Lookup.{table_at};
 ghost use Rattle.vpc_model.specs.Routes.{chosen_route};
 ghost use Rattle.vpc_model.specs.Sound.{is_table};
-ghost use Rattle.route_tables.specs.Rows.{blocks_in, route_cuts};
+ghost use Rattle.route_tables.specs.Rows.{blocks_in};
 
 use crate::counted::counted_rows;
 use crate::locals::local_rows;
@@ -38,6 +38,13 @@ impl Model for RouteIndex {
     ghost view = { λ x. x.pieces };
 }
 
+// What is so of all pieces. It does nothing.
+fn are_pieces(pieces: &Pieces)
+    ensures { ArePieces pieces.now }
+{
+    let _count = pieces.count();
+}
+
 // The index of routes. The steps of making it aren't told.
 fn index_of<L: Ledger>(
     alloc: Global,
@@ -51,12 +58,13 @@ fn index_of<L: Ledger>(
     requires some { 0 < blank.parts }
     ensures chosen { IfOk result (λ x. (a : ℕ) → a < 2 ^ 32 → told_at x a ≡ chosen_route n.now routes.now a) }
     ensures few { IfOk result (λ x. length x.firsts ≤ 2 * length (blocks_in n.now routes.now) + 1) }
-    ensures firsts { IfOk result (λ x. (f : ℕ) → Contains x.firsts f → (f ≡ 0) ⊎ Contains (route_cuts n.now routes.now) f) }
+    ensures firsts { IfOk result (λ x. DivideFirsts x.firsts (on_sides (all_cuts (cuts_of_route n.now) routes.now))) }
 {
     let locals = pieces_of(alloc, local_rows(alloc, n, routes)?)?;
     let mut steps = Steps::<L>::new(blank);
     let rows = counted_rows(alloc, n, &locals, routes, &mut steps)?;
     let pieces = pieces_of(alloc, rows)?;
+    are_pieces(&pieces);
     Ok(RouteIndex { pieces })
 }
 
@@ -68,7 +76,7 @@ impl RouteIndex {
         requires table { IsTrue (is_table n.now t) }
         ensures chosen { IfOk result (λ x. (a : ℕ) → a < 2 ^ 32 → told_at x a ≡ chosen_route n.now (table_at n.now t).routes a) }
         ensures few { IfOk result (λ x. length x.firsts ≤ 2 * length (blocks_in n.now (table_at n.now t).routes) + 1) }
-        ensures firsts { IfOk result (λ x. DivideFirsts x.firsts (cuts_of_table n.now (table_at n.now t))) }
+        ensures firsts { IfOk result (λ x. DivideFirsts x.firsts (on_sides (cuts_of_table n.now (table_at n.now t)))) }
     {
         let table = &n.description().tables.as_slice()[t.0 as usize];
         index_of::<Brand>(alloc, n, table.routes.as_slice(), Blank::new(1))

@@ -1,5 +1,5 @@
 -- The blocks of routes tell the route that the table chooses.
-use Rattle.std.proofs.Common.{◌≡◌, ℕ, ◌≤◌, ◌<◌, ◌+◌, ◌-◌, ◌*◌, ◌⊎◌, Bool, List, None, Option, Some, [], ◌∷◌, ap, arith, false, if◌then◌else◌, inl, inr, length, refl, subst, suc, sym, true, zero, ◌∙◌}
+use Rattle.std.proofs.Common.{◌≡◌, ℕ, ◌≤◌, ◌<◌, ◌+◌, ◌-◌, ◌*◌, ◌⊎◌, Bool, List, None, Option, Some, [], ◌∷◌, ◌++◌, ap, arith, false, if◌then◌else◌, inl, inr, length, refl, subst, suc, sym, true, zero, ◌∙◌}
 use Rattle.std.specs.List.{All, Contains, slice_get}
 use Rattle.std.proofs.lemmas.Bool.{cond_both}
 use Rattle.std.proofs.lemmas.List.Elements.{All-contains}
@@ -8,10 +8,11 @@ use Rattle.prefix_text.specs.Block.{IsBlock, holds}
 use Rattle.vpc_laws.specs.Choice.{Chooses, TgwRouteYields}
 use Rattle.vpc_laws.specs.Types.{TgwRoute}
 use Rattle.vpc_laws.proofs.Rows.{tgw_routes_are_chosen}
+use Rattle.vpc_model.specs.Cuts.{all_cuts, block_cuts, cuts_of_tgw_route}
 use Rattle.vpc_model.specs.Transit.{chosen_tgw_route}
 use Rattle.block_pieces.specs.declared.rows.BlockRow.{BlockRow}
 use Rattle.block_pieces.specs.Laws.{IsAsGood}
-use Rattle.block_pieces.specs.Told.{told_by}
+use Rattle.block_pieces.specs.Told.{borders_of, told_by}
 use Rattle.block_pieces.proofs.Members.{Contains-cons_cases, Contains-head, Contains-nil, Contains-tail}
 use Rattle.block_pieces.proofs.ToldLemmas.{best_is_told, none_is_told}
 use Rattle.transit_gateway.specs.Rows.{row_of, rows_of}
@@ -43,6 +44,11 @@ rows_of-listed number (x ∷ rs) (suc j) r at =
     let one_more : number + 1 + j ≡ number + suc j = omega arith in
     subst (λ n. Contains (row_of number x ∷ rows_of (number + 1) rs) (row_of n r)) one_more
     (Contains-tail (row_of number x) (row_of (number + 1 + j) r) (rows_of (number + 1) rs) (rows_of-listed (number + 1) rs j r at))
+
+-- they begin and have ended where the routes' blocks cut
+pub borders-rows_of : (number : ℕ) (routes : List TgwRoute) → borders_of (rows_of number routes) ≡ (all_cuts cuts_of_tgw_route routes).addr
+borders-rows_of number [] = refl
+borders-rows_of number (r ∷ rs) = ap (λ l. block_cuts r.block ++ l) (borders-rows_of (number + 1) rs)
 
 -- ---- the route that is chosen
 

@@ -1,7 +1,7 @@
 -- Numbers of ids, alone and in pairs.
-use Rattle.std.proofs.Common.{◌≡◌, ◌∙◌, ◌&&◌, ◌++◌, ◌<◌, ◌==◌, ◌∷◌, ◌^◌, [], ℕ, Bool, Contains, List, None, Some, ap, arith, bytes_eq, cond, false, find, get_or, inl, inr, option_map, position, refl, sym, true}
+use Rattle.std.proofs.Common.{◌≡◌, ◌∙◌, ◌++◌, ◌==◌, ◌∷◌, [], ℕ, Bool, Contains, List, None, Some, ap, bytes_eq, cond, false, find, get_or, inl, inr, option_map, position, refl, sym, true}
 use Rattle.std.specs.List.{list_any, position_or_len}
-use Rattle.std.proofs.lemmas.Bool.{both_ways, cases_Bool, cases_eq, eq-eqb, ne_eqb}
+use Rattle.std.proofs.lemmas.Bool.{both_ways, cases_Bool, eq-eqb, ne_eqb}
 use Rattle.number_tables.specs.Entries.{value_at}
 use Rattle.number_tables.specs.declared.tables.Entry.{Entry}
 use Rattle.reference_check.proofs.Maps.{list_any-position}
@@ -9,7 +9,6 @@ use Rattle.vpc_laws.proofs.Members.{member-list_any}
 use Rattle.vpc_laws.proofs.Numbering.{bytes_self, found-at, same_bytes}
 use Rattle.vpc_model.specs.Choice.{or_else}
 use Rattle.transit_gateway.specs.FirstNumbers.{number_in}
-use Rattle.number_tables.specs.Keys.{key_of}
 
 -- ---- numbers of ids
 

@@ -6,3 +6,4 @@ pub mod Entering
 pub mod InZones
 pub mod Crossing
 pub mod ByNumber
+pub mod OnImages

@@ -6,6 +6,8 @@ use crate::associations::tables_of;
 use crate::gateways::Gateways;
 use crate::tables::all_pieces;
 use crate::zones::Zones;
+use box_images::{Image, Part};
+use image_tests::piece_on;
 use piece_table::{Pieces, Steps};
 use reference_check::Network;
 use std::alloc::Global;
@@ -52,6 +54,11 @@ impl Model for TransitIndex {
 impl TransitIndex {
     ghost use Rattle.std.specs.Prelude.{IfOk, IsTrue};
     ghost use Rattle.vpc_model.specs.declared.rows.Description.{Description};
+    ghost use Rattle.box_images.specs.Answers.{Answers};
+    ghost use Rattle.box_images.specs.Images.{IsImageOfWalk, IsValidImage, header_at};
+    ghost use Rattle.cut_laws.specs.Dividing.{Divide};
+    ghost use Rattle.vpc_model.specs.Cuts.{cuts_of_tgw_table};
+    ghost use Rattle.vpc_model.specs.Lookup.{tgw_table_at};
     ghost use Rattle.vpc_model.specs.Transit.{chosen_tgw_route, leave_subnet, table_of_attachment};
     ghost use Rattle.transit_gateway.specs.Index.{HasAttachment, HasSubnet, HasTable, IsTransitOf, entered, routes_of};
 
@@ -117,6 +124,27 @@ impl TransitIndex {
     {
         let (_, _, told) = self.routes[t.0 as usize].find(dst, steps);
         told
+    }
+
+    /// The same for all headers of an image: the route that the table chooses for their destination, and
+    /// those of them that go to the same piece as the low corner.
+    pub fn choose_on<L: Ledger>(
+        &self,
+        t: TgwTableNo,
+        i: &Image,
+        steps: &mut Steps<L>,
+    ) -> Part<Option<u32>>
+        requires table { HasTable self.now t }
+        requires valid { IsValidImage i.now }
+        requires walk { IsImageOfWalk i.now }
+        ensures answer { (d : Description) → IsTransitOf d self.now
+            → Answers (Divide (cuts_of_tgw_table (tgw_table_at d t)))
+            (λ h. chosen_tgw_route (routes_of d t) (header_at i.now h).dst) i.now.part result }
+        ensures later { steps.old ≤ steps.new }
+        ensures few { (d : Description) → IsTransitOf d self.now
+            → 2 ^ (steps.new - steps.old) ≤ 8 * length (routes_of d t) + 4 }
+    {
+        piece_on(i, &self.routes[t.0 as usize], steps)
     }
 
     /// By which of an attachment's subnets a packet leaves that came into the gateway in this subnet: the

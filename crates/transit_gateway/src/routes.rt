@@ -1,7 +1,7 @@
 // The pieces of one route table.
 ghost use Rattle.std.specs.Prelude.{◌≡◌, ◌≤◌, ◌<◌, ◌+◌, ◌*◌, ◌++◌, ◌^◌, ℕ, All, IfOk, OnOk, length};
 ghost use Rattle.prefix_text.specs.Block.{IsBlock};
-ghost use Rattle.piece_table.specs.Pieces.{told_at};
+ghost use Rattle.piece_table.specs.Pieces.{ArePieces, told_at};
 ghost use Rattle.vpc_model.specs.Transit.{chosen_tgw_route};
 ghost use Rattle.transit_gateway.specs.Rows.{IsRouteTable, row_of, rows_of};
 
@@ -17,6 +17,13 @@ fn is_block(block: &Prefix)
     ensures { IsBlock block.now }
 {
     let _first = block.first();
+}
+
+// What is so of all pieces. It does nothing.
+fn are_pieces(pieces: &Pieces)
+    ensures { ArePieces pieces.now }
+{
+    let _count = pieces.count();
 }
 
 // The block of the route with this number. A longer block is better, and of equal lengths a static route:
@@ -52,5 +59,6 @@ pub fn pieces_for(alloc: Global, routes: &[TgwRoute]) -> Result<Pieces, NoMemory
 {
     let rows = rows_of(alloc, routes)?;
     let pieces = pieces_of(alloc, rows)?;
+    are_pieces(&pieces);
     Ok(pieces)
 }
