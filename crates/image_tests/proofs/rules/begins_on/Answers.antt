@@ -34,7 +34,7 @@ returns c = λ to.
     let enough = Divide (cuts_of_range from to) in
     let told = subst (λ (k : ℕ). TellsSide i Q k 65535 x) c.from.ensures c.side_on.ensures in
     let between = side_answers enough i Q from 65535 x c.requires.valid
-        (λ cuts divide. (port_is_cut cuts (cuts_of_range from to) (edges from to) i.q from (q_field i c.requires.walk) refl refl (first_edge from to) divide, past_all cuts i.q)) told in
+    (λ cuts divide. (port_is_cut cuts (cuts_of_range from to) (edges from to) i.q from (q_field i c.requires.walk) refl refl (first_edge from to) divide, past_all cuts i.q)) told in
     record {
       told = λ h t. between.told h t
           ∙ same from (header_at i h).q (value_fits i h c.requires.valid (within_holds x.body i.part h between.body.within t) Q);
