@@ -5,6 +5,8 @@
 mod boxes;
 mod pieces;
 mod rules;
+#[cfg(test)]
+mod set_tests;
 mod sets;
 #[cfg(test)]
 mod tests;
@@ -12,4 +14,4 @@ mod tests;
 pub use boxes::box_on;
 pub use pieces::piece_on;
 pub use rules::{begins_on, block_on, far_side, proto_on, range_on, rule_on};
-pub use sets::{entry_on, member_on, set_on};
+pub use sets::{entry_on, low_on, member_on, set_on, up_to};
