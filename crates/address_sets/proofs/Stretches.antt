@@ -10,7 +10,7 @@ use Rattle.address_sets.specs.Runs.{AreApart, AreRuns, HaveBegun, IsStretch, is_
 use Rattle.address_sets.proofs.Searching.{firsts-ascend}
 
 -- an earlier run ends before a later one begins, with a gap between them
-gap-between : (runs : List Run) (i j : ℕ) (d e : Run) → AreApart runs → i < j → j < length runs → (slice_index_or runs i d).last + 1 < (slice_index_or runs j e).first
+pub gap-between : (runs : List Run) (i j : ℕ) (d e : Run) → AreApart runs → i < j → j < length runs → (slice_index_or runs i d).last + 1 < (slice_index_or runs j e).first
 gap-between [] i j d e apart lt within = absurd (omega arith)
 gap-between (r ∷ rs) zero zero d e apart lt within = absurd (omega arith)
 gap-between (r ∷ rs) zero (suc j) d e apart lt within = (All-from_recursion (λ s. (r.first ≤ s.first) × (r.last + 1 < s.first)) rs apart.0 j e (omega arith)).1

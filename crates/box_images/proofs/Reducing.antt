@@ -30,6 +30,11 @@ reduced_by {S} {T} enough whole rest next part body test x v e leads r k = recor
   aligned = λ cuts d. aligned_through cuts x.body body part (k.aligned cuts d) (r.aligned cuts d);
 }
 
+-- the same question in other words
+pub reduced_same : {T : Type 0} (enough : CutLists → Type 0) (whole rest next : Header → T) (part body : Box5) → ((h : Header) → holds h body ≡ true → rest h ≡ next h)
+    → Reduces enough whole rest part body → Reduces enough whole next part body
+reduced_same {T} enough whole rest next part body same r = record { same = λ h i. r.same h i ∙ same h i; inside = r.inside; aligned = r.aligned }
+
 -- what is left is answered
 pub reduced_to : {T : Type 0} (enough : CutLists → Type 0) (whole rest : Header → T) (part body : Box5) (x : Part T)
     → Reduces enough whole rest part body → Answers enough rest body x → Answers enough whole part x

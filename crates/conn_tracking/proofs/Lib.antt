@@ -1,1 +1,4 @@
 pub mod Lookups
+pub mod ReplyCuts
+pub mod ReplyLemmas
+pub mod TrackedLemmas

@@ -1,6 +1,6 @@
 -- Look-ups among connections.
-use Rattle.std.proofs.Common.{◌≡◌, ◌≤◌, ◌<◌, ◌+◌, ◌||◌, ◌==◌, ◌&&◌, ℕ, Bool, true, false, List, [], ◌∷◌, ◌++◌, Option, Some, None, cond, refl, sym, ap, ◌∙◌, get_or, length, length-append, take, drop, arith, rules}
-use Rattle.std.specs.Cmp.{IsEquivalence, eq_by_cmp_equiv}
+use Rattle.std.proofs.Common.{◌≡◌, ◌<◌, ◌+◌, ◌||◌, ◌==◌, ◌&&◌, ℕ, Bool, true, false, List, [], ◌∷◌, ◌++◌, Some, None, cond, refl, sym, ap, ◌∙◌, get_or, length, length-append, take, drop, arith, rules}
+use Rattle.std.specs.Cmp.{eq_by_cmp_equiv}
 use Rattle.std.specs.List.{list_any}
 use Rattle.std.specs.Ordering.{is_eq}
 use Rattle.std.proofs.lemmas.Bool.Decides.{nat_tests}
@@ -11,7 +11,7 @@ use Rattle.vpc_base.specs.Header.{reply_of}
 use Rattle.vpc_base.specs.declared.headers.Dir.TheVariants.{Inward, Outward}
 use Rattle.vpc_model.specs.declared.numbers.EniNo.{EniNo}
 use Rattle.vpc_model.specs.Types.{Dir, Header}
-use Rattle.vpc_model.specs.Connections.{Connection, is_header, is_tracked, same_connection, same_header}
+use Rattle.vpc_model.specs.Connections.{Connection, is_header, is_tracked, same_connection}
 use Rattle.vpc_base.specs.Header.{opening_of}
 use Rattle.conn_tracking.specs.Order.{order_of_connections, order_of_connections_total}
 use Rattle.conn_tracking.specs.Tracked.{AreFirst}

@@ -1,2 +1,3 @@
+pub mod OnImages
 pub mod Order
 pub mod Tracked

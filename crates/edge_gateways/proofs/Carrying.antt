@@ -26,7 +26,7 @@ use Rattle.edge_gateways.proofs.Numbers.{ids_agree}
 use Rattle.edge_gateways.proofs.Zips.{zip_at}
 
 -- the blocks of a described VPC
-has_address-is : (d : Description) (sets : List (List Run)) (v : VpcNo) (a : ℕ) → AllZip HasBlocksOf d.vpcs sets → is_vpc d v ≡ true → has_address sets v a ≡ has_block d v a
+pub has_address-is : (d : Description) (sets : List (List Run)) (v : VpcNo) (a : ℕ) → AllZip HasBlocksOf d.vpcs sets → is_vpc d v ≡ true → has_address sets v a ≡ has_block d v a
 has_address-is d sets v a zip lies = zip_at HasBlocksOf d.vpcs sets v.0 (record { id = []; blocks = [] }) [] zip (ltb-true v.0 (length d.vpcs) lies) a
 
 -- the two numbers of a peering
@@ -43,7 +43,7 @@ described d x pair active =
           absurd cc
     ]
 
-sides-at : (d : Description) (pairs : List (Option Sides)) (x : PeerNo) (v : VpcNo) → pairs ≡ map (sides_of d) d.peerings → (can : CanCarry d x v) → get_or pairs x.0 None ≡ Some (numbers_of d can.pair)
+pub sides-at : (d : Description) (pairs : List (Option Sides)) (x : PeerNo) (v : VpcNo) → pairs ≡ map (sides_of d) d.peerings → (can : CanCarry d x v) → get_or pairs x.0 None ≡ Some (numbers_of d can.pair)
 sides-at d pairs x v is can =
     let within = described d x can.pair can.active in
     ap (λ (ps : List (Option Sides)). get_or ps x.0 None) is

@@ -4,3 +4,7 @@ pub mod Numbers
 pub mod Zips
 pub mod Publics
 pub mod Carrying
+pub mod Ranges
+pub mod Turning
+pub mod OnImages
+pub mod Standing

@@ -1,5 +1,6 @@
-pub mod Internet
 pub mod Pairs
 pub mod Sides
 pub mod Carry
 pub mod Edges
+pub mod OnImages
+pub mod Laws

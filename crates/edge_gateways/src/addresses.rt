@@ -1,9 +1,14 @@
 // Public addresses by private ones, and the other way round.
-ghost use Rattle.std.specs.Prelude.{◌≡◌, IfOk, map, ℕ};
+ghost use Rattle.std.specs.Prelude.{◌≡◌, IfOk, is_some, map, option_map, ℕ};
+ghost use Rattle.box_images.specs.Answers.{Answers};
+ghost use Rattle.box_images.specs.Images.{IsImageOfWalk, IsValidImage, header_at};
+ghost use Rattle.cut_laws.specs.Dividing.{CutOut};
 ghost use Rattle.number_tables.specs.Entries.{value_at};
 ghost use Rattle.edge_gateways.specs.Pairs.{HasPairsOf, owner_at, owner_entry, public_at, public_entry};
 
 use crate::pairs::{Owner, Pair, pairs_of};
+use box_images::{Image, Part, Side};
+use image_tests::entry_on;
 use number_tables::{Entry, NumberTable, key_of};
 use reference_check::Network;
 use std::alloc::{AllocError, Global};
@@ -53,6 +58,16 @@ fn owner_table(alloc: Global, pairs: &[Pair]) -> Result<NumberTable<Owner>, Allo
     Ok(table)
 }
 
+// The VPC and the private address of an owner, if there is one.
+fn parts_of(owner: Option<Owner>) -> Option<(VpcNo, u32)>
+    ensures { result ≡ option_map (λ o. (o.vpc, o.own)) owner }
+{
+    match owner {
+        Some(owner) => Some((owner.vpc, owner.own)),
+        None => None,
+    }
+}
+
 /// The public addresses of a network.
 #[derive(Drop)]
 pub struct AddressMaps {
@@ -81,9 +96,30 @@ impl AddressMaps {
     pub fn owner(&self, public: u32) -> Option<(VpcNo, u32)>
         ensures { result ≡ owner_at self.now.owners public }
     {
-        match self.owners.get(u64::from(public)) {
-            Some(owner) => Some((owner.vpc, owner.own)),
-            None => None,
+        parts_of(self.owners.get(u64::from(public)))
+    }
+
+    pub fn public_on(&self, v: VpcNo, i: &Image) -> Part<Option<u32>>
+        requires valid { IsValidImage i.now }
+        requires walk { IsImageOfWalk i.now }
+        ensures { Answers (CutOut (λ own. is_some (public_at self.now.publics v own)))
+            (λ h. let carried = header_at i.now h in public_at self.now.publics v carried.src)
+            i.now.part result }
+    {
+        entry_on(i, Side::Src, &self.publics, v.0)
+    }
+
+    pub fn owner_on(&self, i: &Image) -> Part<Option<(VpcNo, u32)>>
+        requires valid { IsValidImage i.now }
+        requires walk { IsImageOfWalk i.now }
+        ensures { Answers (CutOut (λ public. is_some (owner_at self.now.owners public)))
+            (λ h. let carried = header_at i.now h in owner_at self.now.owners carried.dst)
+            i.now.part result }
+    {
+        let entry = entry_on(i, Side::Dst, &self.owners, 0);
+        Part {
+            body: entry.body,
+            told: parts_of(entry.told),
         }
     }
 }

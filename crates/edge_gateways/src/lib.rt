@@ -5,13 +5,17 @@
 mod addresses;
 mod blocks;
 mod internet;
+mod laws;
 mod maps;
 mod pairs;
 mod peerings;
 mod sides;
+#[cfg(test)]
+mod tests;
 mod vpcs;
 
-pub use internet::unroutable;
+pub use internet::{unroutable, unroutable_on};
+pub use laws::{owners_are_cut_out, publics_are_cut_out, sides_are_divided};
 pub use maps::EdgeMaps;
 pub use pairs::Owner;
 pub use peerings::Carry;

@@ -3,6 +3,7 @@ ghost use Rattle.std.specs.Prelude.{◌≡◌};
 
 use crate::addresses::AddressMaps;
 use crate::peerings::{Carry, PeeringMaps};
+use box_images::{Image, Part};
 use reference_check::Network;
 use std::alloc::Global;
 use std::marker::Model;
@@ -26,8 +27,12 @@ impl Model for EdgeMaps {
 }
 
 impl EdgeMaps {
-    ghost use Rattle.std.specs.Prelude.{IfOk, IsTrue};
+    ghost use Rattle.std.specs.Prelude.{IfOk, IsTrue, is_some};
+    ghost use Rattle.box_images.specs.Answers.{Answers};
+    ghost use Rattle.box_images.specs.Images.{IsImageOfWalk, IsValidImage, header_at};
+    ghost use Rattle.cut_laws.specs.Dividing.{CutOut};
     ghost use Rattle.edge_gateways.specs.Edges.{AreEdgesOf, carry, is_carrier, owner_in, public_in};
+    ghost use Rattle.edge_gateways.specs.OnImages.{DivideSides};
 
     /// The maps of a network. It takes time n log n in its interfaces' addresses, its VPCs' blocks and its
     /// peerings.
@@ -73,5 +78,40 @@ impl EdgeMaps {
         ensures { result ≡ carry self.now x sender h.now }
     {
         self.peerings.carries(x, sender, h)
+    }
+
+    /// The public address of the source in a VPC, for all headers of an image (VPC User Guide, "Internet
+    /// gateways"). A body has one address that has a public one, or the gap up to the next that has.
+    pub fn out_addr_on(&self, v: VpcNo, i: &Image) -> Part<Option<u32>>
+        requires valid { IsValidImage i.now }
+        requires walk { IsImageOfWalk i.now }
+        ensures { Answers (CutOut (λ own. is_some (public_in self.now v own)))
+            (λ h. let carried = header_at i.now h in public_in self.now v carried.src)
+            i.now.part result }
+    {
+        self.addresses.public_on(v, i)
+    }
+
+    /// The owner of the destination, for all headers of an image.
+    pub fn in_addr_on(&self, i: &Image) -> Part<Option<(VpcNo, u32)>>
+        requires valid { IsValidImage i.now }
+        requires walk { IsImageOfWalk i.now }
+        ensures { Answers (CutOut (λ public. is_some (owner_in self.now public)))
+            (λ h. let carried = header_at i.now h in owner_in self.now carried.dst)
+            i.now.part result }
+    {
+        self.addresses.owner_on(i)
+    }
+
+    /// Whether a peering carries packets, for all headers of an image. The destination is asked where the
+    /// source passes.
+    pub fn carries_on(&self, x: PeerNo, sender: VpcNo, i: &Image) -> Part<Carry>
+        requires carrier { IsTrue (is_carrier self.now x sender) }
+        requires valid { IsValidImage i.now }
+        requires walk { IsImageOfWalk i.now }
+        ensures { Answers (DivideSides self.now.blocks self.now.sides x sender)
+            (λ h. carry self.now x sender (header_at i.now h)) i.now.part result }
+    {
+        self.peerings.carries_on(x, sender, i)
     }
 }

@@ -1,11 +1,19 @@
 // What peerings carry.
 ghost use Rattle.std.specs.Prelude.{◌≡◌, IfOk, IsTrue, None, slice_index_or};
+ghost use Rattle.box_images.specs.Answers.{Answers};
+ghost use Rattle.box_images.specs.Fields.{number_of};
+ghost use Rattle.box_images.specs.Images.{IsImageOfWalk, IsValidImage, header_at};
+ghost use Rattle.cut_laws.specs.Dividing.{DivideTurns};
+ghost use Rattle.image_tests.specs.Tests.{IsAddressSide};
 ghost use Rattle.edge_gateways.specs.Carry.{carried};
+ghost use Rattle.edge_gateways.specs.OnImages.{DivideSides};
 ghost use Rattle.edge_gateways.specs.Sides.{HasPeeringsOf, has_address, is_one_of, other_of};
 
 use crate::blocks::blocks_of;
 use crate::sides::{Sides, all_sides};
 use address_sets::AddressSet;
+use box_images::{Image, Part, Side};
+use image_tests::set_on;
 use reference_check::Network;
 use std::alloc::{AllocError, Global};
 use vpc_base::Header;
@@ -106,5 +114,53 @@ impl PeeringMaps {
             return Carry::BadDestination;
         }
         Carry::Yes
+    }
+
+    // Whether a block of the VPC holds the source or the destination.
+    fn address_on(&self, v: VpcNo, i: &Image, side: Side) -> Part<bool>
+        requires valid { IsValidImage i.now }
+        requires walk { IsImageOfWalk i.now }
+        requires address { IsAddressSide side }
+        ensures { Answers (DivideTurns (has_address self.now.blocks.items v))
+            (λ h. has_address self.now.blocks.items v (number_of (header_at i.now h) side))
+            i.now.part result }
+    {
+        let v = v.0 as usize;
+        if v < self.blocks.len() {
+            set_on(i, side, &self.blocks[v])
+        } else {
+            Part {
+                body: i.part,
+                told: false,
+            }
+        }
+    }
+
+    pub fn carries_on(&self, x: PeerNo, sender: VpcNo, i: &Image) -> Part<Carry>
+        requires side { IsTrue (is_one_of sender (slice_index_or self.now.sides.items x.0 None)) }
+        requires valid { IsValidImage i.now }
+        requires walk { IsImageOfWalk i.now }
+        ensures { Answers (DivideSides self.now.blocks.items self.now.sides.items x sender)
+            (λ h. carried self.now.blocks.items self.now.sides.items x sender (header_at i.now h))
+            i.now.part result }
+    {
+        let receiver = other_of(self.sides_of(x), sender);
+        let source = self.address_on(sender, i, Side::Src);
+        if !source.told {
+            return Part {
+                body: source.body,
+                told: Carry::BadSource,
+            };
+        }
+        let rest = i.within(&source.body);
+        let destination = self.address_on(receiver, &rest, Side::Dst);
+        Part {
+            body: destination.body,
+            told: if destination.told {
+                Carry::Yes
+            } else {
+                Carry::BadDestination
+            },
+        }
     }
 }

@@ -1,13 +1,13 @@
 -- The fields of images in walks, and which of their values are cuts.
-use Rattle.std.proofs.Common.{◌≡◌, ℕ, ◌≤◌, ◌<◌, ◌+◌, ◌-◌, ◌⊎◌, ◌∷◌, ◌++◌, List, [], true, zero, suc, refl, ap, sym, subst, ◌∙◌, arith, inl, inr, ⊎_elim}
+use Rattle.std.proofs.Common.{◌≡◌, ℕ, ◌≤◌, ◌-◌, ◌⊎◌, ◌∷◌, List, [], zero, suc, refl, ap, sym, subst, ◌∙◌, arith, inl, inr, ⊎_elim}
 use Rattle.std.specs.List.{Contains, filter}
 use Rattle.std.specs.Prelude.{map, nat_le}
 use Rattle.std.proofs.lemmas.Bool.Decides.{nat_tests}
 use Rattle.std.proofs.lemmas.List.Elements.{Contains-append_left, Contains-append_right}
 use Rattle.vpc_base.specs.Cuts.{CutLists}
 use Rattle.box_images.specs.Bodies.{IsCut}
-use Rattle.box_images.specs.Fields.{HasOffset, greatest_on}
-use Rattle.box_images.specs.Images.{IsAddress, IsImageOfAnswer, IsImageOfEchoReply, IsImageOfOpen, IsImageOfReturn, IsImageOfWalk, IsPort, field_of}
+use Rattle.box_images.specs.Fields.{greatest_on}
+use Rattle.box_images.specs.Images.{IsAddress, IsImageOfWalk, IsPort, field_of}
 use Rattle.box_images.specs.declared.fields.Field.{Field}
 use Rattle.box_images.specs.declared.fields.Field.TheVariants.{Fixed, Of}
 use Rattle.box_images.specs.declared.fields.Side.{Side}

@@ -1,5 +1,5 @@
 -- How far from an address on none has a key.
-use Rattle.std.proofs.Common.{◌≡◌, ℕ, ◌≤◌, ◌<◌, ◌+◌, ◌-◌, ◌==◌, ◌⊎◌, ◌∷◌, ◌∙◌, [], List, Bool, None, Option, Some, is_some, map, option_map, find, true, false, ap, sym, subst, arith, inl, inr, refl, slice_index_or, length}
+use Rattle.std.proofs.Common.{◌≡◌, ℕ, ◌≤◌, ◌<◌, ◌+◌, ◌-◌, ◌==◌, ◌⊎◌, ◌∷◌, ◌∙◌, [], List, Bool, None, Option, Some, is_some, map, true, false, ap, sym, subst, arith, inl, inr, refl, slice_index_or}
 use Rattle.std.specs.List.{Contains, list_any}
 use Rattle.std.specs.Prelude.{nat_le}
 use Rattle.std.proofs.lemmas.Bool.{cases_Bool, cases_lt, eq-eqb, ne_eqb}

@@ -1,5 +1,5 @@
 -- Bodies that end where a stretch of addresses does, and the answers for them.
-use Rattle.std.proofs.Common.{◌≡◌, ℕ, ◌≤◌, ◌<◌, ◌+◌, ◌⊎◌, ◌∷◌, ◌∙◌, ◌==◌, [], Bool, List, Option, is_some, map, not, true, ap, sym, subst, arith, inl, inr, refl}
+use Rattle.std.proofs.Common.{◌≡◌, ℕ, ◌≤◌, ◌<◌, ◌+◌, ◌⊎◌, ◌∷◌, ◌∙◌, [], Bool, List, Option, is_some, map, not, true, ap, sym, subst, arith, inl, inr, refl}
 use Rattle.std.specs.List.{Contains}
 use Rattle.std.proofs.lemmas.Bool.Decides.{nat_tests}
 use Rattle.std.proofs.lemmas.List.Elements.{All-cons, All-nil}
@@ -11,9 +11,10 @@ use Rattle.header_boxes.specs.declared.boxes.Box5.{Box5}
 use Rattle.address_sets.specs.Runs.{IsStretch, is_in}
 use Rattle.address_sets.specs.declared.sets.Run.{Run}
 use Rattle.box_images.proofs.LawLemmas.{bodies_are_aligned, cuts_are_inside}
+use Rattle.box_images.proofs.SideLemmas.{number_in_side}
 use Rattle.box_images.specs.Answers.{Answers}
 use Rattle.box_images.specs.Bodies.{EndsAtEdges, IsBody, IsCut, IsCutInside, range_edges}
-use Rattle.box_images.specs.Fields.{greatest_on, number_of, side_of, value_of}
+use Rattle.box_images.specs.Fields.{number_of, side_of, value_of}
 use Rattle.box_images.specs.Images.{IsImageOfWalk, IsValidImage, field_of, header_at}
 use Rattle.box_images.specs.declared.fields.Field.{Field}
 use Rattle.box_images.specs.declared.fields.Field.TheVariants.{Fixed, Of}
@@ -45,6 +46,11 @@ value-number i h Src = refl
 value-number i h Dst = refl
 value-number i h P = refl
 value-number i h Q = refl
+
+-- no header of a box has a lower value of a field than its low corner
+pub low-is-least : (f : Field) (b : Box5) (h : Header) → holds h b ≡ true → value_of f (low_of b) ≤ value_of f h
+low-is-least (Fixed n) b h t = omega arith
+low-is-least (Of s add) b h t = let low = number-low b s in let inside = number_in_side h b t s in let begins = inside.0 in omega arith
 
 -- which no number inside the part comes to
 low-inside : (cuts : CutLists) (part : Box5) (f : Field) (v : ℕ) → value_of f (low_of part) ≡ v → IsCutInside cuts part f v

@@ -1,5 +1,6 @@
 -- Rows that are asked one after the other, until one passes a test.
 use Rattle.std.proofs.Common.{◌≡◌, ◌<◌, ◌+◌, ◌∷◌, Bool, true, false, List, ℕ, ap, drop, get_or, length, refl, subst, suc, sym, ◌∙◌, arith}
+use Rattle.std.specs.List.{Contains, list_any}
 use Rattle.std.proofs.Math.Seq.{drop-cons}
 use Rattle.vpc_base.specs.Cuts.{CutLists}
 use Rattle.vpc_base.specs.declared.headers.Header.{Header}
@@ -56,6 +57,20 @@ trying_last {X} {T} enough whole asked test rows i k rest row x told decides bel
     (reduced_by enough whole (asked (drop k rows)) next i.part rest.part (test row) x true passes
     (λ h e. ap (λ xs. asked xs h) (rows_from rows k row below is) ∙ decides (drop (k + 1) rows) h e)
     t.reduced a)
+
+-- a row is one of the rows
+pub row_has : {X : Type 0} (rows : List X) (k : ℕ) (row : X) → k < length rows → row ≡ get_or rows k row → Contains rows row
+row_has rows k row below is = (k, below, sym is)
+
+-- whether any row passes a test
+abbrev pub any_passes : {X : Type 0} → (X → Header → Bool) → List X → Header → Bool
+any_passes test rows h = list_any (λ x. test x h) rows
+
+pub none_passes_yet : {X : Type 0} (test : X → Header → Bool) (x : X) (xs : List X) (h : Header) → test x h ≡ false → any_passes test (x ∷ xs) h ≡ any_passes test xs h
+none_passes_yet test x xs h fails = rw fails refl
+
+pub one_passes : {X : Type 0} (test : X → Header → Bool) (x : X) (xs : List X) (h : Header) → test x h ≡ true → any_passes test (x ∷ xs) h ≡ true
+one_passes test x xs h passes = rw passes refl
 
 -- the header of an image over a part is that of the image
 pub header_of_rest : (i rest : Image) (h : Header) → rest ≡ record i { part = rest.part } → header_at rest h ≡ header_at i h

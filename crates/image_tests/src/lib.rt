@@ -11,5 +11,5 @@ mod tests;
 
 pub use boxes::box_on;
 pub use pieces::piece_on;
-pub use rules::{block_on, far_side, proto_on, range_on, rule_on};
+pub use rules::{begins_on, block_on, far_side, proto_on, range_on, rule_on};
 pub use sets::{entry_on, member_on, set_on};

@@ -1,5 +1,5 @@
 // What rules of ACLs and groups ask.
-ghost use Rattle.std.specs.Prelude.{[], ◌≡◌};
+ghost use Rattle.std.specs.Prelude.{[], ◌≡◌, nat_le, ℕ};
 ghost use Rattle.box_images.specs.Answers.{Answers};
 ghost use Rattle.box_images.specs.Fields.{number_of};
 ghost use Rattle.box_images.specs.Images.{IsImageOfWalk, IsValidImage, header_at};
@@ -52,6 +52,16 @@ pub fn range_on(i: &Image, from: u16, to: u16) -> Part<bool>
         (λ h. is_between from to (header_at i.now h).q) i.now.part result }
 {
     side_on(i, Side::Q, u32::from(from), u32::from(to))
+}
+
+/// Whether q has come to the first port of a rule.
+pub fn begins_on(i: &Image, from: u16) -> Part<bool>
+    requires valid { IsValidImage i.now }
+    requires walk { IsImageOfWalk i.now }
+    ensures { (to : ℕ) → Answers (Divide (cuts_of_range from to))
+        (λ h. nat_le from (header_at i.now h).q) i.now.part result }
+{
+    side_on(i, Side::Q, u32::from(from), 65535)
 }
 
 /// Whether a block holds the source or the destination.

@@ -17,8 +17,8 @@ use box_images::{Image, Part, Side};
 use header_boxes::Box5;
 use number_tables::{NumberSet, NumberTable, key_of};
 
-// The address at the low corner of the part.
-fn low_on(i: &Image, side: Side) -> u32
+/// The source or the destination at the low corner of the part.
+pub fn low_on(i: &Image, side: Side) -> u32
     requires valid { IsValidImage i.now }
     requires address { IsAddressSide side }
     ensures { result ≡ low_on i.now side }
@@ -30,8 +30,9 @@ fn low_on(i: &Image, side: Side) -> u32
     }
 }
 
-// The body on which the address is at most the last one, which isn't below that at the low corner.
-fn up_to(i: &Image, side: Side, low: u32, last: u32) -> Box5
+/// The body on which the source or the destination is at most the last one, which isn't below that
+/// at the low corner.
+pub fn up_to(i: &Image, side: Side, low: u32, last: u32) -> Box5
     requires valid { IsValidImage i.now }
     requires walk { IsImageOfWalk i.now }
     requires address { IsAddressSide side }

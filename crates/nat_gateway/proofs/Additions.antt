@@ -1,7 +1,7 @@
 -- One more translation in each table, and look-ups in a table and the rest of its list.
-use Rattle.std.proofs.Common.{◌≡◌, ◌≤◌, ◌<◌, ◌+◌, ◌-◌, ◌||◌, ◌==◌, ◌&&◌, ℕ, Bool, true, false, List, [], ◌∷◌, ◌++◌, Option, Some, None, Result, Ok, Err, cond, refl, sym, ap, ◌∙◌, drop, inl, inr, is_some, length, min, nat_le, subst, take, unwrap_or, arith}
-use Rattle.std.specs.List.{count_by, find, list_any}
-use Rattle.std.specs.Option.{option_and_then, option_map, option_or}
+use Rattle.std.proofs.Common.{◌≡◌, ◌≤◌, ◌<◌, ◌+◌, ◌-◌, ◌||◌, ◌==◌, ◌&&◌, ℕ, Bool, true, false, List, [], ◌∷◌, ◌++◌, Option, Some, None, Result, Ok, Err, cond, refl, sym, ap, ◌∙◌, drop, inl, inr, is_some, min, nat_le, subst, take, unwrap_or, arith}
+use Rattle.std.specs.List.{count_by, find}
+use Rattle.std.specs.Option.{option_and_then, option_map}
 use Rattle.std.specs.Prelude.{OnErr, OnOk}
 use Rattle.std.proofs.lemmas.Bool.{cases_Bool}
 use Rattle.std.proofs.lemmas.Bool.Decides.{nat_tests}

@@ -1,5 +1,5 @@
 -- Runs of taken ports.
-use Rattle.std.proofs.Common.{◌≡◌, ◌≤◌, ◌<◌, ◌+◌, ◌-◌, ◌||◌, ◌==◌, ◌&&◌, ℕ, Bool, true, false, List, [], ◌∷◌, Option, Some, None, cond, refl, sym, ap, ◌∙◌, inl, inr, is_some, ltb, subst, arith}
+use Rattle.std.proofs.Common.{◌≡◌, ◌≤◌, ◌<◌, ◌+◌, ℕ, Bool, true, false, List, Option, Some, cond, refl, sym, ap, ◌∙◌, inl, inr, is_some, ltb, subst, arith}
 use Rattle.std.proofs.lemmas.Bool.{cases_Bool, ltb-true, ltb-false}
 use Rattle.nat_gateway.specs.declared.sent.Sent.{Sent}
 use Rattle.nat_gateway.specs.Sent.{same_sent, with_port}

@@ -1,4 +1,5 @@
 pub mod Book
+pub mod OnImages
 pub mod Parts
 pub mod Sent
 pub mod Tables

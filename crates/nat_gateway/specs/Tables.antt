@@ -1,13 +1,13 @@
 -- Tables of headers at gateways, and what they have of a list of translations.
 use Rattle.std.specs.List.{count_by, find}
 use Rattle.std.specs.Map.{lookup}
-use Rattle.std.specs.Prelude.{◌≡◌, ◌≤◌, ◌<◌, ◌==◌, ◌&&◌, ◌||◌, Bool, List, None, Option, Some, is_some, length, min, option_map, take, true, unwrap_or, ℕ}
+use Rattle.std.specs.Prelude.{◌≡◌, ◌≤◌, ◌<◌, ◌==◌, ◌&&◌, ◌||◌, Bool, List, Option, Some, is_some, length, min, option_map, take, true, unwrap_or, ℕ}
 use Rattle.nat_gateway.specs.declared.sent.Sent.{Sent}
 use Rattle.nat_gateway.specs.Sent.{flow_of, same_sent, with_port}
 use Rattle.vpc_base.specs.declared.headers.Header.{Header}
 use Rattle.vpc_model.specs.declared.numbers.NatNo.{NatNo}
 use Rattle.vpc_model.specs.Connections.{same_header}
-use Rattle.vpc_model.specs.Nat.{Translation, is_taken, shares, translation_of}
+use Rattle.vpc_model.specs.Nat.{Translation, is_taken, shares}
 
 -- what a table has of a header
 abbrev pub value_at : {V : Type 0} → List (Sent × V) → Sent → Option V

@@ -140,11 +140,11 @@ pub(crate) fn is_translatable(proto: u8) -> bool
     proto == ICMP || (proto == TCP || proto == UDP)
 }
 
-const ICMP: u8 = 1;
+pub(crate) const ICMP: u8 = 1;
 
-const TCP: u8 = 6;
+pub(crate) const TCP: u8 = 6;
 
-const UDP: u8 = 17;
+pub(crate) const UDP: u8 = 17;
 
 /// The port that is tried first.
 pub(crate) fn first_port(p: u16) -> u32

@@ -45,30 +45,12 @@ block_of_row i dir r s body x far k =
     (answers_same (Divide (cuts_of_block r.block)) (λ h. holds (number_of (header_at i h) s) r.block) (λ h. holds (far_address dir (header_at i h)) r.block) body x
     (λ h. ap (λ a. holds a r.block) (far (header_at i h))) k)
 
-and_associates : (a b c : Bool) → ((a && b) && c) ≡ (a && (b && c))
-and_associates true b c = refl
-and_associates false b c = refl
-
--- rule and block together are the row
-pub one_after_the_other : (i : Image) (dir : Dir) (r : AclRow) (x : Part Bool)
-    → Answers (Divide (cuts_of_acl_row r)) (λ h. fits_rule r.proto r.q_from r.q_to (header_at i h) && holds (far_address dir (header_at i h)) r.block) i.part x
-    → Answers (Divide (cuts_of_acl_row r)) (λ h. row_matches dir (header_at i h) r) i.part x
-one_after_the_other i dir r x k =
-    answers_same (Divide (cuts_of_acl_row r))
-    (λ h. fits_rule r.proto r.q_from r.q_to (header_at i h) && holds (far_address dir (header_at i h)) r.block)
-    (λ h. row_matches dir (header_at i h) r) i.part x
-    (λ h. and_associates (matches_proto r.proto (header_at i h).proto) (is_between r.q_from r.q_to (header_at i h).q) (holds (far_address dir (header_at i h)) r.block))
-    k
-
 -- the first of some rows that matches
 abbrev pub first_match : Dir → Image → List AclRow → Header → Option AclRow
 first_match dir i rows h = find (row_matches dir (header_at i h)) rows
 
 abbrev pub row_test : Dir → Image → AclRow → Header → Bool
 row_test dir i r h = row_matches dir (header_at i h) r
-
-pub row_has : (rows : List AclRow) (k : ℕ) (r : AclRow) → k < length rows → r ≡ get_or rows k r → Contains rows r
-row_has rows k r below is = (k, below, sym is)
 
 pub no_match_yet : (dir : Dir) (i : Image) (r : AclRow) (rows : List AclRow) (h : Header) → row_matches dir (header_at i h) r ≡ false → first_match dir i (r ∷ rows) h ≡ first_match dir i rows h
 no_match_yet dir i r rows h fails = rw fails refl

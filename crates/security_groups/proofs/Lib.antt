@@ -9,3 +9,5 @@ pub mod RuleRows
 pub mod Least
 pub mod Runs
 pub mod Meaning
+pub mod AskingOn
+pub mod RunsOn

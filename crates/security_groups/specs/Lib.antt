@@ -6,3 +6,4 @@ pub mod Members
 pub mod Peers
 pub mod Index
 pub mod Resolved
+pub mod Dividing

@@ -22,3 +22,7 @@ pub record AreLasts (rules : List Rule) (lasts : List ℕ) : Type 0 where
 pub record IsTable (rules : List Rule) (ports : List ℕ) : Type 0 where
   pub ascend : IsNonDecreasingBy (λ r. r.q_from) rules
   pub lasts : AreLasts rules ports
+
+-- the rules from a number on begin after a port
+abbrev pub BeginAfter : List Rule → ℕ → ℕ → Type 0
+BeginAfter rules n q = All (λ r. q < r.q_from) (drop n rules)

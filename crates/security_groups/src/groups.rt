@@ -1,9 +1,14 @@
 // Which rule of some groups allows a packet.
-ghost use Rattle.std.specs.Prelude.{◌≡◌, option_map};
+ghost use Rattle.std.specs.Prelude.{◌≡◌, IfSome, option_map, true};
+ghost use Rattle.box_images.specs.Answers.{Answers};
+ghost use Rattle.box_images.specs.Images.{IsImageOfWalk, IsValidImage, header_at};
 ghost use Rattle.security_groups.specs.Asking.{first_in_group, first_of, rules_of};
+ghost use Rattle.security_groups.specs.Dividing.{DivideGroups, DivideRules, IsAllowedOn, any_allows, any_group_allows, rules_in};
 
 use crate::tables::RuleTable;
 use address_sets::AddressSet;
+use box_images::{Image, Part};
+use header_boxes::Box5;
 use number_tables::NumberSet;
 use vpc_base::{Dir, Header};
 use vpc_model::{GroupNo, RuleRef};
@@ -67,4 +72,131 @@ pub fn first_of(
         }
     }
     None
+}
+
+// Whether one of a group's rules allows the headers of an image.
+fn any_in_group_on(
+    lists: &[AddressSet],
+    members: &NumberSet,
+    groups: &[GroupRules],
+    group: u32,
+    dir: Dir,
+    i: &Image,
+) -> Part<bool>
+    requires valid { IsValidImage i.now }
+    requires walk { IsImageOfWalk i.now }
+    ensures { Answers (DivideRules lists.now members.now (rules_in groups.now dir group))
+        (λ h. any_allows lists.now members.now dir (rules_in groups.now dir group) (header_at i.now h))
+        i.now.part result }
+{
+    if group as usize >= groups.len() {
+        return Part {
+            body: i.part,
+            told: false,
+        };
+    }
+    rules_of(&groups[group as usize], dir).any_allows_on(lists, members, dir, i)
+}
+
+// The body on which the rule allows that allows the low corner, if one of the group does.
+fn body_by_group(
+    lists: &[AddressSet],
+    members: &NumberSet,
+    groups: &[GroupRules],
+    group: u32,
+    dir: Dir,
+    i: &Image,
+) -> Option<Box5>
+    requires valid { IsValidImage i.now }
+    requires walk { IsImageOfWalk i.now }
+    ensures { IfSome result
+        (IsAllowedOn lists.now members.now dir (rules_in groups.now dir group) i.now) }
+{
+    if group as usize >= groups.len() {
+        return None;
+    }
+    let rules = rules_of(&groups[group as usize], dir);
+    let low = i.value(&i.part.low());
+    let number = rules.allowing(lists, members, dir, &low)?;
+    let allowed = rules.allows_on(number, lists, members, dir, i);
+    if allowed.told { Some(allowed.body) } else { None }
+}
+
+// The same of some groups.
+fn body_by_groups(
+    lists: &[AddressSet],
+    members: &NumberSet,
+    groups: &[GroupRules],
+    named: &[u32],
+    dir: Dir,
+    i: &Image,
+) -> Option<Box5>
+    requires valid { IsValidImage i.now }
+    requires walk { IsImageOfWalk i.now }
+    ensures { IfSome result
+        (λ b. Answers (DivideGroups lists.now members.now groups.now dir named.now)
+        (λ h. any_group_allows lists.now members.now groups.now dir named.now (header_at i.now h))
+        i.now.part (record { body = b; told = true })) }
+{
+    for group in named {
+        let body = body_by_group(lists, members, groups, *group, dir, i);
+        if body.is_some() {
+            return body;
+        }
+    }
+    None
+}
+
+// Whether one of some groups' rules allows them, on a body of all groups.
+fn each_group_on(
+    lists: &[AddressSet],
+    members: &NumberSet,
+    groups: &[GroupRules],
+    named: &[u32],
+    dir: Dir,
+    i: &Image,
+) -> Part<bool>
+    requires valid { IsValidImage i.now }
+    requires walk { IsImageOfWalk i.now }
+    ensures { Answers (DivideGroups lists.now members.now groups.now dir named.now)
+        (λ h. any_group_allows lists.now members.now groups.now dir named.now (header_at i.now h))
+        i.now.part result }
+{
+    let mut rest = *i;
+    for group in named {
+        let allowed = any_in_group_on(lists, members, groups, *group, dir, &rest);
+        if allowed.told {
+            return Part {
+                body: allowed.body,
+                told: true,
+            };
+        }
+        rest = rest.within(&allowed.body);
+    }
+    Part {
+        body: rest.part,
+        told: false,
+    }
+}
+
+/// Whether one of some groups' rules allows the headers of an image. Where one allows the low corner, the
+/// body is as large as that rule alone leaves it.
+pub fn any_of_on(
+    lists: &[AddressSet],
+    members: &NumberSet,
+    groups: &[GroupRules],
+    named: &[u32],
+    dir: Dir,
+    i: &Image,
+) -> Part<bool>
+    requires valid { IsValidImage i.now }
+    requires walk { IsImageOfWalk i.now }
+    ensures { Answers (DivideGroups lists.now members.now groups.now dir named.now)
+        (λ h. any_group_allows lists.now members.now groups.now dir named.now (header_at i.now h))
+        i.now.part result }
+{
+    match body_by_groups(lists, members, groups, named, dir, i) {
+        Some(body) => Part { body, told: true },
+        None => each_group_on(lists, members, groups, named, dir, i),
+    }
 }

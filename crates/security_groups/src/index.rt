@@ -4,10 +4,11 @@ ghost use Rattle.std.specs.List.{AllZip};
 ghost use Rattle.security_groups.specs.Resolved.{HasListsOf, IsGroupOf};
 
 use crate::building::{Named, group_rules};
-use crate::groups::{GroupRules, first_of};
+use crate::groups::{GroupRules, any_of_on, first_of};
 use crate::lists::entries_of;
 use crate::members::Membership;
 use address_sets::AddressSet;
+use box_images::{Image, Part};
 use reference_check::Network;
 use std::alloc::{AllocError, Global};
 use std::marker::Model;
@@ -56,7 +57,10 @@ impl Model for GroupIndex {
 }
 
 impl GroupIndex {
-    ghost use Rattle.std.specs.Prelude.{IfOk};
+    ghost use Rattle.std.specs.Prelude.{IfOk, is_some};
+    ghost use Rattle.box_images.specs.Answers.{Answers};
+    ghost use Rattle.box_images.specs.Images.{IsImageOfWalk, IsValidImage, header_at};
+    ghost use Rattle.security_groups.specs.Dividing.{DivideAt};
     ghost use Rattle.security_groups.specs.Index.{HasRulesOf, allowed};
 
     /// The index of a network. It takes time n log n in the rows and in the pairs of a group and an address
@@ -83,5 +87,26 @@ impl GroupIndex {
         let lists = self.rules.lists.as_slice();
         let groups = self.rules.groups.as_slice();
         first_of(lists, &self.membership.members, groups, named, dir, h)
+    }
+
+    /// Whether a rule allows the headers of an image at an interface, on a body. It takes no memory.
+    pub fn allows_on(&self, e: EniNo, dir: Dir, i: &Image) -> Part<bool>
+        requires valid { IsValidImage i.now }
+        requires walk { IsImageOfWalk i.now }
+        ensures { Answers (DivideAt self.now e dir)
+            (λ h. is_some (allowed self.now e dir (header_at i.now h))) i.now.part result }
+    {
+        let interfaces = self.membership.interfaces.as_slice();
+        let e = e.0 as usize;
+        if e >= interfaces.len() {
+            return Part {
+                body: i.part,
+                told: false,
+            };
+        }
+        let named = interfaces[e].as_slice();
+        let lists = self.rules.lists.as_slice();
+        let groups = self.rules.groups.as_slice();
+        any_of_on(lists, &self.membership.members, groups, named, dir, i)
     }
 }

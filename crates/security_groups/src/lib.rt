@@ -8,9 +8,11 @@ mod groups;
 mod index;
 mod lists;
 mod members;
+mod on_images;
 mod once;
 mod peers;
 mod rules;
+mod runs_on;
 mod tables;
 
 pub use groups::GroupRules;

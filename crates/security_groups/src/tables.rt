@@ -5,8 +5,11 @@ ghost use Rattle.security_groups.specs.Asking.{allows, least, lesser};
 ghost use Rattle.security_groups.specs.Tables.{AreLasts, EndBy, run_of};
 
 use crate::asking::allows;
+use crate::on_images::allows_on;
 use crate::rules::Rule;
+use crate::runs_on::{allowing_in_runs, any_in_runs_on, before_next};
 use address_sets::AddressSet;
+use box_images::{Image, Part};
 use number_tables::NumberSet;
 use std::alloc::{AllocError, Global};
 use std::marker::Model;
@@ -20,7 +23,7 @@ fn sort(rules: &mut Vec<Rule>)
 }
 
 // 64 rules, or those that are left.
-fn run_of(rules: &[Rule], k: usize) -> &[Rule]
+pub fn run_of(rules: &[Rule], k: usize) -> &[Rule]
     requires { 64 * k ≤ length rules.now }
     ensures { result.now ≡ run_of k rules.now }
 {
@@ -125,6 +128,11 @@ impl Model for RuleTable {
 }
 
 impl RuleTable {
+    ghost use Rattle.std.specs.Prelude.{IfSome};
+    ghost use Rattle.box_images.specs.Answers.{Answers};
+    ghost use Rattle.box_images.specs.Images.{IsImageOfWalk, IsValidImage, header_at};
+    ghost use Rattle.security_groups.specs.Dividing.{DivideRules, any_allows, rule_at};
+
     /// The table of some rules, in any order. It takes time n log n.
     pub fn of(alloc: Global, mut rules: Vec<Rule>) -> Result<RuleTable, AllocError>
         ensures { IfOk result (IsPermutation rules.items) }
@@ -150,5 +158,62 @@ impl RuleTable {
         let runs = begun.div_ceil(64);
         let rules = &self.rules[..begun];
         least_in_runs(lists, members, rules, &self.lasts[..runs], dir, h)
+    }
+    /// The number of a rule in this order that allows the packet, if one does. It asks as `least_allowing`
+    /// does, and stops at the first one.
+    pub fn allowing(
+        &self,
+        lists: &[AddressSet],
+        members: &NumberSet,
+        dir: Dir,
+        h: &Header,
+    ) -> Option<usize>
+        ensures { IfSome result (λ k. k < length self.now) }
+    {
+        let q = h.q;
+        let begun = self.rules.partition_point(|rule| rule.q_from <= q);
+        let runs = begun.div_ceil(64);
+        allowing_in_runs(lists, members, &self.rules[..begun], &self.lasts[..runs], dir, h)
+    }
+
+    /// Whether the rule of this number allows the headers of an image.
+    pub fn allows_on(
+        &self,
+        number: usize,
+        lists: &[AddressSet],
+        members: &NumberSet,
+        dir: Dir,
+        i: &Image,
+    ) -> Part<bool>
+        requires valid { IsValidImage i.now }
+        requires walk { IsImageOfWalk i.now }
+        requires within { number < length self.now }
+        ensures { Answers (DivideRules lists.now members.now self.now)
+            (λ h. allows lists.now members.now dir (header_at i.now h) (rule_at self.now number))
+            i.now.part result }
+    {
+        allows_on(lists, members, &self.rules[number], dir, i)
+    }
+
+    /// Whether one of the rules allows the headers of an image. It asks those that begin at or before the
+    /// port of the low corner, run by run, but no run of which all rules end before it.
+    pub fn any_allows_on(
+        &self,
+        lists: &[AddressSet],
+        members: &NumberSet,
+        dir: Dir,
+        i: &Image,
+    ) -> Part<bool>
+        requires valid { IsValidImage i.now }
+        requires walk { IsImageOfWalk i.now }
+        ensures { Answers (DivideRules lists.now members.now self.now)
+            (λ h. any_allows lists.now members.now dir self.now (header_at i.now h))
+            i.now.part result }
+    {
+        let q = i.value(&i.part.low()).q;
+        let begun = self.rules.partition_point(|rule| rule.q_from <= q);
+        let runs = begun.div_ceil(64);
+        let rest = i.within(&before_next(self.rules.as_slice(), begun, i));
+        any_in_runs_on(lists, members, &self.rules[..begun], &self.lasts[..runs], dir, q, &rest)
     }
 }

@@ -1,4 +1,3 @@
-use Rattle.std.proofs.Common.{rules}
 use Rattle.conn_tracking.proofs.Lookups.{learn_one}
 use Rattle.conn_tracking.proofs.growing.learn.Goals as goal
 

@@ -1,4 +1,4 @@
-use Rattle.std.proofs.Common.{List, Some, arith, subst, ℕ}
+use Rattle.std.proofs.Common.{arith, subst}
 use Rattle.number_tables.specs.Keys.{key_of}
 use Rattle.number_tables.specs.Next.{IsNext}
 use Rattle.image_tests.proofs.KeyStretches.{stretch-before, stretch-key, stretch-none, stretch-past}

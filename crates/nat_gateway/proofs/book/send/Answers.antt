@@ -1,4 +1,3 @@
-use Rattle.std.proofs.Common.{sym, ◌∙◌, rules}
 use Rattle.nat_gateway.proofs.Books.{none-found}
 use Rattle.nat_gateway.proofs.book.send.Goals as goal
 

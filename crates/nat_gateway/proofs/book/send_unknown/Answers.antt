@@ -1,4 +1,4 @@
-use Rattle.std.proofs.Common.{◌≡◌, ◌<◌, ◌^◌, false, sym, subst, ◌∙◌, arith, rules}
+use Rattle.std.proofs.Common.{sym, subst, ◌∙◌}
 use Rattle.vpc_laws.specs.Translations.{IsBook}
 use Rattle.nat_gateway.proofs.Books.{new_book}
 use Rattle.nat_gateway.proofs.book.send_unknown.Goals as goal

@@ -1,8 +1,8 @@
 use Rattle.std.proofs.Common.{Some, arith}
 use Rattle.image_tests.proofs.Answering.{answers_map}
-use Rattle.image_tests.proofs.Trying.{trying_first, trying_last, trying_next}
+use Rattle.image_tests.proofs.Trying.{row_has, trying_first, trying_last, trying_next}
 use Rattle.vpc_model.specs.Acls.{verdict_of_row}
-use Rattle.network_acls.proofs.Matching.{answer_of_row, first_match, match_found, no_match_yet, row_has, row_test}
+use Rattle.network_acls.proofs.Matching.{answer_of_row, first_match, match_found, no_match_yet, row_test}
 use Rattle.network_acls.proofs.on_images.first_verdict_on.Goals as goal
 use Rattle.network_acls.specs.Tried.{DivideRows}
 

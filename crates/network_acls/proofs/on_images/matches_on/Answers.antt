@@ -5,12 +5,12 @@ use Rattle.box_images.specs.Fields.{number_of}
 use Rattle.box_images.specs.Images.{header_at}
 use Rattle.box_images.specs.declared.images.Image.{Image}
 use Rattle.cut_laws.specs.Dividing.{Divide}
-use Rattle.image_tests.proofs.Answering.{answers_both, answers_refused}
+use Rattle.image_tests.proofs.Answering.{answers_both, answers_refused, answers_rule}
 use Rattle.image_tests.specs.Tests.{cuts_of_block, fits_rule}
 use Rattle.prefix_text.specs.Block.{holds}
 use Rattle.vpc_model.specs.Cuts.{cuts_of_acl_row}
 use Rattle.vpc_model.specs.Filter.{far_address}
-use Rattle.network_acls.proofs.Matching.{block_of_row, one_after_the_other, rule_of_row}
+use Rattle.network_acls.proofs.Matching.{block_of_row, rule_of_row}
 use Rattle.network_acls.proofs.on_images.matches_on.Goals as goal
 
 pub returns-then-not-fits : goal.returns-then-not-fits
@@ -21,7 +21,7 @@ returns-then-not-fits c =
     let enough = Divide (cuts_of_acl_row r) in
     let fits : Header → Bool = λ h. fits_rule r.proto r.q_from r.q_to (header_at i h) in
     let far : Header → Bool = λ h. holds (far_address dir (header_at i h)) r.block in
-    one_after_the_other i dir r c.rule_on-fits.result
+    answers_rule enough r.proto r.q_from r.q_to i far i.part c.rule_on-fits.result
     (answers_refused enough fits far i.part c.rule_on-fits.result c.if-not-fits.true (rule_of_row i r c.rule_on-fits.result c.rule_on-fits.ensures))
 
 pub returns : goal.returns
@@ -33,7 +33,7 @@ returns c =
     let enough = Divide (cuts_of_acl_row r) in
     let fits : Header → Bool = λ h. fits_rule r.proto r.q_from r.q_to (header_at i h) in
     let far : Header → Bool = λ h. holds (far_address dir (header_at i h)) r.block in
-    one_after_the_other i dir r c.block_on.result
+    answers_rule enough r.proto r.q_from r.q_to i far i.part c.block_on.result
     (answers_both enough fits far i.part x c.block_on.result c.if-not-fits.false (rule_of_row i r x c.rule_on-fits.ensures)
     (block_of_row i dir r c.far_side.result x.body c.block_on.result c.far_side.ensures.far
     (subst (λ (j : Image). Answers (Divide (cuts_of_block r.block)) (λ h. holds (number_of (header_at j h) c.far_side.result) r.block) j.part c.block_on.result)

@@ -1,5 +1,5 @@
-use Rattle.std.proofs.Common.{◌≡◌, true, is_some, sym, ap, ◌∙◌, rules}
-use Rattle.nat_gateway.specs.Tables.{key_after, value_at}
+use Rattle.std.proofs.Common.{sym, ap, ◌∙◌}
+use Rattle.nat_gateway.specs.Tables.{key_after}
 use Rattle.nat_gateway.proofs.Additions.{on_ok-map}
 use Rattle.nat_gateway.proofs.Values.{values_had, values_added}
 use Rattle.nat_gateway.proofs.parts.BeforesPart.add.Goals as goal

@@ -1,4 +1,4 @@
-use Rattle.std.proofs.Common.{◌≡◌, ap, ◌∙◌, rules, unwrap_or}
+use Rattle.std.proofs.Common.{ap, ◌∙◌, unwrap_or}
 use Rattle.nat_gateway.specs.Sent.{flow_of}
 use Rattle.nat_gateway.proofs.Additions.{counts-put, on_ok-map}
 use Rattle.nat_gateway.proofs.parts.CountsPart.add.Goals as goal

@@ -1,4 +1,4 @@
-use Rattle.std.proofs.Common.{◌≡◌, subst, sym, rules}
+use Rattle.std.proofs.Common.{subst, sym}
 use Rattle.nat_gateway.specs.Tables.{AreRuns}
 use Rattle.nat_gateway.proofs.Additions.{either}
 use Rattle.nat_gateway.proofs.Runs.{runs-shorten}

@@ -1,4 +1,4 @@
-use Rattle.std.proofs.Common.{◌∙◌, ap, sym, rules}
+use Rattle.std.proofs.Common.{◌∙◌, sym, rules}
 use Rattle.nat_gateway.proofs.Additions.{inward-by_open, inward-without_open}
 use Rattle.nat_gateway.proofs.small.SmallNatsNatBook.inward.Goals as goal
 

@@ -1,4 +1,3 @@
-use Rattle.std.proofs.Common.{rules}
 use Rattle.nat_gateway.proofs.Values.{put_is_value}
 use Rattle.nat_gateway.proofs.table.Table.put.Goals as goal
 

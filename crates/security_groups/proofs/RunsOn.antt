@@ -1,0 +1,252 @@
+-- Rules that are asked of images run by run.
+use Rattle.std.proofs.Common.{◌≡◌, ◌∙◌, ◌&&◌, ◌||◌, ◌*◌, ◌+◌, ◌<◌, ◌≤◌, ◌∷◌, [], ℕ, Bool, List, None, ap, arith, drop, false, get_or, length, nat_le, refl, subst, sym, take, true}
+use Rattle.std.proofs.Math.Seq.{drop-drop}
+use Rattle.std.specs.List.{All, list_any}
+use Rattle.std.specs.List.Sorted.{IsNonDecreasingBy, IsPartitionPoint}
+use Rattle.std.proofs.lemmas.Bool.{lt-leb}
+use Rattle.std.proofs.lemmas.Bool.Decides.{nat_tests}
+use Rattle.std.proofs.lemmas.List.{get_or-drop, get_or_default, drop_all, length-drop, length-take, take-append-drop}
+use Rattle.std.proofs.lemmas.List.Elements.{All-contains, All-drop, All-head, All-tail, All-take}
+use Rattle.std.proofs.lemmas.List.Folds.{list_any-append}
+use Rattle.address_sets.specs.declared.sets.Run.{Run}
+use Rattle.vpc_base.specs.Cuts.{CutLists}
+use Rattle.vpc_base.specs.declared.headers.Dir.{Dir}
+use Rattle.vpc_base.specs.declared.headers.Header.{Header}
+use Rattle.header_boxes.proofs.BoxLaws.{within_holds}
+use Rattle.header_boxes.proofs.Held.{holds_low, valid_if_within}
+use Rattle.header_boxes.specs.Boxes.{IsWithin, holds, low_of}
+use Rattle.header_boxes.specs.declared.boxes.Box5.{Box5}
+use Rattle.box_images.proofs.Reducing.{reduced_all, reduced_by, reduced_nothing, reduced_same, reduced_to, walk_within}
+use Rattle.box_images.specs.Answers.{Answers, Reduces}
+use Rattle.box_images.specs.Images.{IsImageOfWalk, IsValidImage, KeepsKind, header_at}
+use Rattle.box_images.specs.declared.images.Image.{Image}
+use Rattle.box_images.specs.declared.images.Part.{Part}
+use Rattle.cut_laws.specs.Dividing.{Divide}
+use Rattle.image_tests.proofs.Answering.{answers_more, answers_same}
+use Rattle.image_tests.proofs.EdgeCuts.{range_of_rule}
+use Rattle.image_tests.proofs.Stretches.{low-is-least}
+use Rattle.image_tests.proofs.Trying.{header_of_rest}
+use Rattle.image_tests.specs.Tests.{cuts_of_range}
+use Rattle.security_groups.specs.declared.rules.Rule.{Rule}
+use Rattle.vpc_model.specs.Filter.{far_address, matches_proto}
+use Rattle.security_groups.proofs.OnceEach.{or_false}
+use Rattle.security_groups.specs.Asking.{allows, names}
+use Rattle.security_groups.specs.Dividing.{DivideRule, DivideRules, IsLeftWith, any_allows}
+use Rattle.security_groups.specs.Tables.{BeginAfter, EndBy, run_of}
+
+-- ---- one of some rules
+
+any-parts : (p : Rule → Bool) (rules : List Rule) (n : ℕ) → list_any p rules ≡ (list_any p (take n rules) || list_any p (drop n rules))
+any-parts p rules n = ap (list_any p) (sym (take-append-drop n rules)) ∙ list_any-append p (take n rules) (drop n rules)
+
+none-of : (p : Rule → Bool) (rules : List Rule) → All (λ r. p r ≡ false) rules → list_any p rules ≡ false
+none-of p [] all = refl
+none-of p (r ∷ rs) all =
+    let fails = All-head (λ x. p x ≡ false) r rs all in
+    rw fails (none-of p rs (All-tail (λ x. p x ≡ false) r rs all))
+
+first-decide : (p : Rule → Bool) (rules : List Rule) (n : ℕ) → list_any p (drop n rules) ≡ false → list_any p rules ≡ list_any p (take n rules)
+first-decide p rules n none = any-parts p rules n ∙ ap (λ b. list_any p (take n rules) || b) none ∙ or_false (list_any p (take n rules))
+
+-- a run, and the runs after it
+run-parts : (p : Rule → Bool) (rules : List Rule) (k : ℕ) → list_any p (drop (64 * k) rules) ≡ (list_any p (run_of k rules) || list_any p (drop (64 * (k + 1)) rules))
+run-parts p rules k =
+    let next : 64 * k + 64 ≡ 64 * (k + 1) = omega arith in
+    any-parts p (drop (64 * k) rules) 64
+    ∙ ap (λ rs. list_any p (run_of k rules) || list_any p rs) (drop-drop 64 (64 * k) rules ∙ ap (λ n. drop n rules) next)
+
+-- ---- rules that can't allow a header
+
+starts-later : (lists : List (List Run)) (members : List ℕ) (dir : Dir) (h : Header) (r : Rule) → h.q < r.q_from → allows lists members dir h r ≡ false
+starts-later lists members dir h r less =
+    let fails : nat_le r.q_from h.q ≡ false = lt-leb r.q_from h.q less in
+    rw fails (nowhere (nat_le h.q r.q_to) (names lists members (far_address dir h) r) (matches_proto r.proto h.proto))
+  where
+    nowhere : (a b c : Bool) → (c && ((false && a) && b)) ≡ false
+    nowhere a b true = refl
+    nowhere a b false = refl
+
+ended-before : (lists : List (List Run)) (members : List ℕ) (dir : Dir) (h : Header) (r : Rule) → r.q_to < h.q → allows lists members dir h r ≡ false
+ended-before lists members dir h r less =
+    let fails : nat_le h.q r.q_to ≡ false = lt-leb h.q r.q_to less in
+    rw fails (nowhere (nat_le r.q_from h.q) (names lists members (far_address dir h) r) (matches_proto r.proto h.proto))
+  where
+    nowhere : (a b c : Bool) → (c && ((a && false) && b)) ≡ false
+    nowhere true b true = refl
+    nowhere true b false = refl
+    nowhere false b true = refl
+    nowhere false b false = refl
+
+pub none-ended : (lists : List (List Run)) (members : List ℕ) (dir : Dir) (h : Header) (last : ℕ) (rules : List Rule) → EndBy last rules → last < h.q → any_allows lists members dir rules h ≡ false
+none-ended lists members dir h last rules ends before =
+    none-of (allows lists members dir h) rules
+    (λ k d within. let end = ends k d within in ended-before lists members dir h (get_or rules k d) (omega arith))
+
+-- ---- before the next rule
+
+pub left-before : (lists : List (List Run)) (members : List ℕ) (dir : Dir) (rules : List Rule) (begun : ℕ) (i : Image) (next : Rule) (x : Part Bool)
+    → IsValidImage i → begun < length rules → next ≡ get_or rules begun next → IsNonDecreasingBy (λ r. r.q_from) rules → BeginAfter rules begun (header_at i (low_of i.part)).q
+    → ((to : ℕ) → Answers (Divide (cuts_of_range next.q_from to)) (λ h. nat_le next.q_from (header_at i h).q) i.part x)
+    → IsLeftWith lists members dir rules (take begun rules) i x.body
+left-before lists members dir rules begun i next x valid within is ascend later k = record {
+  same = λ h t. first-decide (allows lists members dir (header_at i h)) rules begun (none-of (allows lists members dir (header_at i h)) (drop begun rules) (after h t));
+  inside = (k 0).body;
+  aligned = λ cuts all. (k next.q_to).aligned cuts
+      (range_cuts cuts (All-contains (λ r. DivideRule lists members r cuts) rules next all (begun, within, sym is)));
+}
+  where
+    range_cuts : (cuts : CutLists) → DivideRule lists members next cuts → Divide (cuts_of_range next.q_from next.q_to) cuts
+    range_cuts cuts d = range_of_rule next.proto next.q_from next.q_to cuts d.rule
+
+    low : Header
+    low = low_of i.part
+
+    low_in_body : holds low x.body ≡ true
+    low_in_body = subst (λ (h : Header). holds h x.body ≡ true) (k 0).body.low (holds_low x.body (valid_if_within x.body i.part (k 0).body.within))
+
+    next_is_later : (header_at i low).q < next.q_from
+    next_is_later =
+        let at = get_or-drop begun rules 0 next in
+        let long = length-drop begun rules in
+        let less = later 0 next (omega arith) in
+        let same : get_or (drop begun rules) 0 next ≡ next = at ∙ ap (λ n. get_or rules n next) (omega arith) ∙ sym is in
+        subst (λ (r : Rule). (header_at i low).q < r.q_from) same less
+
+    below : (h : Header) → holds h x.body ≡ true → (header_at i h).q < next.q_from
+    below h t = less (header_at i h).q (sym ((k 0).told h t) ∙ (k 0).told low low_in_body ∙ lt-leb next.q_from (header_at i low).q next_is_later)
+      where
+        less : (q : ℕ) → nat_le next.q_from q ≡ false → q < next.q_from
+        less q e = grind (arith, nat_tests)
+
+    after : (h : Header) → holds h x.body ≡ true → All (λ r. allows lists members dir (header_at i h) r ≡ false) (drop begun rules)
+    after h t n d inside =
+        let long = length-drop begun rules in
+        let at = get_or-drop begun rules n d in
+        let rises = ascend begun (begun + n) d (omega arith) (omega arith) in
+        let first : (get_or rules begun d).q_from ≡ next.q_from = ap (λ (r : Rule). r.q_from) (get_or_default rules begun d next within ∙ sym is) in
+        let same = ap (λ (r : Rule). r.q_from) at in
+        let here = below h t in
+        starts-later lists members dir (header_at i h) (get_or (drop begun rules) n d) (omega arith)
+
+-- ---- a rule of a run
+
+pub run-within : (rules : List Rule) (k j : ℕ) → j < length (run_of k rules) → 64 * k + j < length rules
+run-within rules k j below =
+    let cut = length-take 64 (drop (64 * k) rules) in
+    let left = length-drop (64 * k) rules in
+    omega arith
+
+-- ---- what is left of an image after some runs
+
+pub record IsInRuns (lists : List (List Run)) (members : List ℕ) (dir : Dir) (rules : List Rule) (i : Image) (k : ℕ) (rest : Image) : Type 0 where
+  pub image : rest ≡ record i { part = rest.part }
+  pub valid : IsValidImage rest
+  pub walk : IsImageOfWalk rest
+  pub left : IsLeftWith lists members dir rules (drop (64 * k) rules) i rest.part
+
+pub runs_first : (lists : List (List Run)) (members : List ℕ) (dir : Dir) (rules : List Rule) (i : Image) → IsValidImage i → IsImageOfWalk i → IsInRuns lists members dir rules i 0 i
+runs_first lists members dir rules i v w =
+    record { image = refl; valid = v; walk = w; left = reduced_nothing (DivideRules lists members rules) (λ h. any_allows lists members dir rules (header_at i h)) i.part v.part }
+
+-- a run is asked of what is left
+run_asked : (lists : List (List Run)) (members : List ℕ) (dir : Dir) (rules : List Rule) (i rest : Image) (k : ℕ) (x : Part Bool) → rest ≡ record i { part = rest.part }
+    → Answers (DivideRules lists members (run_of k rules)) (λ h. any_allows lists members dir (run_of k rules) (header_at rest h)) rest.part x
+    → Answers (DivideRules lists members rules) (λ h. any_allows lists members dir (run_of k rules) (header_at i h)) rest.part x
+run_asked lists members dir rules i rest k x e a =
+    answers_more (DivideRules lists members (run_of k rules)) (DivideRules lists members rules) (λ h. any_allows lists members dir (run_of k rules) (header_at i h)) rest.part x
+    (λ cuts all. All-take (λ r. DivideRule lists members r cuts) 64 (drop (64 * k) rules) (All-drop (λ r. DivideRule lists members r cuts) (64 * k) rules all))
+    (answers_same (DivideRules lists members (run_of k rules)) (λ h. any_allows lists members dir (run_of k rules) (header_at rest h))
+    (λ h. any_allows lists members dir (run_of k rules) (header_at i h)) rest.part x
+    (λ h. ap (any_allows lists members dir (run_of k rules)) (header_of_rest i rest h e)) a)
+
+pub runs_next : (lists : List (List Run)) (members : List ℕ) (dir : Dir) (rules : List Rule) (i rest next : Image) (k : ℕ) (x : Part Bool)
+    → x.told ≡ false → next ≡ record rest { part = x.body } → IsValidImage next → ((addresses : List ℕ) → KeepsKind addresses rest next)
+    → IsInRuns lists members dir rules i k rest
+    → Answers (DivideRules lists members (run_of k rules)) (λ h. any_allows lists members dir (run_of k rules) (header_at rest h)) rest.part x
+    → IsInRuns lists members dir rules i (k + 1) next
+runs_next lists members dir rules i rest next k x fails image valid keeps r a = record {
+  image = subst (λ (j : Image). j ≡ record i { part = j.part }) (sym image) (ap (λ (j : Image). record j { part = x.body }) r.image);
+  valid = valid;
+  walk = walk_within rest next r.walk keeps;
+  left = subst (λ (j : Image). IsLeftWith lists members dir rules (drop (64 * (k + 1)) rules) i j.part) (sym image)
+      (reduced_by (DivideRules lists members rules) (λ h. any_allows lists members dir rules (header_at i h))
+      (λ h. any_allows lists members dir (drop (64 * k) rules) (header_at i h)) (λ h. any_allows lists members dir (drop (64 * (k + 1)) rules) (header_at i h))
+      i.part rest.part (λ h. any_allows lists members dir (run_of k rules) (header_at i h)) x false fails
+      (λ h e. run-parts (allows lists members dir (header_at i h)) rules k ∙ ap (λ b. b || any_allows lists members dir (drop (64 * (k + 1)) rules) (header_at i h)) e)
+      r.left (run_asked lists members dir rules i rest k x r.image a));
+}
+
+-- a run that ends before the ports of all headers is left behind
+pub runs_passed : (lists : List (List Run)) (members : List ℕ) (dir : Dir) (rules : List Rule) (i rest : Image) (k q last : ℕ)
+    → ((h : Header) → holds h i.part ≡ true → q ≤ (header_at i h).q) → last < q → EndBy last (run_of k rules)
+    → IsInRuns lists members dir rules i k rest → IsInRuns lists members dir rules i (k + 1) rest
+runs_passed lists members dir rules i rest k q last above before ends r = record {
+  image = r.image;
+  valid = r.valid;
+  walk = r.walk;
+  left = reduced_same (DivideRules lists members rules) (λ h. any_allows lists members dir rules (header_at i h))
+      (λ h. any_allows lists members dir (drop (64 * k) rules) (header_at i h)) (λ h. any_allows lists members dir (drop (64 * (k + 1)) rules) (header_at i h)) i.part rest.part
+      (λ h t.
+      let port = above h (within_holds rest.part i.part h r.left.inside.within t) in
+      run-parts (allows lists members dir (header_at i h)) rules k
+      ∙ ap (λ b. b || any_allows lists members dir (drop (64 * (k + 1)) rules) (header_at i h)) (none-ended lists members dir (header_at i h) last (run_of k rules) ends (omega arith)))
+      r.left;
+}
+
+pub runs_allow : (lists : List (List Run)) (members : List ℕ) (dir : Dir) (rules : List Rule) (i rest : Image) (k : ℕ) (x : Part Bool)
+    → x.told ≡ true → IsInRuns lists members dir rules i k rest
+    → Answers (DivideRules lists members (run_of k rules)) (λ h. any_allows lists members dir (run_of k rules) (header_at rest h)) rest.part x
+    → Answers (DivideRules lists members rules) (λ h. any_allows lists members dir rules (header_at i h)) i.part (record { body = x.body; told = true })
+runs_allow lists members dir rules i rest k x passes r a =
+    let whole : Header → Bool = λ h. any_allows lists members dir rules (header_at i h) in
+    let all : Header → Bool = λ h. true in
+    reduced_all (DivideRules lists members rules) whole all i.part x.body true (λ h t. refl)
+    (reduced_by (DivideRules lists members rules) whole (λ h. any_allows lists members dir (drop (64 * k) rules) (header_at i h)) all i.part rest.part
+    (λ h. any_allows lists members dir (run_of k rules) (header_at i h)) x true passes
+    (λ h e. run-parts (allows lists members dir (header_at i h)) rules k ∙ ap (λ b. b || any_allows lists members dir (drop (64 * (k + 1)) rules) (header_at i h)) e)
+    r.left (run_asked lists members dir rules i rest k x r.image a))
+
+pub runs_none : (lists : List (List Run)) (members : List ℕ) (dir : Dir) (rules : List Rule) (i rest : Image) (k : ℕ) → length rules ≤ 64 * k
+    → IsInRuns lists members dir rules i k rest
+    → Answers (DivideRules lists members rules) (λ h. any_allows lists members dir rules (header_at i h)) i.part (record { body = rest.part; told = false })
+runs_none lists members dir rules i rest k ended r =
+    reduced_all (DivideRules lists members rules) (λ h. any_allows lists members dir rules (header_at i h)) (λ h. any_allows lists members dir (drop (64 * k) rules) (header_at i h))
+    i.part rest.part false (λ h t. ap (list_any (allows lists members dir (header_at i h))) (drop_all (64 * k) rules ended)) r.left
+
+-- ---- the rules of a table
+
+pub begin-after : (rules seen asked : List Rule) (begun q low : ℕ) → seen ≡ rules → asked ≡ rules → q ≡ low
+    → IsPartitionPoint (λ r. nat_le r.q_from q ≡ true) (λ r. nat_le r.q_from q ≡ false) seen begun → BeginAfter asked begun low
+begin-after rules seen asked begun q low same alike is point =
+    subst (BeginAfter asked begun) is (subst (λ (rs : List Rule). BeginAfter rs begun q) (sym alike) (subst (λ (rs : List Rule). BeginAfter rs begun q) same after))
+  where
+    less : (from : ℕ) → nat_le from q ≡ false → q < from
+    less from e = grind (arith, nat_tests)
+
+    after : BeginAfter seen begun q
+    after k d below =
+        let long = length-drop begun seen in
+        let at = ap (λ (r : Rule). r.q_from) (get_or-drop begun seen k d) in
+        let here = less (get_or seen (begun + k) d).q_from (point.1 (begun + k) d (omega arith) (omega arith)) in
+        omega arith
+
+-- the rules that begin at or before a port, on the body where the others aren't had
+pub any-allows : (lists : List (List Run)) (members : List ℕ) (dir : Dir) (rules asked seen table : List Rule) (begun : ℕ) (i rest : Image) (body : Box5) (x : Part Bool)
+    → asked ≡ rules → seen ≡ rules → rules ≡ table → IsLeftWith lists members dir asked (take begun asked) i body → rest ≡ record i { part = body }
+    → Answers (DivideRules lists members (take begun seen)) (λ h. any_allows lists members dir (take begun seen) (header_at rest h)) rest.part x
+    → Answers (DivideRules lists members table) (λ h. any_allows lists members dir table (header_at i h)) i.part x
+any-allows lists members dir rules asked seen table begun i rest body x same alike is left image a =
+    subst (λ (rs : List Rule). Answers (DivideRules lists members rs) (λ h. any_allows lists members dir rs (header_at i h)) i.part x) is
+    (reduced_to (DivideRules lists members rules) (λ h. any_allows lists members dir rules (header_at i h)) (λ h. any_allows lists members dir (take begun rules) (header_at i h)) i.part body x
+    (subst (λ (rs : List Rule). IsLeftWith lists members dir rs (take begun rs) i body) same left)
+    (answers_more (DivideRules lists members (take begun rules)) (DivideRules lists members rules) (λ h. any_allows lists members dir (take begun rules) (header_at i h)) body x
+    (λ cuts all. All-take (λ r. DivideRule lists members r cuts) begun rules all)
+    (subst (λ (j : Image). Answers (DivideRules lists members (take begun rules)) (λ h. any_allows lists members dir (take begun rules) (header_at j h)) j.part x) image
+    (subst (λ (rs : List Rule). Answers (DivideRules lists members (take begun rs)) (λ h. any_allows lists members dir (take begun rs) (header_at rest h)) rest.part x) alike a))))
+
+-- no port of what is left is below that of the low corner
+pub ports-above : (i rest : Image) (body : Box5) (q : ℕ) → q ≡ (header_at i (low_of i.part)).q → IsWithin body i.part → rest ≡ record i { part = body }
+    → (h : Header) → holds h rest.part ≡ true → q ≤ (header_at rest h).q
+ports-above i rest body q is within image =
+    subst (λ (j : Image). (h : Header) → holds h j.part ≡ true → q ≤ (header_at j h).q) (sym image)
+    (λ h t. let le = low-is-least i.q i.part h (within_holds body i.part h within t) in omega arith)

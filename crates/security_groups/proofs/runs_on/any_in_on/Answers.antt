@@ -1,0 +1,46 @@
+use Rattle.std.proofs.Common.{arith, true}
+use Rattle.image_tests.proofs.Trying.{any_passes, none_passes_yet, one_passes, row_has, trying_first, trying_last, trying_next}
+use Rattle.security_groups.proofs.AskingOn.{rule_of_rest, rule_test}
+use Rattle.security_groups.proofs.runs_on.any_in_on.Goals as goal
+use Rattle.security_groups.specs.Dividing.{DivideRules}
+
+pub loop-rule-init : goal.loop-rule-init
+loop-rule-init c =
+    let lists = c.args.lists.now in
+    let members = c.args.members.now in
+    let rules = c.args.rules.now in
+    trying_first (DivideRules lists members rules) (any_passes (rule_test lists members c.args.dir c.args.i.now)) rules c.args.i.now c.requires.valid c.requires.walk
+
+pub loop-rule-preserved : goal.loop-rule-preserved
+loop-rule-preserved c =
+    let lists = c.args.lists.now in
+    let members = c.args.members.now in
+    let rules = c.args.rules.now in
+    let dir = c.args.dir in
+    let i = c.args.i.now in
+    let test = rule_test lists members dir i in
+    let k = c.loop-rule.rule-index in
+    let rest = c.loop-rule.rest in
+    let row = c.rule-item.result in
+    let x = c.allows_on-allowed.result in
+    let has = row_has rules k row (omega arith) c.rule-item.is in
+    trying_next (DivideRules lists members rules) (any_passes test rules) (any_passes test) test (none_passes_yet test) rules i k rest row x
+    c.within-rest.result (omega arith) c.rule-item.is c.if-allowed.false c.within-rest.ensures.image c.within-rest.ensures.valid c.within-rest.ensures.kind
+    c.loop-rule.invariant (rule_of_rest lists members rules dir i rest row x has c.loop-rule.invariant.image c.allows_on-allowed.ensures)
+
+pub returns-then-allowed : goal.returns-then-allowed
+returns-then-allowed c =
+    let lists = c.args.lists.now in
+    let members = c.args.members.now in
+    let rules = c.args.rules.now in
+    let dir = c.args.dir in
+    let i = c.args.i.now in
+    let test = rule_test lists members dir i in
+    let k = c.loop-rule.rule-index in
+    let rest = c.loop-rule.rest in
+    let row = c.rule-item.result in
+    let x = c.allows_on-allowed.result in
+    let has = row_has rules k row (omega arith) c.rule-item.is in
+    trying_last (DivideRules lists members rules) (any_passes test rules) (any_passes test) test rules i k rest row x true
+    (one_passes test row) (omega arith) c.rule-item.is c.if-allowed.true
+    c.loop-rule.invariant (rule_of_rest lists members rules dir i rest row x has c.loop-rule.invariant.image c.allows_on-allowed.ensures)

@@ -1,0 +1,75 @@
+-- The cuts that divide enough for what rules of groups ask.
+use Rattle.std.specs.List.{list_any}
+use Rattle.std.specs.Prelude.{◌||◌, [], All, ◌≡◌, Bool, List, None, slice_index_or, true, ℕ}
+use Rattle.address_sets.specs.Runs.{is_in}
+use Rattle.address_sets.specs.declared.sets.Run.{Run}
+use Rattle.box_images.specs.Answers.{Answers, Reduces}
+use Rattle.box_images.specs.Images.{header_at}
+use Rattle.box_images.specs.declared.images.Image.{Image}
+use Rattle.header_boxes.specs.declared.boxes.Box5.{Box5}
+use Rattle.cut_laws.specs.Dividing.{CutOut, Divide, DivideTurns}
+use Rattle.vpc_base.specs.Cuts.{CutLists}
+use Rattle.vpc_base.specs.declared.headers.Dir.{Dir}
+use Rattle.vpc_base.specs.declared.headers.Header.{Header}
+use Rattle.vpc_model.specs.Cuts.{cuts_at, cuts_of_rule}
+use Rattle.vpc_model.specs.Sound.{is_eni}
+use Rattle.vpc_model.specs.declared.places.Place.TheVariants as places
+use Rattle.vpc_model.specs.declared.rows.Description.{Description}
+use Rattle.vpc_model.specs.declared.numbers.EniNo.{EniNo}
+use Rattle.security_groups.specs.Asking.{allows, has_entry, has_member, no_rules, rules_of}
+use Rattle.security_groups.specs.Index.{GroupLists}
+use Rattle.security_groups.specs.declared.groups.GroupRules.{GroupRules}
+use Rattle.security_groups.specs.declared.rules.Rule.{Rule}
+
+-- a prefix list or a group that the rule names has the address
+abbrev pub lists_name : List (List Run) → List ℕ → ℕ → Rule → Bool
+lists_name lists members a r = list_any (has_entry lists a) r.lists || list_any (has_member members a) r.groups
+
+-- at the edges of its protocol and ports, and where an address comes to be named or ceases to be
+pub record DivideRule (lists : List (List Run)) (members : List ℕ) (r : Rule) (cuts : CutLists) : Type 0 where
+  pub rule : Divide (cuts_of_rule r.proto r.q_from r.q_to []) cuts
+  pub blocks : DivideTurns (λ a. is_in a r.blocks) cuts
+  pub entries : All (λ l. DivideTurns (λ a. has_entry lists a l) cuts) r.lists
+  pub groups : All (λ g. CutOut (λ a. has_member members a g) cuts) r.groups
+
+-- those of some rules
+abbrev pub DivideRules : List (List Run) → List ℕ → List Rule → CutLists → Type 0
+DivideRules lists members rules cuts = All (λ r. DivideRule lists members r cuts) rules
+
+-- the rule of a number, from 0; past the last one, a rule without ports
+abbrev pub rule_at : List Rule → ℕ → Rule
+rule_at rules k = slice_index_or rules k (record { number = 0; proto = None; q_from = 1; q_to = 0; blocks = []; lists = []; groups = [] })
+
+-- one of the rules allows the packet
+abbrev pub any_allows : List (List Run) → List ℕ → Dir → List Rule → Header → Bool
+any_allows lists members dir rules h = list_any (allows lists members dir h) rules
+
+-- of the headers of a body, an image's are allowed by one of all rules where they are by one of the first ones
+abbrev pub IsLeftWith : List (List Run) → List ℕ → Dir → List Rule → List Rule → Image → Box5 → Type 0
+IsLeftWith lists members dir rules first i body =
+    Reduces (DivideRules lists members rules) (λ h. any_allows lists members dir rules (header_at i h)) (λ h. any_allows lists members dir first (header_at i h)) i.part body
+
+-- one of them allows all headers of a body
+abbrev pub IsAllowedOn : List (List Run) → List ℕ → Dir → List Rule → Image → Box5 → Type 0
+IsAllowedOn lists members dir rules i body =
+    Answers (DivideRules lists members rules) (λ h. any_allows lists members dir rules (header_at i h)) i.part (record { body = body; told = true })
+
+-- the rules of a group by its number
+abbrev pub rules_in : List GroupRules → Dir → ℕ → List Rule
+rules_in groups dir n = rules_of dir (slice_index_or groups n no_rules)
+
+-- those of some groups' rules
+abbrev pub DivideGroups : List (List Run) → List ℕ → List GroupRules → Dir → List ℕ → CutLists → Type 0
+DivideGroups lists members groups dir named cuts = All (λ n. DivideRules lists members (rules_in groups dir n) cuts) named
+
+-- a rule of one of some groups allows the packet
+abbrev pub any_group_allows : List (List Run) → List ℕ → List GroupRules → Dir → List ℕ → Header → Bool
+any_group_allows lists members groups dir named h = list_any (λ n. any_allows lists members dir (rules_in groups dir n) h) named
+
+-- the cuts of an interface's groups, as the index has them
+abbrev pub DivideAt : GroupLists → EniNo → Dir → CutLists → Type 0
+DivideAt i e dir cuts = DivideGroups i.lists i.members i.groups dir (slice_index_or i.interfaces e.0 []) cuts
+
+-- at each interface the cuts of its place divide enough
+abbrev pub HasRuleCuts : Description → GroupLists → Type 0
+HasRuleCuts d i = (e : EniNo) (dir : Dir) → is_eni d e ≡ true → DivideAt i e dir (cuts_at d (places.OutOf e))

@@ -1,0 +1,144 @@
+// Whether one of some rules allows the headers of an image.
+ghost use Rattle.std.specs.Prelude.{◌≡◌, ◌≤◌, ◌<◌, IfSome, List, length, take, true, ℕ};
+ghost use Rattle.std.specs.List.Sorted.{IsNonDecreasingBy};
+ghost use Rattle.address_sets.specs.declared.sets.Run.{Run};
+ghost use Rattle.box_images.specs.Answers.{Answers};
+ghost use Rattle.box_images.specs.Images.{IsImageOfWalk, IsValidImage, header_at};
+ghost use Rattle.header_boxes.specs.Boxes.{holds, low_of};
+ghost use Rattle.vpc_base.specs.declared.headers.Header.{Header};
+ghost use Rattle.security_groups.specs.Dividing.{DivideRules, IsLeftWith, any_allows};
+ghost use Rattle.security_groups.specs.Tables.{AreLasts, BeginAfter};
+
+use crate::asking::allows;
+use crate::on_images::allows_on;
+use crate::rules::Rule;
+use crate::tables::run_of;
+use address_sets::AddressSet;
+use box_images::{Image, Part};
+use header_boxes::Box5;
+use image_tests::begins_on;
+use number_tables::NumberSet;
+use vpc_base::{Dir, Header};
+
+fn any_in_on(
+    lists: &[AddressSet],
+    members: &NumberSet,
+    rules: &[Rule],
+    dir: Dir,
+    i: &Image,
+) -> Part<bool>
+    requires valid { IsValidImage i.now }
+    requires walk { IsImageOfWalk i.now }
+    ensures { Answers (DivideRules lists.now members.now rules.now)
+        (λ h. any_allows lists.now members.now dir rules.now (header_at i.now h)) i.now.part result }
+{
+    let mut rest = *i;
+    for rule in rules {
+        let allowed = allows_on(lists, members, rule, dir, &rest);
+        if allowed.told {
+            return Part {
+                body: allowed.body,
+                told: true,
+            };
+        }
+        rest = rest.within(&allowed.body);
+    }
+    Part {
+        body: rest.part,
+        told: false,
+    }
+}
+
+/// The same by runs of rules. Those that end before a port that no header is below aren't asked.
+pub fn any_in_runs_on(
+    lists: &[AddressSet],
+    members: &NumberSet,
+    rules: &[Rule],
+    lasts: &[u16],
+    dir: Dir,
+    q: u16,
+    i: &Image,
+) -> Part<bool>
+    requires valid { IsValidImage i.now }
+    requires walk { IsImageOfWalk i.now }
+    requires runs { AreLasts rules.now lasts.now }
+    requires above { (h : Header) → holds h i.now.part ≡ true → q ≤ (header_at i.now h).q }
+    ensures { Answers (DivideRules lists.now members.now rules.now)
+        (λ h. any_allows lists.now members.now dir rules.now (header_at i.now h)) i.now.part result }
+{
+    let mut rest = *i;
+    for (k, last) in lasts.iter().enumerate() {
+        if q <= *last {
+            let allowed = any_in_on(lists, members, run_of(rules, k), dir, &rest);
+            if allowed.told {
+                return Part {
+                    body: allowed.body,
+                    told: true,
+                };
+            }
+            rest = rest.within(&allowed.body);
+        }
+    }
+    Part {
+        body: rest.part,
+        told: false,
+    }
+}
+
+/// The body of headers whose port is below the first one of the rules from this number on, as that of the
+/// low corner is. None of these rules allows them.
+pub fn before_next(rules: &[Rule], begun: usize, i: &Image) -> Box5
+    requires valid { IsValidImage i.now }
+    requires walk { IsImageOfWalk i.now }
+    requires ascend { IsNonDecreasingBy (λ r. r.q_from) rules.now }
+    requires within { begun ≤ length rules.now }
+    requires later { BeginAfter rules.now begun (header_at i.now (low_of i.now.part)).q }
+    ensures { (lists : List (List Run)) (members : List ℕ) (dir : Dir)
+        → IsLeftWith lists members dir rules.now (take begun rules.now) i.now result }
+{
+    if begun < rules.len() {
+        begins_on(i, rules[begun].q_from).body
+    } else {
+        i.part
+    }
+}
+
+fn allowing_in(
+    lists: &[AddressSet],
+    members: &NumberSet,
+    rules: &[Rule],
+    dir: Dir,
+    h: &Header,
+) -> Option<usize>
+    ensures { IfSome result (λ k. k < length rules.now) }
+{
+    for (k, rule) in rules.iter().enumerate() {
+        if allows(lists, members, rule, dir, h) {
+            return Some(k);
+        }
+    }
+    None
+}
+
+/// The number of a rule that allows the packet, if one does, by runs.
+pub fn allowing_in_runs(
+    lists: &[AddressSet],
+    members: &NumberSet,
+    rules: &[Rule],
+    lasts: &[u16],
+    dir: Dir,
+    h: &Header,
+) -> Option<usize>
+    requires { AreLasts rules.now lasts.now }
+    ensures { IfSome result (λ k. k < length rules.now) }
+{
+    for (k, last) in lasts.iter().enumerate() {
+        if h.q <= *last {
+            let allowing = allowing_in(lists, members, run_of(rules, k), dir, h);
+            if let Some(number) = allowing {
+                return Some(64 * k + number);
+            }
+        }
+    }
+    None
+}
