@@ -9,7 +9,7 @@ use box_images::{Image, Part};
 use header_boxes::Box5;
 use image_tests::box_on;
 
-/// Whether one of the boxes has the header. Where one has the low corner, those after it aren't asked.
+/// Whether one of the boxes has the header. The first that has the low corner answers for all that it has.
 pub fn passes_on(boxes: &[Box5], i: &Image) -> Part<bool>
     requires valid { IsValidImage i.now }
     requires walk { IsImageOfWalk i.now }
@@ -20,7 +20,8 @@ pub fn passes_on(boxes: &[Box5], i: &Image) -> Part<bool>
     for b in boxes {
         let held = box_on(&rest, b);
         if held.told {
-            return held;
+            // Of the whole image: what the boxes before it have doesn't matter.
+            return box_on(i, b);
         }
         rest = rest.within(&held.body);
     }

@@ -60,45 +60,26 @@ fn opens(part: &Box5) -> Image
     Image::of(part)
 }
 
+const TCP: (u8, u8) = (6, 6);
+
 const ANY: (u16, u16) = (1024, 65535);
+
+const ONE: (u16, u16) = (443, 443);
 
 #[test]
 fn passes_parts_alike(rt: HostRuntime) -> Result<(), Fail> {
     let boxes = kind_boxes(rt.alloc(), &HTTPS)?;
     // what is asked, and the part of it that is told to pass or not
-    let cases: [(Sides, Sides, bool); 8] = [
-        (((6, 6), ANY, (443, 500)), ((6, 6), ANY, (443, 443)), true),
-        (((6, 6), ANY, (0, 500)), ((6, 6), ANY, (0, 442)), false),
-        (
-            ((6, 6), ANY, (444, 65535)),
-            ((6, 6), ANY, (444, 65535)),
-            false,
-        ),
-        (
-            ((6, 6), (0, 500), (80, 80)),
-            ((6, 6), (0, 442), (80, 80)),
-            false,
-        ),
-        (
-            ((6, 6), (443, 500), (80, 90)),
-            ((6, 6), (443, 443), (80, 90)),
-            true,
-        ),
-        (
-            ((0, 255), ANY, (443, 443)),
-            ((0, 5), ANY, (443, 443)),
-            false,
-        ),
-        (
-            ((7, 255), ANY, (443, 443)),
-            ((7, 16), ANY, (443, 443)),
-            false,
-        ),
-        (
-            ((17, 255), ANY, (443, 443)),
-            ((17, 17), ANY, (443, 443)),
-            true,
-        ),
+    let cases: [(Sides, Sides, bool); 9] = [
+        ((TCP, ANY, (443, 500)), (TCP, ANY, ONE), true),
+        ((TCP, ANY, (0, 500)), (TCP, ANY, (0, 442)), false),
+        ((TCP, ANY, (444, 500)), (TCP, ANY, (444, 500)), false),
+        ((TCP, (0, 500), (80, 80)), (TCP, (0, 442), (80, 80)), false),
+        ((TCP, (443, 500), (80, 90)), (TCP, ONE, (80, 90)), true),
+        ((TCP, (443, 500), (80, 500)), (TCP, ONE, (80, 500)), true),
+        (((0, 255), ANY, ONE), ((0, 5), ANY, ONE), false),
+        (((7, 255), ANY, ONE), ((7, 16), ANY, ONE), false),
+        (((17, 255), ANY, ONE), ((17, 17), ANY, ONE), true),
     ];
     for ((proto, p, q), within, told) in cases {
         assert!(rt; proto.0 <= proto.1);
@@ -131,7 +112,7 @@ fn the_closure_is_asked(rt: HostRuntime) -> Result<(), Fail> {
     for (q, passes) in [(443, true), (444, false), (442, false)] {
         assert_eq!(rt; deciders.passes(0, &to_port(q)), passes);
     }
-    let body = requests((6, 6), ANY, (443, 443));
+    let body = requests(TCP, ANY, ONE);
     let told = true;
     assert_eq!(rt; deciders.passes_on(0, &opens(&body)), Part { body, told });
     assert_eq!(rt; asked.get(), 3);

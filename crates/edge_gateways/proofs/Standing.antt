@@ -24,7 +24,7 @@ use Rattle.edge_gateways.specs.Pairs.{owner_at}
 use Rattle.edge_gateways.specs.Sides.{has_address, other_of}
 use Rattle.edge_gateways.specs.declared.sides.Sides.{Sides}
 use Rattle.edge_gateways.proofs.Carrying.{has_address-is, numbers_of, sides-at}
-use Rattle.edge_gateways.proofs.Turning.{blocks-divide}
+use Rattle.cut_laws.proofs.Turning.{blocks-divide}
 
 -- ---- the addresses of interfaces
 

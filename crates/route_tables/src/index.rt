@@ -4,7 +4,7 @@ ghost use Rattle.box_images.specs.Answers.{Answers};
 ghost use Rattle.box_images.specs.Images.{IsImageOfWalk, IsValidImage, header_at};
 ghost use Rattle.cut_laws.specs.Dividing.{DivideFirsts};
 ghost use Rattle.piece_table.specs.Pieces.{ArePieces, told_at};
-ghost use Rattle.vpc_model.specs.Cuts.{all_cuts, cuts_of_route, cuts_of_table, on_sides};
+ghost use Rattle.vpc_model.specs.Cuts.{all_cuts, cuts_of_route, cuts_of_table};
 ghost use Rattle.vpc_model.specs.Lookup.{table_at};
 ghost use Rattle.vpc_model.specs.Routes.{chosen_route};
 ghost use Rattle.vpc_model.specs.Sound.{is_table};
@@ -58,7 +58,8 @@ fn index_of<L: Ledger>(
     requires some { 0 < blank.parts }
     ensures chosen { IfOk result (λ x. (a : ℕ) → a < 2 ^ 32 → told_at x a ≡ chosen_route n.now routes.now a) }
     ensures few { IfOk result (λ x. length x.firsts ≤ 2 * length (blocks_in n.now routes.now) + 1) }
-    ensures firsts { IfOk result (λ x. DivideFirsts x.firsts (on_sides (all_cuts (cuts_of_route n.now) routes.now))) }
+    ensures firsts { IfOk result (λ x. DivideFirsts x.firsts (all_cuts (cuts_of_route n.now) routes.now)) }
+    ensures pieces { IfOk result ArePieces }
 {
     let locals = pieces_of(alloc, local_rows(alloc, n, routes)?)?;
     let mut steps = Steps::<L>::new(blank);
@@ -76,7 +77,8 @@ impl RouteIndex {
         requires table { IsTrue (is_table n.now t) }
         ensures chosen { IfOk result (λ x. (a : ℕ) → a < 2 ^ 32 → told_at x a ≡ chosen_route n.now (table_at n.now t).routes a) }
         ensures few { IfOk result (λ x. length x.firsts ≤ 2 * length (blocks_in n.now (table_at n.now t).routes) + 1) }
-        ensures firsts { IfOk result (λ x. DivideFirsts x.firsts (on_sides (cuts_of_table n.now (table_at n.now t)))) }
+        ensures firsts { IfOk result (λ x. DivideFirsts x.firsts (cuts_of_table n.now (table_at n.now t))) }
+        ensures pieces { IfOk result ArePieces }
     {
         let table = &n.description().tables.as_slice()[t.0 as usize];
         index_of::<Brand>(alloc, n, table.routes.as_slice(), Blank::new(1))

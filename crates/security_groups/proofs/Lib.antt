@@ -11,3 +11,4 @@ pub mod Runs
 pub mod Meaning
 pub mod AskingOn
 pub mod RunsOn
+pub mod GroupsOn

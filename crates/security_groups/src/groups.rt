@@ -118,7 +118,7 @@ fn body_by_group(
     let rules = rules_of(&groups[group as usize], dir);
     let low = i.value(&i.part.low());
     let number = rules.allowing(lists, members, dir, &low)?;
-    let allowed = rules.allows_on(number, lists, members, dir, i);
+    let allowed = rules.one_allows_on(number, lists, members, dir, i);
     if allowed.told { Some(allowed.body) } else { None }
 }
 
@@ -140,8 +140,8 @@ fn body_by_groups(
 {
     for group in named {
         let body = body_by_group(lists, members, groups, *group, dir, i);
-        if body.is_some() {
-            return body;
+        if let Some(body) = body {
+            return Some(body);
         }
     }
     None

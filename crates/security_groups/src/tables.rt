@@ -177,7 +177,7 @@ impl RuleTable {
     }
 
     /// Whether the rule of this number allows the headers of an image.
-    pub fn allows_on(
+    pub fn one_allows_on(
         &self,
         number: usize,
         lists: &[AddressSet],

@@ -2,8 +2,6 @@ use Rattle.std.proofs.Common.{◌≡◌, ◌⊎◌, ◌∙◌, ℕ, List, ap, ar
 use Rattle.std.specs.List.{Contains}
 use Rattle.block_pieces.specs.Told.{told_by}
 use Rattle.route_tables.proofs.Counting.{AreLocals, addr-cuts, first-in_cuts, length-counted_rows, told_by-counted}
-use Rattle.vpc_model.specs.Cuts.{all_cuts, cuts_of_route}
-use Rattle.image_tests.proofs.PieceLemmas.{firsts_on_sides}
 use Rattle.route_tables.proofs.index.index_of.Goals as goal
 
 pub returns-clause-chosen : goal.returns-clause-chosen
@@ -18,10 +16,8 @@ returns-clause-few g c =
     omega (arith, c.in_ok-pieces.ensures.few)
 
 pub returns-clause-firsts : goal.returns-clause-firsts
-returns-clause-firsts g c =
+returns-clause-firsts g c = λ f listed.
     let n = c.args.n.now in
     let routes = c.args.routes.now in
-    firsts_on_sides c.in_ok-pieces.pieces (all_cuts (cuts_of_route n) routes) c.are_pieces.ensures
-    (λ f listed.
     subst (λ (l : List ℕ). (f ≡ 0) ⊎ Contains l f) (sym (addr-cuts n routes))
-    (first-in_cuts n c.in_ok-locals.locals routes c.in_ok-rows.rows.items f c.in_ok-rows.ensures.rows (c.in_ok-pieces.ensures.firsts f listed)))
+    (first-in_cuts n c.in_ok-locals.locals routes c.in_ok-rows.rows.items f c.in_ok-rows.ensures.rows (c.in_ok-pieces.ensures.firsts f listed))

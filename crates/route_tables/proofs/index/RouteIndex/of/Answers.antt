@@ -6,7 +6,7 @@ use Rattle.vpc_model.specs.Routes.{chosen_route}
 use Rattle.route_tables.specs.Rows.{blocks_in}
 use Rattle.route_tables.proofs.Tables.{length-routes, routes-at}
 use Rattle.cut_laws.specs.Dividing.{DivideFirsts}
-use Rattle.vpc_model.specs.Cuts.{all_cuts, cuts_of_route, on_sides}
+use Rattle.vpc_model.specs.Cuts.{all_cuts, cuts_of_route}
 use Rattle.route_tables.proofs.index.RouteIndex.of.Goals as goal
 
 pub index_of-requires-clause-short : goal.index_of-requires-clause-short
@@ -27,4 +27,4 @@ returns-clause-few c =
 pub returns-clause-firsts : goal.returns-clause-firsts
 returns-clause-firsts c =
     let is = routes-at c.args.n.now c.args.t c.as_slice.result.now c.index-as_slice-t.result c.as_slice-2.result.now c.requires.table (c.as_slice.ensures ∙ ap (λ (d : Description). d.tables) c.description.ensures.value) c.index-as_slice-t.is c.as_slice-2.ensures in
-    subst (λ (l : List Route). IfOk c.index_of.result (λ (x : PieceLists). DivideFirsts x.firsts (on_sides (all_cuts (cuts_of_route c.args.n.now) l)))) is c.index_of.ensures.firsts
+    subst (λ (l : List Route). IfOk c.index_of.result (λ (x : PieceLists). DivideFirsts x.firsts (all_cuts (cuts_of_route c.args.n.now) l))) is c.index_of.ensures.firsts
