@@ -141,12 +141,13 @@ def network_rows():
             path = written(f"{make.__name__}-{n}.json", make, n)
             scans = max(1, SCANNED_ROWS // n)
             times = scans if make in TRIED_IN_ORDER else TIMES
-            (reading, empty, asked, idle, scanned, some), told = least(
-                [path, "nothing"], [path, subject, "0"], [path, subject, str(times)],
+            (reading, empty, asked, boxes, idle, scanned, some), told = least(
+                [path, "nothing"], [path, subject, "0"], [path, subject, str(times)], [path, subject + "-on", str(times)],
                 [path, subject + "-scan", "0"], [path, subject + "-scan", str(scans)], [path, subject, str(scans)])
-            if told[4] != told[5]:
-                sys.exit(f"{name}, {n}: the index finds {told[5]}, the scan {told[4]}")
-            yield name, n, (empty - reading) * 1e3, (asked - empty) / times * 1e9, (scanned - idle) / scans * 1e9
+            if told[5] != told[6]:
+                sys.exit(f"{name}, {n}: the index finds {told[6]}, the scan {told[5]}")
+            each = [(took - empty) / times * 1e9 for took in (asked, boxes)]
+            yield name, n, (empty - reading) * 1e3, *each, (scanned - idle) / scans * 1e9
 
 
 def session_rows():
@@ -177,9 +178,9 @@ def fabric_rows():
 
 
 def main():
-    print("| Look-up | rows | made in | a look-up | a scan |\n|---|---:|---:|---:|---:|")
-    for name, n, made, asked, scanned in network_rows():
-        print(f"| {name} | {n:,} | {made:.1f} ms | {asked:.0f} ns | {scanned:,.0f} ns |", flush=True)
+    print("| Look-up | rows | made in | a look-up | for a box | a scan |\n|---|---:|---:|---:|---:|---:|")
+    for name, n, made, asked, boxes, scanned in network_rows():
+        print(f"| {name} | {n:,} | {made:.1f} ms | {asked:.0f} ns | {boxes:.0f} ns | {scanned:,.0f} ns |", flush=True)
     print("\n| Session | opens | each |\n|---|---:|---:|")
     for name, n, each in session_rows():
         print(f"| {name} | {n:,} | {each:,.0f} ns |", flush=True)

@@ -14,8 +14,8 @@ mod translate;
 
 pub use fields::{Field, Side};
 pub use images::{Image, Part};
-pub use sides::side_of;
 pub use laws::{
     aligned_bodies_compose, answers_compare, bodies_are_aligned, bodies_compose, bodies_hold_low,
     cuts_are_inside, ends_compose, images_fit, narrowed_are_aligned, opens_compare,
 };
+pub use sides::side_of;

@@ -2,6 +2,7 @@
 //!
 //! - `lookup_bench FILE WHAT TIMES`: reads a bundle, makes the look-up and asks it so many times: `routes`,
 //!   `transit`, `acl`, `groups` or `addresses`.
+//! - `lookup_bench FILE WHAT-on TIMES`: asks it for all packets of a box at once.
 //! - `lookup_bench FILE WHAT-scan TIMES`: asks the described rows one after another in its place.
 //! - `lookup_bench FILE fabric`, `lookup_bench FILE nothing`: makes all look-ups, or none.
 //! - `lookup_bench connections OPENS`: tracks so many opens, then asks for the reply of each.
@@ -12,6 +13,7 @@
 #![tactic(auto)]
 
 mod addresses;
+mod boxes;
 mod filters;
 mod numbers;
 mod routes;

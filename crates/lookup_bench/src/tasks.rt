@@ -1,6 +1,6 @@
 // What is done with a network.
 use crate::words::{Subject, Task, Way};
-use crate::{addresses, filters, routes};
+use crate::{addresses, boxes, filters, routes};
 use bundle::read_bundle;
 use fabric::Fabric;
 use reference_check::Network;
@@ -21,6 +21,16 @@ fn by_index(alloc: Global, n: &Network, subject: Subject, times: u32) -> Result<
     }
 }
 
+fn by_boxes(alloc: Global, n: &Network, subject: Subject, times: u32) -> Result<u32, NoMemory> {
+    match subject {
+        Subject::Routes => boxes::routes(alloc, n, times),
+        Subject::Transit => boxes::transit(alloc, n, times),
+        Subject::Acl => boxes::acl(alloc, n, times),
+        Subject::Groups => boxes::groups(alloc, n, times),
+        Subject::Addresses => boxes::addresses(alloc, n, times),
+    }
+}
+
 fn by_scan(n: &Network, subject: Subject, times: u32) -> u32 {
     match subject {
         Subject::Routes => routes::found_by_scan(n, times),
@@ -34,6 +44,7 @@ fn by_scan(n: &Network, subject: Subject, times: u32) -> u32 {
 fn asked(alloc: Global, n: &Network, subject: Subject, way: Way, times: u32) -> Option<u32> {
     match way {
         Way::Index => by_index(alloc, n, subject, times).ok(),
+        Way::Boxes => by_boxes(alloc, n, subject, times).ok(),
         Way::Scan => Some(by_scan(n, subject, times)),
     }
 }

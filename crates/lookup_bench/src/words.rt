@@ -14,6 +14,7 @@ pub enum Subject {
 #[derive(Clone, Copy, Debug, PartialEq, Eq)]
 pub enum Way {
     Index,
+    Boxes,
     Scan,
 }
 
@@ -43,14 +44,19 @@ pub enum Words<'a> {
 fn subject_of(word: &str) -> Option<(Subject, Way)> {
     match word {
         "routes" => Some((Subject::Routes, Way::Index)),
+        "routes-on" => Some((Subject::Routes, Way::Boxes)),
         "routes-scan" => Some((Subject::Routes, Way::Scan)),
         "transit" => Some((Subject::Transit, Way::Index)),
+        "transit-on" => Some((Subject::Transit, Way::Boxes)),
         "transit-scan" => Some((Subject::Transit, Way::Scan)),
         "acl" => Some((Subject::Acl, Way::Index)),
+        "acl-on" => Some((Subject::Acl, Way::Boxes)),
         "acl-scan" => Some((Subject::Acl, Way::Scan)),
         "groups" => Some((Subject::Groups, Way::Index)),
+        "groups-on" => Some((Subject::Groups, Way::Boxes)),
         "groups-scan" => Some((Subject::Groups, Way::Scan)),
         "addresses" => Some((Subject::Addresses, Way::Index)),
+        "addresses-on" => Some((Subject::Addresses, Way::Boxes)),
         "addresses-scan" => Some((Subject::Addresses, Way::Scan)),
         _ => None,
     }
