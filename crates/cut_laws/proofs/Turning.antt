@@ -1,5 +1,5 @@
 -- Where blocks turn, one of them begins or has ended.
-use Rattle.std.proofs.Common.{◌≡◌, ◌∙◌, ◌&&◌, ◌+◌, ◌<◌, ◌≤◌, ◌||◌, ◌∷◌, ◌++◌, [], ℕ, Bool, Contains, List, ap, arith, false, inl, inr, not, refl, subst, sym, true}
+use Rattle.std.proofs.Common.{◌≡◌, ◌∙◌, ◌&&◌, ◌+◌, ◌≤◌, ◌||◌, ◌∷◌, [], ℕ, Bool, Contains, List, ap, arith, false, inl, inr, not, refl, subst, sym, true}
 use Rattle.std.specs.List.{flat_map, list_any}
 use Rattle.std.specs.Prelude.{nat_le}
 use Rattle.std.proofs.lemmas.Bool.{cases_Bool}

@@ -1,9 +1,8 @@
 -- The cuts of a description, as they are gathered.
-use Rattle.std.proofs.Common.{◌≡◌, ℕ, ◌⊎◌, ◌↔◌, Option, Some, None, subst, inl, inr, Bool, true, false, List, [], ◌∷◌, ◌++◌, refl, sym, ap, ◌∙◌, arith, cond, zero, suc}
-use Rattle.std.specs.List.{Contains, filter, find, flat_map}
-use Rattle.std.specs.Prelude.{nat_le, bytes_eq}
+use Rattle.std.proofs.Common.{◌≡◌, ℕ, ◌↔◌, Option, Some, None, subst, Bool, true, false, List, [], ◌∷◌, ◌++◌, cond}
+use Rattle.std.specs.List.{Contains, find, flat_map}
+use Rattle.std.specs.Prelude.{bytes_eq}
 use Rattle.std.proofs.lemmas.Grind.{flat_map-append}
-use Rattle.std.proofs.lemmas.List.Elements.{Contains-append_left, Contains-append_right, Contains-append_cases}
 use Rattle.prefix_text.specs.Block.{Block}
 use Rattle.vpc_base.specs.Cuts.{AreAmong, CutLists, joined_cuts, no_cuts}
 use Rattle.cut_laws.proofs.Among.{all_among, among_itself, among_through, both_among, joined_among, left_among, left_within, none_among, on_sides_among, right_among, right_within, both_within}

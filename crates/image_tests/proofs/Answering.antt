@@ -1,15 +1,14 @@
 -- Answers about numbers on sides, and answers one after the other.
-use Rattle.std.proofs.Common.{◌≡◌, ℕ, ◌≤◌, ◌+◌, ◌&&◌, ◌||◌, Bool, Option, true, false, refl, ap, sym, subst, ◌∙◌, arith}
+use Rattle.std.proofs.Common.{◌≡◌, ℕ, ◌+◌, ◌&&◌, ◌||◌, Bool, Option, true, false, refl, ap, sym, ◌∙◌}
 use Rattle.vpc_base.specs.Cuts.{CutLists}
 use Rattle.vpc_base.specs.declared.headers.Header.{Header}
 use Rattle.header_boxes.proofs.BoxLaws.{within_holds}
-use Rattle.header_boxes.specs.Boxes.{IsValid, holds}
-use Rattle.header_boxes.specs.Cells.{IsAligned}
+use Rattle.header_boxes.specs.Boxes.{IsValid}
 use Rattle.header_boxes.specs.declared.boxes.Box5.{Box5}
 use Rattle.box_images.proofs.LawLemmas.{answers_follow, narrowed_are_aligned}
 use Rattle.box_images.proofs.Reducing.{reduced_all, reduced_nothing}
 use Rattle.box_images.specs.Answers.{Answers}
-use Rattle.box_images.specs.Bodies.{IsBody, IsCut}
+use Rattle.box_images.specs.Bodies.{IsCut}
 use Rattle.box_images.specs.Fields.{greatest_on, number_of}
 use Rattle.box_images.specs.Images.{IsValidImage, field_of, header_at}
 use Rattle.box_images.specs.declared.fields.Side.{Side}

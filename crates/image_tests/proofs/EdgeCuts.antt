@@ -1,5 +1,5 @@
 -- The edges of rules and boxes are cuts of theirs.
-use Rattle.std.proofs.Common.{◌≡◌, ℕ, ◌≤◌, ◌+◌, ◌∷◌, ◌++◌, List, [], Option, Some, true, inl, inr, refl, arith}
+use Rattle.std.proofs.Common.{ℕ, ◌+◌, ◌++◌, [], Option, Some, inl, inr, refl, arith}
 use Rattle.std.specs.List.{Contains}
 use Rattle.std.specs.Prelude.{nat_le}
 use Rattle.std.proofs.lemmas.Bool.Decides.{nat_tests}

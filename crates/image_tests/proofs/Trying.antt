@@ -4,7 +4,6 @@ use Rattle.std.specs.List.{Contains, list_any}
 use Rattle.std.proofs.Math.Seq.{drop-cons}
 use Rattle.vpc_base.specs.Cuts.{CutLists}
 use Rattle.vpc_base.specs.declared.headers.Header.{Header}
-use Rattle.header_boxes.specs.Boxes.{holds}
 use Rattle.box_images.proofs.Reducing.{reduced_all, reduced_by, reduced_nothing, walk_within}
 use Rattle.box_images.specs.Answers.{Answers, Reduces}
 use Rattle.box_images.specs.Images.{IsImageOfWalk, IsValidImage, KeepsKind, header_at}

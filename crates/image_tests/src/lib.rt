@@ -5,8 +5,6 @@
 mod boxes;
 mod pieces;
 mod rules;
-#[cfg(test)]
-mod set_tests;
 mod sets;
 #[cfg(test)]
 mod tests;

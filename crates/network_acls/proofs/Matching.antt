@@ -1,5 +1,5 @@
 -- Rows asked of images.
-use Rattle.std.proofs.Common.{◌≡◌, ◌&&◌, ◌∷◌, [], Bool, true, false, List, Option, Some, ◌<◌, ℕ, ap, get_or, length, refl, subst, sym, arith, ◌∙◌}
+use Rattle.std.proofs.Common.{◌≡◌, ◌∷◌, [], Bool, true, false, List, Option, Some, ℕ, ap, refl, subst, sym, arith, ◌∙◌}
 use Rattle.std.specs.List.{Contains, find}
 use Rattle.vpc_base.specs.declared.headers.Dir.{Dir}
 use Rattle.vpc_base.specs.declared.headers.Header.{Header}
@@ -17,7 +17,7 @@ use Rattle.image_tests.proofs.Trying.{header_of_rest}
 use Rattle.image_tests.specs.Tests.{cuts_of_block, fits_rule}
 use Rattle.prefix_text.specs.Block.{holds}
 use Rattle.vpc_model.specs.Cuts.{all_cuts, cuts_of_acl_row, cuts_of_rule, on_sides}
-use Rattle.vpc_model.specs.Filter.{far_address, is_between, matches_proto}
+use Rattle.vpc_model.specs.Filter.{far_address}
 use Rattle.vpc_model.specs.declared.rows.AclRow.{AclRow}
 use Rattle.vpc_model.specs.Acls.{acl_verdict, verdict_of_row}
 use Rattle.network_acls.proofs.Directions.{decided}

@@ -1,6 +1,8 @@
 //! The verdicts of network ACLs, by rows that are sorted once.
 #![tactic(auto)]
 
+#[cfg(test)]
+mod box_tests;
 mod index;
 mod laws;
 mod on_images;

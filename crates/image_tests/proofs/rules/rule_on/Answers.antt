@@ -1,4 +1,4 @@
-use Rattle.std.proofs.Common.{[], ◌≡◌, Bool, subst}
+use Rattle.std.proofs.Common.{[], Bool, subst}
 use Rattle.vpc_base.specs.declared.headers.Header.{Header}
 use Rattle.box_images.specs.Answers.{Answers}
 use Rattle.box_images.specs.Images.{header_at}
