@@ -119,7 +119,11 @@ fn body_by_group(
     let low = i.value(&i.part.low());
     let number = rules.allowing(lists, members, dir, &low)?;
     let allowed = rules.one_allows_on(number, lists, members, dir, i);
-    if allowed.told { Some(allowed.body) } else { None }
+    if allowed.told {
+        Some(allowed.body)
+    } else {
+        None
+    }
 }
 
 // The same of some groups.

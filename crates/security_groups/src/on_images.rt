@@ -103,7 +103,12 @@ fn listed_on(
     if entry.told {
         return entry;
     }
-    any_member_on(members, rule.groups.as_slice(), side, &i.within(&entry.body))
+    any_member_on(
+        members,
+        rule.groups.as_slice(),
+        side,
+        &i.within(&entry.body),
+    )
 }
 
 fn names_on(

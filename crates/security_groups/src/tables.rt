@@ -173,7 +173,14 @@ impl RuleTable {
         let q = h.q;
         let begun = self.rules.partition_point(|rule| rule.q_from <= q);
         let runs = begun.div_ceil(64);
-        allowing_in_runs(lists, members, &self.rules[..begun], &self.lasts[..runs], dir, h)
+        allowing_in_runs(
+            lists,
+            members,
+            &self.rules[..begun],
+            &self.lasts[..runs],
+            dir,
+            h,
+        )
     }
 
     /// Whether the rule of this number allows the headers of an image.
@@ -214,6 +221,14 @@ impl RuleTable {
         let begun = self.rules.partition_point(|rule| rule.q_from <= q);
         let runs = begun.div_ceil(64);
         let rest = i.within(&before_next(self.rules.as_slice(), begun, i));
-        any_in_runs_on(lists, members, &self.rules[..begun], &self.lasts[..runs], dir, q, &rest)
+        any_in_runs_on(
+            lists,
+            members,
+            &self.rules[..begun],
+            &self.lasts[..runs],
+            dir,
+            q,
+            &rest,
+        )
     }
 }

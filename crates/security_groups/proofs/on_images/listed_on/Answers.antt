@@ -18,7 +18,7 @@ returns-then-entry c =
     let entries = any_passes (entry_test lists c.args.side i) r.lists in
     let groups = any_passes (member_test members c.args.side i) r.groups in
     let entry = subst (λ (ns : List ℕ). Answers (DivideEntries lists ns) (any_passes (entry_test lists c.args.side i) ns) i.part c.any_entry_on-entry.result)
-        c.as_slice.ensures c.any_entry_on-entry.ensures in
+    c.as_slice.ensures c.any_entry_on-entry.ensures in
     answers_first enough entries groups i.part c.any_entry_on-entry.result c.if-entry.true
     (answers_more (DivideEntries lists r.lists) enough entries i.part c.any_entry_on-entry.result (λ cuts d. d.entries) entry)
 
@@ -34,11 +34,11 @@ returns c =
     let entries = any_passes (entry_test lists c.args.side i) r.lists in
     let groups = any_passes (member_test members c.args.side i) r.groups in
     let entry = subst (λ (ns : List ℕ). Answers (DivideEntries lists ns) (any_passes (entry_test lists c.args.side i) ns) i.part x)
-        c.as_slice.ensures c.any_entry_on-entry.ensures in
+    c.as_slice.ensures c.any_entry_on-entry.ensures in
     let member = subst (λ (ns : List ℕ). Answers (DivideMembers members ns) (any_passes (member_test members c.args.side c.within.result) ns) c.within.result.part y)
-        c.as_slice-2.ensures c.any_member_on.ensures in
+    c.as_slice-2.ensures c.any_member_on.ensures in
     let later = subst (λ (j : Image). Answers (DivideMembers members r.groups) (any_passes (member_test members c.args.side j) r.groups) j.part y)
-        c.within.ensures.image member in
+    c.within.ensures.image member in
     answers_either enough entries groups i.part x y c.if-entry.false
     (answers_more (DivideEntries lists r.lists) enough entries i.part x (λ cuts d. d.entries) entry)
     (answers_more (DivideMembers members r.groups) enough groups x.body y (λ cuts d. d.groups) later)

@@ -12,6 +12,6 @@ returns-then-begun-rules c = λ lists members dir.
     let i = c.args.i.now in
     let x = c.begins_on.result in
     let begins = subst (λ (r : Rule). (to : ℕ) → Answers (Divide (cuts_of_range r.q_from to)) (λ h. nat_le r.q_from (header_at i h).q) i.part x)
-        (sym c.index-rules-begun.is) c.begins_on.ensures in
+    (sym c.index-rules-begun.is) c.begins_on.ensures in
     left-before lists members dir c.args.rules.now c.args.begun i c.index-rules-begun.result x c.requires.valid (omega arith)
     c.index-rules-begun.is c.requires.ascend c.requires.later begins
