@@ -12,3 +12,6 @@ pub mod Meaning
 pub mod AskingOn
 pub mod RunsOn
 pub mod GroupsOn
+pub mod MemberCuts
+pub mod RuleCuts
+pub mod GroupCuts

@@ -60,13 +60,14 @@ impl GroupIndex {
     ghost use Rattle.std.specs.Prelude.{IfOk, is_some};
     ghost use Rattle.box_images.specs.Answers.{Answers};
     ghost use Rattle.box_images.specs.Images.{IsImageOfWalk, IsValidImage, header_at};
-    ghost use Rattle.security_groups.specs.Dividing.{DivideAt};
+    ghost use Rattle.security_groups.specs.Dividing.{DivideAt, HasRuleCuts};
     ghost use Rattle.security_groups.specs.Index.{HasRulesOf, allowed};
 
     /// The index of a network. It takes time n log n in the rows and in the pairs of a group and an address
     /// that interfaces have.
     pub fn of(alloc: Global, n: &Network) -> Result<GroupIndex, NoMemory>
-        ensures { IfOk result (HasRulesOf n.now) }
+        ensures rules { IfOk result (HasRulesOf n.now) }
+        ensures cuts { IfOk result (HasRuleCuts n.now) }
     {
         let rules = RuleLists::of(alloc, n)?;
         let membership = Membership::of(alloc, n)?;

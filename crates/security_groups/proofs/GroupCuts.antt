@@ -1,0 +1,121 @@
+-- The cuts of an interface's place divide enough for the rules of its groups.
+use Rattle.std.proofs.Common.{◌≡◌, ◌∙◌, ◌+◌, ◌<◌, ◌∷◌, [], ℕ, Contains, List, None, Option, Some, ap, bytes_eq, get_or, inl, inr, length, option_map, position, subst}
+use Rattle.std.specs.List.{filter_map}
+use Rattle.std.proofs.lemmas.Bool.{ltb-true}
+use Rattle.std.proofs.lemmas.List.{get_or-map}
+use Rattle.std.proofs.lemmas.List.Elements.{Contains-append_left, Contains-append_right}
+use Rattle.std.proofs.lemmas.List.Sorted.{Contains-permutation, IsPermutation-sym}
+use Rattle.cut_laws.proofs.Among.{among_through, on_sides_among, row_among}
+use Rattle.cut_laws.proofs.Rows.{places_have_their_cuts}
+use Rattle.cut_laws.specs.Dividing.{Divide}
+use Rattle.vpc_base.specs.Cuts.{AreAmong, CutLists, no_cuts}
+use Rattle.vpc_base.specs.declared.headers.Dir.{Dir}
+use Rattle.vpc_base.specs.declared.headers.Dir.TheVariants as dirs
+use Rattle.vpc_laws.proofs.Members.{Contains-cases, Contains-here, Contains-later, Contains-none, filter_map-member}
+use Rattle.vpc_laws.proofs.Numbering.{position-at}
+use Rattle.vpc_model.specs.Cuts.{all_permissions, cuts_at, cuts_at_interface, cuts_of_group, cuts_of_group_id, cuts_of_permission, on_sides, standing_cuts}
+use Rattle.vpc_model.specs.Groups.{permissions_of}
+use Rattle.vpc_model.specs.Lookup.{group_at, group_of_id, no_group, no_interface}
+use Rattle.vpc_model.specs.declared.numbers.GroupNo.{GroupNo}
+use Rattle.vpc_model.specs.declared.places.Place.TheVariants as places
+use Rattle.vpc_model.specs.declared.rows.Description.{Description}
+use Rattle.vpc_model.specs.declared.rows.Group.{Group}
+use Rattle.vpc_model.specs.declared.rows.Permission.{Permission}
+use Rattle.security_groups.specs.Asking.{no_rules}
+use Rattle.security_groups.specs.Dividing.{DivideRule, DivideRules, HasRuleCuts, rules_in}
+use Rattle.security_groups.specs.Index.{GroupLists}
+use Rattle.security_groups.specs.Members.{groups_with, number_of}
+use Rattle.security_groups.specs.Resolved.{AreRulesOf, HasRulesIn, IsGroupOf, IsResolved, IsRuleOf}
+use Rattle.security_groups.specs.declared.rules.Rule.{Rule}
+use Rattle.security_groups.proofs.RuleCuts.{all-members, once-member, rule-divides}
+use Rattle.security_groups.proofs.Zips.{zip_at}
+
+-- ---- the rules of a direction
+
+-- what a rule was made of
+record IsRuleOfOne (d : Description) (vpc : List ℕ) (ps : List Permission) (r : Rule) : Type 0 where
+  pub permission : Permission
+  pub number : ℕ
+  pub has : Contains ps permission
+  pub is : IsRuleOf d vpc number permission r
+
+rule-of-one : (d : Description) (vpc : List ℕ) (n : ℕ) (ps : List Permission) (rs : List Rule) (r : Rule) → AreRulesOf d vpc n ps rs → Contains rs r → IsRuleOfOne d vpc ps r
+rule-of-one d vpc n [] [] r are has = absurd (Contains-none r has)
+rule-of-one d vpc n [] (s ∷ rs) r are has = absurd are
+rule-of-one d vpc n (p ∷ ps) [] r are has = absurd are
+rule-of-one d vpc n (p ∷ ps) (s ∷ rs) r are has =
+    elim (Contains-cases s r rs has) [
+      | inl here ↦ record { permission = p; number = n; has = Contains-here p ps; is = subst (IsRuleOf d vpc n p) here are.0 }
+      | inr later ↦
+          let rest = rule-of-one d vpc (n + 1) ps rs r are.1 later in
+          record { permission = rest.permission; number = rest.number; has = Contains-later p ps rest.permission rest.has; is = rest.is }
+    ]
+
+-- cuts that have those of all permissions divide enough for the rules
+rules-divide : (d : Description) (i : GroupLists) (vpc : List ℕ) (ps : List Permission) (rs : List Rule) (cuts : CutLists) → IsResolved d i → HasRulesIn d vpc ps rs → AreAmong (standing_cuts d) cuts
+    → ((p : Permission) → Contains ps p → Divide (cuts_of_permission d p) cuts) → DivideRules i.lists i.members rs cuts
+rules-divide d i vpc ps rs cuts resolved has standing each =
+    all-members (λ r. DivideRule i.lists i.members r cuts) rs (λ r at.
+    let one = rule-of-one d vpc 1 ps has.rows r has.are (Contains-permutation rs has.rows r (IsPermutation-sym has.rows rs has.same) at) in
+    rule-divides d i vpc one.number one.permission r cuts resolved one.is standing (each one.permission one.has))
+
+-- ---- a group
+
+-- the rules of a group's direction are those of the described one
+group-rules : (d : Description) (g : Group) (i : GroupLists) (k : ℕ) (dir : Dir) → IsGroupOf d g (get_or i.groups k no_rules) → HasRulesIn d g.vpc (permissions_of dir g) (rules_in i.groups dir k)
+group-rules d g i k dirs.Inward is = is.inward
+group-rules d g i k dirs.Outward is = is.outward
+
+-- and are among all of the group
+permission-in : (g : Group) (dir : Dir) (p : Permission) → Contains (permissions_of dir g) p → Contains (all_permissions g) p
+permission-in g dirs.Inward p has = Contains-append_left g.inward g.outward p has
+permission-in g dirs.Outward p has = Contains-append_right g.inward g.outward p has
+
+-- cuts that have those of a group divide enough for its rules
+group-divides : (d : Description) (i : GroupLists) (k : ℕ) (dir : Dir) (cuts : CutLists) → IsResolved d i → AreAmong (standing_cuts d) cuts → k < length d.groups
+    → Divide (cuts_of_group d (get_or d.groups k no_group)) cuts → DivideRules i.lists i.members (rules_in i.groups dir k) cuts
+group-divides d i k dir cuts resolved standing within divide =
+    let g = get_or d.groups k no_group in
+    let is = zip_at (IsGroupOf d) d.groups i.groups k no_group no_rules resolved.lists.rules within in
+    rules-divide d i g.vpc (permissions_of dir g) (rules_in i.groups dir k) cuts resolved (group-rules d g i k dir is) standing (λ p has.
+    among_through (on_sides (cuts_of_permission d p)) (on_sides (cuts_of_group d g)) cuts
+    (on_sides_among (cuts_of_permission d p) (cuts_of_group d g) (row_among (cuts_of_permission d) (all_permissions g) p (permission-in g dir p has)))
+    divide)
+
+-- ---- an interface
+
+-- a group that an id names
+record IsGroupOfId (d : Description) (id : List ℕ) (k : ℕ) : Type 0 where
+  pub within : k < length d.groups
+  pub cuts : cuts_of_group_id d id ≡ cuts_of_group d (get_or d.groups k no_group)
+
+group-of-id : (d : Description) (id : List ℕ) (k : ℕ) → number_of d id ≡ Some k → IsGroupOfId d id k
+group-of-id d id k named =
+    let found = found-number (position (λ (g : Group). bytes_eq g.id id) d.groups) named in
+    let at = position-at (λ (g : Group). bytes_eq g.id id) d.groups k no_group found in
+    let number : (ℕ → GroupNo) = λ n. record { 0 = n } in
+    let numbered : group_of_id d id ≡ Some (number k) = ap (option_map number) found in
+    record { within = ltb-true k (length d.groups) at.0; cuts = ap cuts-if numbered }
+  where
+    found-number : (o : Option ℕ) → option_map (λ (g : GroupNo). g.0) (option_map (λ n. record { 0 = n }) o) ≡ Some k → o ≡ Some k
+    found-number None e = absurd cc
+    found-number (Some n) e = e
+
+    cuts-if : Option GroupNo → CutLists
+    cuts-if None = no_cuts
+    cuts-if (Some g) = cuts_of_group d (group_at d g)
+
+-- what is resolved is cut at the interfaces' places
+pub has_rule_cuts : (d : Description) (i : GroupLists) → IsResolved d i → HasRuleCuts d i
+has_rule_cuts d i resolved e dir lies =
+    let row = get_or d.interfaces e.0 no_interface in
+    let cuts : CutLists = cuts_at d (places.OutOf e) in
+    let place = places_have_their_cuts d (places.OutOf e) in
+    let named : get_or i.interfaces e.0 [] ≡ groups_with d row = ap (λ (xs : List (List ℕ)). get_or xs e.0 []) resolved.membership.named ∙ get_or-map (groups_with d) d.interfaces e.0 no_interface [] (ltb-true e.0 (length d.interfaces) lies) in
+    all-members (λ n. DivideRules i.lists i.members (rules_in i.groups dir n) cuts) (get_or i.interfaces e.0 []) (λ n has.
+    let id = filter_map-member (number_of d) row.groups n (once-member (filter_map (number_of d) row.groups) n (subst (λ ns. Contains ns n) named has)) in
+    let is = group-of-id d id.0 n id.2 in
+    let among : AreAmong (cuts_of_group_id d id.0) (cuts_at_interface d e) = row_among (cuts_of_group_id d) row.groups id.0 id.1 in
+    group-divides d i n dir cuts resolved place.standing is.within
+    (subst (λ c. Divide c cuts) is.cuts
+    (among_through (on_sides (cuts_of_group_id d id.0)) (on_sides (cuts_at_interface d e)) cuts (on_sides_among (cuts_of_group_id d id.0) (cuts_at_interface d e) among) place.asked)))
