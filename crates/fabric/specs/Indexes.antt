@@ -1,11 +1,13 @@
 -- What the indexes of a network's tables and ACLs are.
-use Rattle.std.specs.Prelude.{◌≡◌, ◌≤◌, ◌<◌, ◌+◌, ◌*◌, ◌^◌, ◌⊎◌, Contains, List, length, ℕ}
+use Rattle.std.specs.Prelude.{◌≡◌, ◌≤◌, ◌<◌, ◌+◌, ◌*◌, ◌^◌, List, length, ℕ}
 use Rattle.std.specs.List.{AllZip}
+use Rattle.cut_laws.specs.Dividing.{DivideFirsts}
 use Rattle.edge_gateways.specs.Edges.{AreEdgesOf, EdgeLists}
 use Rattle.network_acls.specs.Tried.{SortsRows, TriedRows}
 use Rattle.number_tables.specs.declared.tables.Entry.{Entry}
-use Rattle.piece_table.specs.Pieces.{PieceLists, told_at}
+use Rattle.piece_table.specs.Pieces.{ArePieces, PieceLists, told_at}
 use Rattle.route_tables.specs.Rows.{blocks_in}
+use Rattle.security_groups.specs.Dividing.{HasRuleCuts}
 use Rattle.security_groups.specs.Index.{GroupLists, HasRulesOf}
 use Rattle.transit_gateway.specs.Index.{IsTransitOf}
 use Rattle.transit_gateway.specs.Lists.{TransitLists}
@@ -18,7 +20,8 @@ use Rattle.vpc_model.specs.Routes.{chosen_route}
 pub record IsRouteIndex (d : Description) (t : RouteTable) (x : PieceLists) : Type 0 where
   pub chosen : (a : ℕ) → a < 2 ^ 32 → told_at x a ≡ chosen_route d t.routes a
   pub few : length x.firsts ≤ 2 * length (blocks_in d t.routes) + 1
-  pub firsts : (f : ℕ) → Contains x.firsts f → (f ≡ 0) ⊎ Contains (cuts_of_table d t).addr f
+  pub firsts : DivideFirsts x.firsts (cuts_of_table d t)
+  pub pieces : ArePieces x
 
 -- the sorted rows of an ACL
 abbrev pub IsAclIndex : Acl → TriedRows → Type 0
@@ -37,6 +40,7 @@ pub record IndexLists : Type 0 where
 pub record AreIndexesOf (d : Description) (x : IndexLists) : Type 0 where
   pub acls : AllZip IsAclIndex d.acls x.acls
   pub groups : HasRulesOf d x.groups
+  pub group_cuts : HasRuleCuts d x.groups
   pub routes : AllZip (IsRouteIndex d) d.tables x.routes
   pub edges : AreEdgesOf d x.edges
   pub transit : IsTransitOf d x.transit

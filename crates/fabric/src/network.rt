@@ -1,6 +1,7 @@
 // A network with its indexes.
 ghost use Rattle.std.specs.Prelude.{◌≡◌, IfOk};
 ghost use Rattle.edge_gateways.specs.Edges.{AreEdgesOf};
+ghost use Rattle.security_groups.specs.Dividing.{HasRuleCuts};
 ghost use Rattle.security_groups.specs.Index.{HasRulesOf};
 ghost use Rattle.transit_gateway.specs.Index.{IsTransitOf};
 ghost use Rattle.fabric.specs.Indexes.{AreIndexesOf, IsAclIndex, IsRouteIndex};
@@ -177,7 +178,8 @@ impl Fabric {
 
     /// The rules of the security groups.
     pub fn groups(&self) -> &GroupIndex
-        ensures { HasRulesOf self.now result.now }
+        ensures rules { HasRulesOf self.now result.now }
+        ensures cuts { HasRuleCuts self.now result.now }
     {
         self.indexes.groups()
     }
