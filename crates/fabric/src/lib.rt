@@ -1,9 +1,10 @@
-//! All look-ups of one accepted network.
+//! All look-ups of one accepted network, and its rows by their numbers.
 #![tactic(auto)]
 
 mod acls;
 mod nats;
 mod network;
 mod routes;
+pub mod rows;
 
 pub use network::Fabric;

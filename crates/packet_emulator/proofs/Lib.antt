@@ -1,4 +1,3 @@
-pub mod RowFacts
 pub mod Forwarding
 pub mod Publics
 pub mod Edges

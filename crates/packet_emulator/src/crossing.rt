@@ -5,8 +5,8 @@ ghost use Rattle.vpc_model.specs.Sound.{is_eni, is_subnet};
 ghost use Rattle.vpc_model.specs.Step.Crossing.{crossing, deliver, entering, is_gateway, leaving};
 
 use crate::next::Next;
-use crate::rows::interface_at;
 use fabric::Fabric;
+use fabric::rows::interface_at;
 use vpc_base::{Dir, Header};
 use vpc_model::{EniNo, InterfaceKind, Place, Stop, SubnetNo};
 

@@ -7,8 +7,8 @@ ghost use Rattle.vpc_model.specs.Step.Enter.{enter_host};
 
 use crate::crossing::{deliver, entering};
 use crate::next::{Next, unless_stopped};
-use crate::rows::subnet_of;
 use fabric::Fabric;
+use fabric::rows::subnet_of;
 use vpc_base::Header;
 use vpc_model::{Stop, VpcNo};
 

@@ -6,9 +6,9 @@ ghost use Rattle.vpc_model.specs.Groups.{first_rule};
 ghost use Rattle.vpc_model.specs.Lookup.{interface_at};
 ghost use Rattle.vpc_model.specs.Sound.{is_eni};
 
-use crate::rows::interface_at;
 use conn_tracking::{Entry, Tracker};
 use fabric::Fabric;
+use fabric::rows::interface_at;
 use vpc_base::{Dir, Header, Label};
 use vpc_model::{By, EniNo, RuleRef, far_address};
 

@@ -10,10 +10,10 @@ ghost use Rattle.packet_emulator.specs.Moments.{at_place};
 
 use crate::groups::pass;
 use crate::next::Next;
-use crate::rows::{interface_at, subnet_of};
 use appliances::Deciders;
 use conn_tracking::Tracker;
 use fabric::Fabric;
+use fabric::rows::{interface_at, subnet_of};
 use vpc_base::{Dir, Header, Label};
 use vpc_model::{By, Came, End, EniNo, Interface, Place, Stop};
 

@@ -16,7 +16,6 @@ mod next;
 mod peering;
 mod places;
 mod router;
-mod rows;
 mod session;
 mod step;
 mod transit;

@@ -9,8 +9,8 @@ ghost use Rattle.packet_emulator.specs.Comes.{comes};
 ghost use Rattle.packet_emulator.specs.Moments.{at_place};
 
 use crate::next::Next;
-use crate::rows::{nat_at, subnet_named};
 use fabric::Fabric;
+use fabric::rows::{nat_at, subnet_named};
 use nat_gateway::{NatBook, NatStop};
 use vpc_base::{Header, Label};
 use vpc_model::{Came, NatLife, NatNo, Place, Stop};

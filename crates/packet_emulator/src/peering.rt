@@ -8,9 +8,9 @@ ghost use Rattle.vpc_model.specs.declared.places.Place.TheVariants as places;
 ghost use Rattle.packet_emulator.specs.Comes.{comes};
 
 use crate::next::Next;
-use crate::rows::{peering_at, vpc_at, vpc_named};
 use edge_gateways::Carry;
 use fabric::Fabric;
+use fabric::rows::{peering_at, vpc_at, vpc_named};
 use vpc_base::Header;
 use vpc_model::{EnterBy, Id, PeerNo, Place, Stop, VpcNo};
 

@@ -12,11 +12,11 @@ use crate::choosing::route_of;
 use crate::crossing::{crossing, deliver, entering, is_gateway, leaving};
 use crate::next::{Next, unless_stopped};
 use crate::peering::other_side;
-use crate::rows::{
+use fabric::Fabric;
+use fabric::rows::{
     eni_named, igw_named, interface_at, nat_at, nat_named, peering_at, peering_named, subnet_named,
     subnet_of, table_at, vpc_at, vpc_of,
 };
-use fabric::Fabric;
 use transit_gateway::EnterStop;
 use vpc_base::Header;
 use vpc_model::{

@@ -1,4 +1,4 @@
-use Rattle.packet_emulator.proofs.RowFacts.{acl-lies}
+use Rattle.fabric.proofs.RowFacts.{acl-lies}
 use Rattle.packet_emulator.proofs.crossing.leaving.Goals as goal
 
 pub acl-requires : goal.acl-requires

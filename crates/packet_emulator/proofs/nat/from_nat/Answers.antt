@@ -1,4 +1,4 @@
-use Rattle.packet_emulator.proofs.RowFacts.{has_subnet-nat}
+use Rattle.fabric.proofs.RowFacts.{has_subnet-nat}
 use Rattle.packet_emulator.proofs.nat.from_nat.Goals as goal
 
 pub subnet_named-requires : goal.subnet_named-requires

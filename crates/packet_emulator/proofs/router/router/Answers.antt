@@ -1,5 +1,5 @@
 use Rattle.std.proofs.Common.{◌≡◌, ◌∙◌, ap, subst, sym}
-use Rattle.packet_emulator.proofs.RowFacts.{table-lies}
+use Rattle.fabric.proofs.RowFacts.{table-lies}
 use Rattle.packet_emulator.proofs.Routing.{chosen_route-lies}
 use Rattle.packet_emulator.specs.Comes.{comes}
 use Rattle.vpc_laws.specs.Types.{Description, TableNo}

@@ -1,4 +1,4 @@
-use Rattle.packet_emulator.proofs.RowFacts.{has_subnet-nat, subnet_no-lies}
+use Rattle.fabric.proofs.RowFacts.{has_subnet-nat, subnet_no-lies}
 use Rattle.packet_emulator.proofs.router.to_nat.Goals as goal
 
 pub subnet_named-t-requires : goal.subnet_named-t-requires

@@ -1,5 +1,5 @@
-use Rattle.packet_emulator.proofs.RowFacts.{has_subnet-interface, subnet_of-lies}
-use Rattle.packet_emulator.proofs.rows.subnet_of.Goals as goal
+use Rattle.fabric.proofs.RowFacts.{has_subnet-interface, subnet_of-lies}
+use Rattle.fabric.proofs.rows.subnet_of.Goals as goal
 
 pub subnet_named-requires : goal.subnet_named-requires
 subnet_named-requires c = has_subnet-interface c.args.f.now c.network-n.result.now c.args.i c.interface_at-e.result.now c.network-n.ensures c.description.ensures.accepted c.requires c.interface_at-e.ensures

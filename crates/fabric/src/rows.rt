@@ -1,9 +1,10 @@
-// Rows of a network by their numbers, and numbers by the ids that rows name.
+//! Rows of a network by their numbers, and numbers by the ids that rows name.
+
 ghost use Rattle.std.specs.Prelude.{◌≡◌, IsTrue};
 ghost use Rattle.vpc_model.specs.Lookup as rows;
 ghost use Rattle.vpc_model.specs.Sound.{is_eni, is_igw, is_nat, is_peering, is_subnet, is_table, is_vpc};
 
-use fabric::Fabric;
+use crate::Fabric;
 use reference_check::Network;
 use vpc_model::{
     EniNo, Id, IgwNo, Interface, NatGateway, NatNo, PeerNo, Peering, RouteTable, Subnet, SubnetNo,
