@@ -1,11 +1,10 @@
 -- What rules name, asked of images.
-use Rattle.std.proofs.Common.{◌≡◌, ◌||◌, Bool, List, [], ℕ, ap, sym}
-use Rattle.std.specs.List.{All, Contains, list_any}
+use Rattle.std.proofs.Common.{◌≡◌, Bool, List, ℕ, ap}
+use Rattle.std.specs.List.{All, Contains}
 use Rattle.std.proofs.lemmas.List.Elements.{All-contains}
 use Rattle.vpc_base.specs.Cuts.{CutLists}
 use Rattle.vpc_base.specs.declared.headers.Dir.{Dir}
 use Rattle.vpc_base.specs.declared.headers.Header.{Header}
-use Rattle.header_boxes.specs.declared.boxes.Box5.{Box5}
 use Rattle.address_sets.specs.declared.sets.Run.{Run}
 use Rattle.box_images.specs.Answers.{Answers}
 use Rattle.box_images.specs.Fields.{number_of}

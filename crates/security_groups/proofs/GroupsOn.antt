@@ -1,11 +1,10 @@
 -- Groups asked of images.
 use Rattle.std.proofs.Common.{◌≡◌, ◌∙◌, ◌||◌, ◌<◌, ◌∷◌, [], ℕ, Bool, List, None, Option, Some, ap, arith, false, get_or, is_some, length, option_map, refl, slice_index_or, subst, suc, sym, true, zero}
 use Rattle.std.specs.Prelude.{if◌then◌else◌, nat_lt}
-use Rattle.std.specs.List.{All, Contains, list_any}
+use Rattle.std.specs.List.{Contains, list_any}
 use Rattle.std.proofs.lemmas.List.{get_or_default}
 use Rattle.std.proofs.lemmas.List.Elements.{All-contains}
 use Rattle.address_sets.specs.declared.sets.Run.{Run}
-use Rattle.vpc_base.specs.Cuts.{CutLists}
 use Rattle.vpc_base.specs.declared.headers.Dir.{Dir}
 use Rattle.vpc_base.specs.declared.headers.Header.{Header}
 use Rattle.header_boxes.specs.declared.boxes.Box5.{Box5}
@@ -15,7 +14,6 @@ use Rattle.box_images.specs.declared.images.Image.{Image}
 use Rattle.box_images.specs.declared.images.Part.{Part}
 use Rattle.image_tests.proofs.Answering.{answers_more, answers_same}
 use Rattle.image_tests.proofs.Trying.{header_of_rest}
-use Rattle.vpc_model.specs.declared.outcomes.RuleRef.{RuleRef}
 use Rattle.vpc_model.specs.Choice.{or_else}
 use Rattle.security_groups.specs.Asking.{allows, first_in_group, first_of, least, lesser, no_rules, rules_of}
 use Rattle.vpc_model.specs.declared.numbers.EniNo.{EniNo}

@@ -2,6 +2,7 @@
 use Rattle.std.proofs.Common.{◌≡◌, ◌∙◌, ◌&&◌, ◌*◌, ◌++◌, ◌+◌, ◌-◌, ◌<◌, ◌≤◌, ◌∷◌, ◌⊎◌, [], ℕ, Bool, List, None, ap, arith, drop, false, get_or, inl, inr, length, nat_le, refl, subst, sym, take, true}
 use Rattle.std.specs.List.Sorted.{IsPartitionPoint}
 use Rattle.std.proofs.lemmas.Bool.{cases_lt, lt-leb}
+use Rattle.std.proofs.lemmas.Bool.Decides.{nat_tests}
 use Rattle.std.proofs.lemmas.List.{drop-take, get_or-drop, get_or-take, get_or_append_left, get_or_push, length-drop, length-take, length-take-le, length_push, take-append-drop, take-take, take_all, take_rest}
 use Rattle.std.proofs.lemmas.List.Elements.{All-more}
 use Rattle.address_sets.specs.declared.sets.Run.{Run}
@@ -10,7 +11,7 @@ use Rattle.vpc_base.specs.declared.headers.Header.{Header}
 use Rattle.security_groups.specs.declared.rules.Rule.{Rule}
 use Rattle.vpc_model.specs.Filter.{far_address, matches_proto}
 use Rattle.security_groups.specs.Asking.{allows, least, lesser, names}
-use Rattle.security_groups.specs.Tables.{AreLasts, EndBy, run_of}
+use Rattle.security_groups.specs.Tables.{AreBegun, AreLasts, BeginAfter, EndBy, run_of}
 use Rattle.security_groups.proofs.Least.{least-append, least-none, lesser-none}
 
 -- two parts, one after the other
@@ -46,31 +47,50 @@ least-ended lists members dir h last rules ends before =
     nowhere false b false = refl
 
 -- they begin after it
-pub least-begun : (lists : List (List Run)) (members : List ℕ) (dir : Dir) (h : Header) (rules seen : List Rule) (begun : ℕ) → seen ≡ rules
-    → IsPartitionPoint (λ r. nat_le r.q_from h.q ≡ true) (λ r. nat_le r.q_from h.q ≡ false) seen begun
-    → least (allows lists members dir h) (take begun rules) ≡ least (allows lists members dir h) rules
-least-begun lists members dir h rules seen begun same point =
+pub least-begun : (lists : List (List Run)) (members : List ℕ) (dir : Dir) (h : Header) (all rules : List Rule) → AreBegun all h.q rules
+    → least (allows lists members dir h) rules ≡ least (allows lists members dir h) all
+least-begun lists members dir h all rules are =
     let p = allows lists members dir h in
-    let after : least p (drop begun rules) ≡ None = least-none p (drop begun rules) (λ k d within. later k d within) in
-    sym
-    (ap (least p) (sym (take-append-drop begun rules))
-    ∙ least-append p (take begun rules) (drop begun rules)
-    ∙ ap (lesser (least p (take begun rules))) after
-    ∙ lesser-none (least p (take begun rules)))
+    let begun = length rules in
+    let after : least p (drop begun all) ≡ None = least-none p (drop begun all) (λ k d within. starts (get_or (drop begun all) k d) (are.later k d within)) in
+    ap (least p) are.first
+    ∙ sym
+    (ap (least p) (sym (take-append-drop begun all))
+    ∙ least-append p (take begun all) (drop begun all)
+    ∙ ap (lesser (least p (take begun all))) after
+    ∙ lesser-none (least p (take begun all)))
   where
     nowhere : (a b c : Bool) → (c && ((false && a) && b)) ≡ false
     nowhere a b true = refl
     nowhere a b false = refl
 
-    later : (k : ℕ) (d : Rule) → k < length (drop begun rules) → allows lists members dir h (get_or (drop begun rules) k d) ≡ false
-    later k d within =
-        let long = length-drop begun rules in
-        let whole : length seen ≡ length rules = ap length same in
-        let at = get_or-drop begun rules k d in
-        let here : nat_le (get_or seen (begun + k) d).q_from h.q ≡ false = point.1 (begun + k) d (omega arith) (omega arith) in
-        let fails : nat_le (get_or rules (begun + k) d).q_from h.q ≡ false = subst (λ (rs : List Rule). nat_le (get_or rs (begun + k) d).q_from h.q ≡ false) same here in
-        let r = get_or rules (begun + k) d in
-        ap (allows lists members dir h) at ∙ (rw fails (nowhere (nat_le h.q r.q_to) (names lists members (far_address dir h) r) (matches_proto r.proto h.proto)))
+    starts : (r : Rule) → h.q < r.q_from → allows lists members dir h r ≡ false
+    starts r before = rw (lt-leb r.q_from h.q before) (nowhere (nat_le h.q r.q_to) (names lists members (far_address dir h) r) (matches_proto r.proto h.proto))
+
+-- the rules up to where a port parts them
+pub are-begun : (table rules seen asked : List Rule) (q begun : ℕ) → seen ≡ rules → asked ≡ rules → rules ≡ table → begun ≤ length seen
+    → IsPartitionPoint (λ r. nat_le r.q_from q ≡ true) (λ r. nat_le r.q_from q ≡ false) seen begun → AreBegun table q (take begun asked)
+are-begun table rules seen asked q begun same alike is within point =
+    subst (λ (rs : List Rule). AreBegun rs q (take begun asked)) (same ∙ is) (subst (λ (rs : List Rule). AreBegun seen q (take begun rs)) (same ∙ sym alike) parted)
+  where
+    less : (from : ℕ) → nat_le from q ≡ false → q < from
+    less from e = grind (arith, nat_tests)
+
+    after : BeginAfter seen begun q
+    after k d below =
+        let long = length-drop begun seen in
+        let at = ap (λ (r : Rule). r.q_from) (get_or-drop begun seen k d) in
+        let here = less (get_or seen (begun + k) d).q_from (point.1 (begun + k) d (omega arith) (omega arith)) in
+        omega arith
+
+    parted : AreBegun seen q (take begun seen)
+    parted =
+        let long = length-take-le begun seen within in
+        record {
+          few = omega arith;
+          first = ap (λ (n : ℕ). take n seen) (sym long);
+          later = subst (λ (n : ℕ). BeginAfter seen n q) (sym long) after;
+        }
 
 -- ---- the runs up to a rule
 

@@ -1,8 +1,8 @@
 -- Rules that are asked of images run by run.
-use Rattle.std.proofs.Common.{◌≡◌, ◌∙◌, ◌&&◌, ◌||◌, ◌*◌, ◌+◌, ◌<◌, ◌≤◌, ◌∷◌, [], ℕ, Bool, List, None, ap, arith, drop, false, get_or, length, nat_le, refl, subst, sym, take, true}
+use Rattle.std.proofs.Common.{◌≡◌, ◌∙◌, ◌&&◌, ◌||◌, ◌*◌, ◌+◌, ◌<◌, ◌≤◌, ◌∷◌, [], ℕ, Bool, List, ap, arith, drop, false, get_or, length, nat_le, refl, subst, sym, take, true}
 use Rattle.std.proofs.Math.Seq.{drop-drop}
 use Rattle.std.specs.List.{All, list_any}
-use Rattle.std.specs.List.Sorted.{IsNonDecreasingBy, IsPartitionPoint}
+use Rattle.std.specs.List.Sorted.{IsNonDecreasingBy}
 use Rattle.std.proofs.lemmas.Bool.{lt-leb}
 use Rattle.std.proofs.lemmas.Bool.Decides.{nat_tests}
 use Rattle.std.proofs.lemmas.List.{get_or-drop, get_or_default, drop_all, length-drop, length-take, take-append-drop}
@@ -17,7 +17,7 @@ use Rattle.header_boxes.proofs.Held.{holds_low, valid_if_within}
 use Rattle.header_boxes.specs.Boxes.{IsWithin, holds, low_of}
 use Rattle.header_boxes.specs.declared.boxes.Box5.{Box5}
 use Rattle.box_images.proofs.Reducing.{reduced_all, reduced_by, reduced_nothing, reduced_same, reduced_to, walk_within}
-use Rattle.box_images.specs.Answers.{Answers, Reduces}
+use Rattle.box_images.specs.Answers.{Answers}
 use Rattle.box_images.specs.Images.{IsImageOfWalk, IsValidImage, KeepsKind, header_at}
 use Rattle.box_images.specs.declared.images.Image.{Image}
 use Rattle.box_images.specs.declared.images.Part.{Part}
@@ -32,7 +32,7 @@ use Rattle.vpc_model.specs.Filter.{far_address, matches_proto}
 use Rattle.security_groups.proofs.OnceEach.{or_false}
 use Rattle.security_groups.specs.Asking.{allows, names}
 use Rattle.security_groups.specs.Dividing.{DivideRule, DivideRules, IsLeftWith, any_allows}
-use Rattle.security_groups.specs.Tables.{BeginAfter, EndBy, run_of}
+use Rattle.security_groups.specs.Tables.{AreBegun, BeginAfter, EndBy, run_of}
 
 -- ---- one of some rules
 
@@ -215,34 +215,25 @@ runs_none lists members dir rules i rest k ended r =
 
 -- ---- the rules of a table
 
-pub begin-after : (rules seen asked : List Rule) (begun q low : ℕ) → seen ≡ rules → asked ≡ rules → q ≡ low
-    → IsPartitionPoint (λ r. nat_le r.q_from q ≡ true) (λ r. nat_le r.q_from q ≡ false) seen begun → BeginAfter asked begun low
-begin-after rules seen asked begun q low same alike is point =
-    subst (BeginAfter asked begun) is (subst (λ (rs : List Rule). BeginAfter rs begun q) (sym alike) (subst (λ (rs : List Rule). BeginAfter rs begun q) same after))
-  where
-    less : (from : ℕ) → nat_le from q ≡ false → q < from
-    less from e = grind (arith, nat_tests)
+pub begin-after : (table asked rules : List Rule) (q low : ℕ) → asked ≡ table → q ≡ low → AreBegun table q rules → BeginAfter asked (length rules) low
+begin-after table asked rules q low same is are = subst (BeginAfter asked (length rules)) is (subst (λ (rs : List Rule). BeginAfter rs (length rules) q) (sym same) are.later)
 
-    after : BeginAfter seen begun q
-    after k d below =
-        let long = length-drop begun seen in
-        let at = ap (λ (r : Rule). r.q_from) (get_or-drop begun seen k d) in
-        let here = less (get_or seen (begun + k) d).q_from (point.1 (begun + k) d (omega arith) (omega arith)) in
-        omega arith
+pub few-begun : (table asked rules : List Rule) (q : ℕ) → asked ≡ table → AreBegun table q rules → length rules ≤ length asked
+few-begun table asked rules q same are = subst (λ (rs : List Rule). length rules ≤ length rs) (sym same) are.few
 
 -- the rules that begin at or before a port, on the body where the others aren't had
-pub any-allows : (lists : List (List Run)) (members : List ℕ) (dir : Dir) (rules asked seen table : List Rule) (begun : ℕ) (i rest : Image) (body : Box5) (x : Part Bool)
-    → asked ≡ rules → seen ≡ rules → rules ≡ table → IsLeftWith lists members dir asked (take begun asked) i body → rest ≡ record i { part = body }
-    → Answers (DivideRules lists members (take begun seen)) (λ h. any_allows lists members dir (take begun seen) (header_at rest h)) rest.part x
+pub any-allows : (lists : List (List Run)) (members : List ℕ) (dir : Dir) (table asked rules : List Rule) (q : ℕ) (i rest : Image) (body : Box5) (x : Part Bool)
+    → asked ≡ table → AreBegun table q rules → IsLeftWith lists members dir asked (take (length rules) asked) i body → rest ≡ record i { part = body }
+    → Answers (DivideRules lists members rules) (λ h. any_allows lists members dir rules (header_at rest h)) rest.part x
     → Answers (DivideRules lists members table) (λ h. any_allows lists members dir table (header_at i h)) i.part x
-any-allows lists members dir rules asked seen table begun i rest body x same alike is left image a =
-    subst (λ (rs : List Rule). Answers (DivideRules lists members rs) (λ h. any_allows lists members dir rs (header_at i h)) i.part x) is
-    (reduced_to (DivideRules lists members rules) (λ h. any_allows lists members dir rules (header_at i h)) (λ h. any_allows lists members dir (take begun rules) (header_at i h)) i.part body x
-    (subst (λ (rs : List Rule). IsLeftWith lists members dir rs (take begun rs) i body) same left)
-    (answers_more (DivideRules lists members (take begun rules)) (DivideRules lists members rules) (λ h. any_allows lists members dir (take begun rules) (header_at i h)) body x
-    (λ cuts all. All-take (λ r. DivideRule lists members r cuts) begun rules all)
-    (subst (λ (j : Image). Answers (DivideRules lists members (take begun rules)) (λ h. any_allows lists members dir (take begun rules) (header_at j h)) j.part x) image
-    (subst (λ (rs : List Rule). Answers (DivideRules lists members (take begun rs)) (λ h. any_allows lists members dir (take begun rs) (header_at rest h)) rest.part x) alike a))))
+any-allows lists members dir table asked rules q i rest body x same are left image a =
+    let first : List Rule = take (length rules) table in
+    reduced_to (DivideRules lists members table) (λ h. any_allows lists members dir table (header_at i h)) (λ h. any_allows lists members dir first (header_at i h)) i.part body x
+    (subst (λ (rs : List Rule). IsLeftWith lists members dir rs (take (length rules) rs) i body) same left)
+    (answers_more (DivideRules lists members first) (DivideRules lists members table) (λ h. any_allows lists members dir first (header_at i h)) body x
+    (λ cuts all. All-take (λ r. DivideRule lists members r cuts) (length rules) table all)
+    (subst (λ (j : Image). Answers (DivideRules lists members first) (λ h. any_allows lists members dir first (header_at j h)) j.part x) image
+    (subst (λ (rs : List Rule). Answers (DivideRules lists members rs) (λ h. any_allows lists members dir rs (header_at rest h)) rest.part x) are.first a)))
 
 -- no port of what is left is below that of the low corner
 pub ports-above : (i rest : Image) (body : Box5) (q : ℕ) → q ≡ (header_at i (low_of i.part)).q → IsWithin body i.part → rest ≡ record i { part = body }

@@ -1,7 +1,7 @@
 -- Rules in runs, with the greatest last port of each.
 use Rattle.std.specs.List.{All}
 use Rattle.std.specs.List.Sorted.{IsNonDecreasingBy}
-use Rattle.std.specs.Prelude.{◌*◌, ◌+◌, ◌<◌, ◌≤◌, List, drop, length, slice_index_or, take, ℕ}
+use Rattle.std.specs.Prelude.{◌*◌, ◌+◌, ◌<◌, ◌≡◌, ◌≤◌, List, drop, length, slice_index_or, take, ℕ}
 use Rattle.security_groups.specs.declared.rules.Rule.{Rule}
 
 -- the rules of a run
@@ -26,3 +26,9 @@ pub record IsTable (rules : List Rule) (ports : List ℕ) : Type 0 where
 -- the rules from a number on begin after a port
 abbrev pub BeginAfter : List Rule → ℕ → ℕ → Type 0
 BeginAfter rules n q = All (λ r. q < r.q_from) (drop n rules)
+
+-- all but those that begin after a port
+pub record AreBegun (all : List Rule) (q : ℕ) (rules : List Rule) : Type 0 where
+  pub few : length rules ≤ length all
+  pub first : rules ≡ take (length rules) all
+  pub later : BeginAfter all (length rules) q

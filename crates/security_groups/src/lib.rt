@@ -14,6 +14,8 @@ mod peers;
 mod rules;
 mod runs_on;
 mod tables;
+#[cfg(test)]
+mod tests;
 
 pub use groups::GroupRules;
 pub use index::GroupIndex;

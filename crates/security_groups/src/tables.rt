@@ -2,7 +2,7 @@
 ghost use Rattle.std.specs.Prelude.{◌≡◌, ◌*◌, ◌<◌, ◌≤◌, IfOk, IsPermutation, length};
 ghost use Rattle.std.specs.List.Sorted.{IsNonDecreasingBy};
 ghost use Rattle.security_groups.specs.Asking.{allows, least, lesser};
-ghost use Rattle.security_groups.specs.Tables.{AreLasts, EndBy, run_of};
+ghost use Rattle.security_groups.specs.Tables.{AreBegun, AreLasts, EndBy, run_of};
 
 use crate::asking::allows;
 use crate::on_images::allows_on;
@@ -142,6 +142,16 @@ impl RuleTable {
         Ok(RuleTable { rules, lasts })
     }
 
+    // The rules that begin at or before a port, and the greatest last port of each of their runs.
+    fn begun(&self, q: u16) -> (&[Rule], &[u16])
+        ensures rules { AreBegun self.now q result.0.now }
+        ensures lasts { AreLasts result.0.now result.1.now }
+    {
+        let begun = self.rules.partition_point(|rule| rule.q_from <= q);
+        let runs = begun.div_ceil(64);
+        (&self.rules[..begun], &self.lasts[..runs])
+    }
+
     /// The least number of a rule that allows the packet. It asks the rules that begin at or before its
     /// port, run by run, but no run of which all rules end before it.
     pub fn least_allowing(
@@ -153,12 +163,10 @@ impl RuleTable {
     ) -> Option<u32>
         ensures { result ≡ least (allows lists.now members.now dir h.now) self.now }
     {
-        let q = h.q;
-        let begun = self.rules.partition_point(|rule| rule.q_from <= q);
-        let runs = begun.div_ceil(64);
-        let rules = &self.rules[..begun];
-        least_in_runs(lists, members, rules, &self.lasts[..runs], dir, h)
+        let (rules, lasts) = self.begun(h.q);
+        least_in_runs(lists, members, rules, lasts, dir, h)
     }
+
     /// The number of a rule in this order that allows the packet, if one does. It asks as `least_allowing`
     /// does, and stops at the first one.
     pub fn allowing(
@@ -170,17 +178,8 @@ impl RuleTable {
     ) -> Option<usize>
         ensures { IfSome result (λ k. k < length self.now) }
     {
-        let q = h.q;
-        let begun = self.rules.partition_point(|rule| rule.q_from <= q);
-        let runs = begun.div_ceil(64);
-        allowing_in_runs(
-            lists,
-            members,
-            &self.rules[..begun],
-            &self.lasts[..runs],
-            dir,
-            h,
-        )
+        let (rules, lasts) = self.begun(h.q);
+        allowing_in_runs(lists, members, rules, lasts, dir, h)
     }
 
     /// Whether the rule of this number allows the headers of an image.
@@ -218,17 +217,8 @@ impl RuleTable {
             i.now.part result }
     {
         let q = i.value(&i.part.low()).q;
-        let begun = self.rules.partition_point(|rule| rule.q_from <= q);
-        let runs = begun.div_ceil(64);
-        let rest = i.within(&before_next(self.rules.as_slice(), begun, i));
-        any_in_runs_on(
-            lists,
-            members,
-            &self.rules[..begun],
-            &self.lasts[..runs],
-            dir,
-            q,
-            &rest,
-        )
+        let (rules, lasts) = self.begun(q);
+        let rest = i.within(&before_next(self.rules.as_slice(), rules.len(), i));
+        any_in_runs_on(lists, members, rules, lasts, dir, q, &rest)
     }
 }

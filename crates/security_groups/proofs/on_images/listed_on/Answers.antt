@@ -1,5 +1,4 @@
-use Rattle.std.proofs.Common.{Bool, List, ℕ, subst, true}
-use Rattle.vpc_base.specs.declared.headers.Header.{Header}
+use Rattle.std.proofs.Common.{List, ℕ, subst}
 use Rattle.box_images.specs.Answers.{Answers}
 use Rattle.box_images.specs.declared.images.Image.{Image}
 use Rattle.image_tests.proofs.Answering.{answers_either, answers_first, answers_more}

@@ -1,4 +1,4 @@
-use Rattle.std.proofs.Common.{Bool, true, subst}
+use Rattle.std.proofs.Common.{Bool, subst}
 use Rattle.vpc_base.specs.declared.headers.Header.{Header}
 use Rattle.address_sets.specs.Runs.{is_in}
 use Rattle.box_images.specs.Answers.{Answers}
