@@ -15,6 +15,10 @@ pub refused_if_told : {A : Type 0} (meant : Result A QueryRefusal) (cause : Quer
 refused_if_told meant (refusals.BadWord n) is not = is
 refused_if_told meant (refusals.UnknownId n) is not = is
 refused_if_told meant (refusals.NotAnEnd id) is not = is
+refused_if_told meant refusals.BothInternet is not = is
+refused_if_told meant (refusals.EmptyRange n) is not = is
+refused_if_told meant refusals.MaxOutOfRange is not = is
+refused_if_told meant (refusals.NoAddress id) is not = is
 refused_if_told meant refusals.Memory is not = absurd (not refl)
 
 -- ---- one line more
