@@ -1,9 +1,8 @@
 -- Packets of lines, one after another.
-use Rattle.std.proofs.Common.{◌≡◌, ◌≢◌, ◌∙◌, ◌+◌, ◌<◌, ◌≤◌, ◌==◌, ◌++◌, ◌∷◌, [], Bool, Bor, List, None, Option, Some, Result, Ok, Err, add-one, ap, append_assoc, arith, drop, drop-cons, false, get_or, is_none, length, map, min, refl, suc, sym, take, true, zero, ℕ}
+use Rattle.std.proofs.Common.{◌≡◌, ◌≢◌, ◌∙◌, ◌+◌, ◌<◌, ◌++◌, ◌∷◌, [], Bool, Bor, List, Option, Some, Result, Err, add-one, ap, append_assoc, arith, drop, drop-cons, false, get_or, length, map, min, refl, sym, take, true, ℕ}
 use Rattle.std.proofs.Math.Seq.{take-length}
 use Rattle.std.proofs.lemmas.List.{length-take, take_min}
 use Rattle.std.specs.List.{filter_map, position_from}
-use Rattle.std.specs.Result.{result_ok}
 use Rattle.query_words.specs.Refusal.{Answers}
 use Rattle.query_words.specs.declared.refusal.QueryRefusal.{QueryRefusal}
 use Rattle.query_words.specs.declared.refusal.QueryRefusal.TheVariants as refusals

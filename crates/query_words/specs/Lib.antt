@@ -7,3 +7,4 @@ pub mod Refusal
 pub mod Sides
 pub mod Words
 pub mod Worked
+pub mod WorkedQueries

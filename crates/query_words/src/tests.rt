@@ -1,5 +1,6 @@
 // Words of one grammar, with the limits of each, and what the words of worked commands mean.
 ghost use Rattle.query_words.specs.Worked.{RefusesPorts, RefusesWords, TakesWords};
+ghost use Rattle.query_words.specs.WorkedQueries.{TakesEnds};
 
 use crate::words::{label_of, port_of, proto_of};
 use vpc_base::Label;
@@ -69,4 +70,8 @@ fn refuses_words()
 
 fn refuses_ports()
     ensures { RefusesPorts }
+{}
+
+fn takes_ends()
+    ensures { TakesEnds }
 {}
