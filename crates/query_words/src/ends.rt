@@ -71,11 +71,7 @@ fn not_both(start: End, goal: End) -> Result<Ends, QueryRefusal>
 }
 
 /// The ends that `from END to END` names, from the third word on.
-pub(crate) fn read_ends(
-    alloc: Global,
-    n: &Network,
-    words: &[String],
-) -> Result<Ends, QueryRefusal>
+pub(crate) fn read_ends(alloc: Global, n: &Network, words: &[String]) -> Result<Ends, QueryRefusal>
     requires { 6 ≤ length words.now }
     ensures answer { Answers (ends_of n.now (map string_bytes words.now)) result }
     ensures described { IfOk result (λ e. AreDescribed n.now e.start e.goal) }

@@ -9,7 +9,9 @@ use crate::words::{CommandWords, has_ports, read_proto, word};
 use prefix_text::{read_number, read_prefix, read_range};
 
 const TCP: u8 = 6;
+
 const MOST_BOXES: u32 = 20_000;
+
 const MOST_DECIMAL: u64 = 9_999_999_999;
 
 /// What was read from the words before `next`, the number of the word that comes next.

@@ -55,12 +55,7 @@ fn src_of(
 }
 
 // A packet from the internet goes to a public address, of which an interface may have several.
-fn own_goal(
-    alloc: Global,
-    n: &Network,
-    start: End,
-    goal: End,
-) -> Result<(u32, u32), QueryRefusal>
+fn own_goal(alloc: Global, n: &Network, start: End, goal: End) -> Result<(u32, u32), QueryRefusal>
     requires { IsTrue (is_end n.now goal) }
     ensures answer { Answers (own_goal n.now start goal) result }
     ensures some { IfOk result IsSide }

@@ -90,11 +90,7 @@ pub(crate) fn has_ports(proto: u8) -> bool
 fn port_limit(proto: u8) -> u64
     ensures { result ≡ port_limit proto }
 {
-    if has_ports(proto) {
-        65535
-    } else {
-        0
-    }
+    if has_ports(proto) { 65535 } else { 0 }
 }
 
 /// A port of TCP or UDP, or a number of an ICMP message; other protocols have 0 alone.

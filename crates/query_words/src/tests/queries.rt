@@ -151,7 +151,11 @@ fn refuses(rt: &impl Abort, alloc: Global, n: &Network) -> Result<(), NoMemory> 
     let cases: [(&str, &[u8], u64); 5] = [
         ("ask n.json from eni-a to eni-x", b"eni-x", 0),
         ("ask n.json from eni-a to eni-b", b"UnknownId", 6),
-        ("ask n.json from eni-a to eni-a port 90-80", b"EmptyRange", 8),
+        (
+            "ask n.json from eni-a to eni-a port 90-80",
+            b"EmptyRange",
+            8,
+        ),
         ("ask n.json from eni-a to eni-a max 0", b"MaxOutOfRange", 0),
         ("ask n.json from internet to internet", b"BothInternet", 0),
     ];
