@@ -84,16 +84,28 @@ abbrev pub TakesPairs : Type 0
 TakesPairs = AskAll
     ((codes "from eni-a to eni-b proto udp", asked (eni 0) (eni 1) 17 a_alone b_alone any_port any_port 20000)
     ∷ (codes "from eni-a to eni-b proto 50", asked (eni 0) (eni 1) 50 a_alone b_alone (0, 0) (0, 0) 20000)
-    ∷ (codes "from eni-a to eni-b proto icmp port 0-2047", asked (eni 0) (eni 1) 1 a_alone b_alone any_port (0, 2047) 20000)
-    ∷ (codes "from eni-a to eni-b src 10.0.1.9/24", asked (eni 0) (eni 1) 6 (addr_at 10 0 1 0, addr_at 10 0 1 255) b_alone any_port any_port 20000)
+    ∷ (
+      codes "from eni-a to eni-b proto icmp port 0-2047",
+      asked (eni 0) (eni 1) 1 a_alone b_alone any_port (0, 2047) 20000,
+    )
+    ∷ (
+      codes "from eni-a to eni-b src 10.0.1.9/24",
+      asked (eni 0) (eni 1) 6 (addr_at 10 0 1 0, addr_at 10 0 1 255) b_alone any_port any_port 20000,
+    )
     ∷ (codes "from eni-a to eni-b dst 0.0.0.0/0", asked (eni 0) (eni 1) 6 a_alone anywhere any_port any_port 20000)
     ∷ (codes "from eni-a to eni-b sport 0-32767", a_to_b (0, 32767) any_port 20000)
     ∷ (codes "from eni-a to eni-b port 80-80", a_to_b any_port (80, 80) 20000)
     ∷ (codes "from eni-a to eni-b max 1", a_to_b any_port any_port 1)
     ∷ (codes "from eni-a to eni-b max 20000", a_to_b any_port any_port 20000)
     ∷ (codes "from eni-a to eni-b sport 5000-5000 max 3", a_to_b (5000, 5000) any_port 3)
-    ∷ (codes "from internet to eni-a src 198.51.100.0/24 dst 203.0.113.10/32 port 22-22", asked ends.Internet (eni 0) 6 (addr_at 198 51 100 0, addr_at 198 51 100 255) (addr_at 203 0 113 10, addr_at 203 0 113 10) any_port (22, 22) 20000)
-    ∷ (codes "from eni-a to eni-b proto 17 src 10.0.2.20/32 dst 10.0.1.10/32 sport 1-2 port 3-4 max 5", asked (eni 0) (eni 1) 17 b_alone a_alone (1, 2) (3, 4) 5)
+    ∷ (
+      codes "from internet to eni-a src 198.51.100.0/24 dst 203.0.113.10/32 port 22-22",
+      asked ends.Internet (eni 0) 6 (addr_at 198 51 100 0, addr_at 198 51 100 255) (addr_at 203 0 113 10, addr_at 203 0 113 10) any_port (22, 22) 20000,
+    )
+    ∷ (
+      codes "from eni-a to eni-b proto 17 src 10.0.2.20/32 dst 10.0.1.10/32 sport 1-2 port 3-4 max 5",
+      asked (eni 0) (eni 1) 17 b_alone a_alone (1, 2) (3, 4) 5,
+    )
     ∷ [])
 
 -- the first word from the left that can't be taken, among those of the ends
@@ -122,7 +134,10 @@ RefusesNames = AskAll
     ∷ (codes "from eni-a to eni-b max 1 max 1", Err (refusals.BadWord 9))
     ∷ (codes "from eni-a to eni-b proto 50 sport 0-0", Err (refusals.BadWord 9))
     ∷ (codes "from eni-a to eni-b proto 50 port 90-80 max 0", Err (refusals.BadWord 9))
-    ∷ (codes "from eni-a to eni-b proto tcp src 10.0.0.0/8 dst 10.0.0.0/8 sport 1-1 port 1-1 more 1", Err (refusals.BadWord 17))
+    ∷ (
+      codes "from eni-a to eni-b proto tcp src 10.0.0.0/8 dst 10.0.0.0/8 sport 1-1 port 1-1 more 1",
+      Err (refusals.BadWord 17),
+    )
     ∷ [])
 
 -- a value that its pair can't have
@@ -154,7 +169,10 @@ RefusesLackOfAddresses = AskAll
     ∷ (codes "from eni-x to eni-y", Err (refusals.NoAddress (codes "eni-x")))
     ∷ (codes "from eni-x to eni-y src 10.0.1.10/32", Err (refusals.NoAddress (codes "eni-y")))
     ∷ (codes "from eni-x to eni-y dst 10.0.1.10/32", Err (refusals.NoAddress (codes "eni-x")))
-    ∷ (codes "from eni-x to eni-y src 10.0.1.10/32 dst 10.0.2.20/32", asked (eni 2) (eni 3) 6 a_alone b_alone any_port any_port 20000)
+    ∷ (
+      codes "from eni-x to eni-y src 10.0.1.10/32 dst 10.0.2.20/32",
+      asked (eni 2) (eni 3) 6 a_alone b_alone any_port any_port 20000,
+    )
     ∷ (codes "from eni-x to internet", Err (refusals.NoAddress (codes "eni-x")))
     ∷ (codes "from eni-x to eni-y port 90-80", Err (refusals.EmptyRange 8))
     ∷ (codes "from eni-x to eni-y max 1 max 1", Err (refusals.BadWord 9))

@@ -11,6 +11,7 @@ mod pairs;
 mod queries;
 mod refusal;
 mod sides;
+mod values;
 mod words;
 
 pub use events::{EventFault, read_events};

@@ -1,18 +1,14 @@
 // The pairs of a query: a name and a value each, in one order and each at most once.
 ghost use Rattle.std.specs.Prelude.{◌≡◌, ◌≤◌, ◌<◌, IfOk, IfSome, IsTrue, None, codes, length, map, string_bytes};
 ghost use Rattle.query_words.specs.Pairs.{AreTaken, IsSide, has_pair, no_more, pair_or, pairs_of, ports_pair};
-ghost use Rattle.query_words.specs.Pairs.{read_max, read_ports, read_side, some_max, some_ports};
+ghost use Rattle.query_words.specs.Pairs.{read_max, read_ports, read_side};
 ghost use Rattle.query_words.specs.Words.{proto_of, read_as};
 
 use crate::QueryRefusal;
+use crate::values::{MOST_BOXES, read_max, read_ports, read_side};
 use crate::words::{CommandWords, has_ports, read_proto, word};
-use prefix_text::{read_number, read_prefix, read_range};
 
 const TCP: u8 = 6;
-
-const MOST_BOXES: u32 = 20_000;
-
-const MOST_DECIMAL: u64 = 9_999_999_999;
 
 /// What was read from the words before `next`, the number of the word that comes next.
 #[derive(Clone, Copy)]
@@ -56,19 +52,6 @@ fn read_proto_pair(words: &[String], next: usize) -> Result<Taken<u8>, QueryRefu
     })
 }
 
-// The addresses of the block that the word gives.
-fn read_side(words: &[String], number: usize) -> Result<Option<(u32, u32)>, QueryRefusal>
-    requires first { 1 ≤ number }
-    requires last { number ≤ length words.now }
-    ensures value { result ≡ read_side (map string_bytes words.now) number }
-    ensures some { IfOk result (λ r. IfSome r IsSide) }
-{
-    match read_prefix(word(words, number).as_bytes()) {
-        Some(block) => Ok(Some((block.first(), block.last()))),
-        None => Err(QueryRefusal::BadWord(number as u64)),
-    }
-}
-
 fn read_side_pair(
     words: &[String],
     name: &[u8],
@@ -87,29 +70,6 @@ fn read_side_pair(
         value,
         next: next + 2,
     })
-}
-
-fn some_ports(number: usize, ports: (u16, u16)) -> Result<(u16, u16), QueryRefusal>
-    ensures value { result ≡ some_ports number ports }
-    ensures some { IfOk result IsSide }
-{
-    if ports.0 <= ports.1 {
-        Ok(ports)
-    } else {
-        Err(QueryRefusal::EmptyRange(number as u64))
-    }
-}
-
-fn read_ports(words: &[String], number: usize) -> Result<(u16, u16), QueryRefusal>
-    requires first { 1 ≤ number }
-    requires last { number ≤ length words.now }
-    ensures value { result ≡ read_ports (map string_bytes words.now) number }
-    ensures some { IfOk result IsSide }
-{
-    match read_range(word(words, number).as_bytes()) {
-        Some(ports) => some_ports(number, ports),
-        None => Err(QueryRefusal::BadWord(number as u64)),
-    }
 }
 
 // A protocol without ports has 0 in their places, and no words for them.
@@ -141,29 +101,6 @@ fn read_ports_pair(
         value,
         next: next + 2,
     })
-}
-
-fn some_max(max: u64) -> Result<u32, QueryRefusal>
-    ensures value { result ≡ some_max max }
-    ensures some { IfOk result (λ m. (1 ≤ m) × (m ≤ 20000)) }
-{
-    if 1 <= max && max <= u64::from(MOST_BOXES) {
-        Ok(max as u32)
-    } else {
-        Err(QueryRefusal::MaxOutOfRange)
-    }
-}
-
-fn read_max(words: &[String], number: usize) -> Result<u32, QueryRefusal>
-    requires first { 1 ≤ number }
-    requires last { number ≤ length words.now }
-    ensures value { result ≡ read_max (map string_bytes words.now) number }
-    ensures some { IfOk result (λ m. (1 ≤ m) × (m ≤ 20000)) }
-{
-    match read_number(word(words, number).as_bytes(), MOST_DECIMAL) {
-        Some(max) => some_max(max),
-        None => Err(QueryRefusal::BadWord(number as u64)),
-    }
 }
 
 fn read_max_pair(words: &[String], next: usize) -> Result<Taken<u32>, QueryRefusal>
