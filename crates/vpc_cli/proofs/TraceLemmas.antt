@@ -92,4 +92,3 @@ pub traced_if_walked : {E : Type 0} (r : Result Answer E) (d : Description) (wor
     → IfOk r (λ a. a.status ≡ traced_status d e) → IfOk r (λ a. a.text.items ≡ traced_text d e) → IfOk r (λ a. IsTraced d words a.status a.text.items)
 traced_if_walked (Ok a) d words e packet ends text_is = traces.walked e packet ends text_is
 traced_if_walked (Err x) d words e packet ends text_is = tt
-
