@@ -2,6 +2,7 @@
 //! corner, aligned to the cuts of the rows that the place asks. One file serves each section of the walk.
 #![tactic(auto)]
 
+pub mod crossing;
 mod onward;
 
 pub use onward::Onward;
