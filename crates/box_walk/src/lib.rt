@@ -2,7 +2,13 @@
 //! corner, aligned to the cuts of the rows that the place asks. One file serves each section of the walk.
 #![tactic(auto)]
 
+pub mod choosing;
 pub mod crossing;
+pub mod enter;
+pub mod internet;
 mod onward;
+pub mod peering;
+pub mod router;
+pub mod transit;
 
 pub use onward::Onward;
