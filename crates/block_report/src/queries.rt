@@ -1,5 +1,5 @@
 // Prints why words give no query or packet.
-ghost use Rattle.std.specs.Prelude.{◌≡◌, ◌++◌, OnOk, codes, decimal};
+ghost use Rattle.std.specs.Prelude.{◌≡◌, ◌++◌, OnOk, decimal};
 ghost use Rattle.block_report.specs.Queries.{query_refusal_text};
 ghost use Rattle.block_report.specs.Words.{word};
 
@@ -7,24 +7,19 @@ use crate::{put, put_number_word, put_word};
 use query_words::QueryRefusal;
 use vpc_base::NoMemory;
 
-fn put_bad_word(out: &mut Vec<u8>, number: u64) -> Result<(), NoMemory>
-    ensures { OnOk result (out.new.items ≡ out.old.items ++ (codes "BadWord" ++ word (decimal number))) }
+// A name with the number of a word.
+fn put_numbered(out: &mut Vec<u8>, name: &[u8], number: u64) -> Result<(), NoMemory>
+    ensures { OnOk result (out.new.items ≡ out.old.items ++ (name.now ++ word (decimal number))) }
 {
-    put(out, b"BadWord")?;
+    put(out, name)?;
     put_number_word(out, u128::from(number))
 }
 
-fn put_unknown_id(out: &mut Vec<u8>, number: u64) -> Result<(), NoMemory>
-    ensures { OnOk result (out.new.items ≡ out.old.items ++ (codes "UnknownId" ++ word (decimal number))) }
+// A name with the id of an interface.
+fn put_named(out: &mut Vec<u8>, name: &[u8], id: &[u8]) -> Result<(), NoMemory>
+    ensures { OnOk result (out.new.items ≡ out.old.items ++ (name.now ++ word id.now)) }
 {
-    put(out, b"UnknownId")?;
-    put_number_word(out, u128::from(number))
-}
-
-fn put_no_end(out: &mut Vec<u8>, id: &[u8]) -> Result<(), NoMemory>
-    ensures { OnOk result (out.new.items ≡ out.old.items ++ (codes "NotAnEnd" ++ word id.now)) }
-{
-    put(out, b"NotAnEnd")?;
+    put(out, name)?;
     put_word(out, id)
 }
 
@@ -33,9 +28,13 @@ pub fn put_query_refusal(out: &mut Vec<u8>, cause: &QueryRefusal) -> Result<(), 
     ensures { OnOk result (out.new.items ≡ out.old.items ++ query_refusal_text cause.now) }
 {
     match cause {
-        QueryRefusal::BadWord(number) => put_bad_word(out, *number),
-        QueryRefusal::UnknownId(number) => put_unknown_id(out, *number),
-        QueryRefusal::NotAnEnd(id) => put_no_end(out, id.bytes()),
+        QueryRefusal::BadWord(number) => put_numbered(out, b"BadWord", *number),
+        QueryRefusal::UnknownId(number) => put_numbered(out, b"UnknownId", *number),
+        QueryRefusal::NotAnEnd(id) => put_named(out, b"NotAnEnd", id.bytes()),
+        QueryRefusal::BothInternet => put(out, b"BothInternet"),
+        QueryRefusal::EmptyRange(number) => put_numbered(out, b"EmptyRange", *number),
+        QueryRefusal::MaxOutOfRange => put(out, b"MaxOutOfRange"),
+        QueryRefusal::NoAddress(id) => put_named(out, b"NoAddress", id.bytes()),
         QueryRefusal::Memory => put(out, b"want of memory"),
     }
 }

@@ -51,11 +51,20 @@ fn prints_a_cause(rt: HostRuntime) -> Result<(), Fail> {
     Ok(())
 }
 
+fn put_refused(out: &mut Vec<u8>, cause: &QueryRefusal) -> Result<(), NoMemory> {
+    put_query_refusal(out, cause)?;
+    out.push(b'\n')?;
+    Ok(())
+}
+
 #[test]
 fn prints_refused_words(rt: HostRuntime) -> Result<(), Fail> {
     let mut out = Vec::new(rt.alloc());
-    put_query_refusal(&mut out, &QueryRefusal::BadWord(3))?;
-    let text: &[u8] = b"BadWord 3";
+    put_refused(&mut out, &QueryRefusal::BadWord(3))?;
+    put_refused(&mut out, &QueryRefusal::BothInternet)?;
+    put_refused(&mut out, &QueryRefusal::EmptyRange(8))?;
+    put_refused(&mut out, &QueryRefusal::MaxOutOfRange)?;
+    let text: &[u8] = b"BadWord 3\nBothInternet\nEmptyRange 8\nMaxOutOfRange\n";
     assert_eq!(rt; out.as_slice(), text);
     Ok(())
 }

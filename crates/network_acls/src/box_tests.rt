@@ -76,7 +76,7 @@ fn verdicts_on_boxes(rt: HostRuntime) {
         (6, after_ten, 443, (false, 32767), (6, most, 32767)),
         // the rows before it are passed over to the end of the box, or to the end of their protocol
         (6, ten, 40000, (true, 110), (6, most, u16::MAX)),
-        (9, ten, 444, (false, 32767), (9, most, 32767)),
+        (9, ten, 444, (false, 32767), (6, most, 32767)),
     ];
     for (last_proto, src, q, verdict, body) in cases {
         if last_proto < 6 {

@@ -13,7 +13,7 @@ use image_tests::{block_on, far_side, rule_on};
 use vpc_base::Dir;
 use vpc_model::AclRow;
 
-// Whether a row of the direction matches.
+// Whether a row of the direction matches. One that doesn't by its block is told so of all protocols and ports.
 fn matches_on(row: &AclRow, dir: Dir, i: &Image) -> Part<bool>
     requires valid { IsValidImage i.now }
     requires walk { IsImageOfWalk i.now }
@@ -24,7 +24,12 @@ fn matches_on(row: &AclRow, dir: Dir, i: &Image) -> Part<bool>
     if !fits.told {
         return fits;
     }
-    block_on(&i.within(&fits.body), far_side(dir), &row.block)
+    let side = far_side(dir);
+    let far = block_on(i, side, &row.block);
+    if !far.told {
+        return far;
+    }
+    block_on(&i.within(&fits.body), side, &row.block)
 }
 
 /// What the first row that matches says. A row that doesn't leaves the headers up to the next edge of its

@@ -1,9 +1,8 @@
 -- Packets of lines, one after another.
-use Rattle.std.proofs.Common.{◌≡◌, ◌≢◌, ◌∙◌, ◌+◌, ◌<◌, ◌≤◌, ◌==◌, ◌++◌, ◌∷◌, [], Bool, Bor, List, None, Option, Some, Result, Ok, Err, add-one, ap, append_assoc, arith, drop, drop-cons, false, get_or, is_none, length, map, min, refl, suc, sym, take, true, zero, ℕ}
+use Rattle.std.proofs.Common.{◌≡◌, ◌≢◌, ◌∙◌, ◌+◌, ◌<◌, ◌++◌, ◌∷◌, [], Bool, Bor, List, Option, Some, Result, Err, add-one, ap, append_assoc, arith, drop, drop-cons, false, get_or, length, map, min, refl, sym, take, true, ℕ}
 use Rattle.std.proofs.Math.Seq.{take-length}
 use Rattle.std.proofs.lemmas.List.{length-take, take_min}
 use Rattle.std.specs.List.{filter_map, position_from}
-use Rattle.std.specs.Result.{result_ok}
 use Rattle.query_words.specs.Refusal.{Answers}
 use Rattle.query_words.specs.declared.refusal.QueryRefusal.{QueryRefusal}
 use Rattle.query_words.specs.declared.refusal.QueryRefusal.TheVariants as refusals
@@ -15,6 +14,10 @@ pub refused_if_told : {A : Type 0} (meant : Result A QueryRefusal) (cause : Quer
 refused_if_told meant (refusals.BadWord n) is not = is
 refused_if_told meant (refusals.UnknownId n) is not = is
 refused_if_told meant (refusals.NotAnEnd id) is not = is
+refused_if_told meant refusals.BothInternet is not = is
+refused_if_told meant (refusals.EmptyRange n) is not = is
+refused_if_told meant refusals.MaxOutOfRange is not = is
+refused_if_told meant (refusals.NoAddress id) is not = is
 refused_if_told meant refusals.Memory is not = absurd (not refl)
 
 -- ---- one line more

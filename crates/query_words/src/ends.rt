@@ -1,17 +1,17 @@
 // Where packets start and arrive.
-ghost use Rattle.std.specs.Prelude.{◌≡◌, ◌≤◌, IfOk, IsTrue, length};
+ghost use Rattle.std.specs.Prelude.{◌≡◌, ◌≤◌, IfOk, IsTrue, length, map, string_bytes};
 ghost use Rattle.vpc_model.specs.Lookup.{interface_at};
 ghost use Rattle.vpc_model.specs.Sound.{is_end, is_eni};
-ghost use Rattle.query_words.specs.Ends.{end_at, end_of};
+ghost use Rattle.query_words.specs.Ends.{AreDescribed, end_at, end_of, ends_of, not_both};
 ghost use Rattle.query_words.specs.Refusal.{Answers};
 
 use crate::QueryRefusal;
-use crate::words::PacketWords;
+use crate::words::{CommandWords, PacketWords, expect_word};
 use reference_check::Network;
 use std::alloc::Global;
 use vpc_model::{End, EniNo, Interface, InterfaceKind};
 
-fn interface_at(n: &Network, eni: EniNo) -> &Interface
+pub(crate) fn interface_at(n: &Network, eni: EniNo) -> &Interface
     requires { IsTrue (is_eni n.now eni) }
     ensures { result.now ≡ interface_at n.now eni }
 {
@@ -52,4 +52,34 @@ pub(crate) fn read_end<W: PacketWords>(
         Some(eni) => end_at(alloc, n, eni),
         None => Err(QueryRefusal::UnknownId(number as u64)),
     }
+}
+
+/// The two ends of a query.
+#[derive(Clone, Copy)]
+pub(crate) struct Ends {
+    pub start: End,
+    pub goal: End,
+}
+
+fn not_both(start: End, goal: End) -> Result<Ends, QueryRefusal>
+    ensures { result ≡ not_both start goal }
+{
+    match (start, goal) {
+        (End::Internet, End::Internet) => Err(QueryRefusal::BothInternet),
+        _ => Ok(Ends { start, goal }),
+    }
+}
+
+/// The ends that `from END to END` names, from the third word on.
+pub(crate) fn read_ends(alloc: Global, n: &Network, words: &[String]) -> Result<Ends, QueryRefusal>
+    requires { 6 ≤ length words.now }
+    ensures answer { Answers (ends_of n.now (map string_bytes words.now)) result }
+    ensures described { IfOk result (λ e. AreDescribed n.now e.start e.goal) }
+{
+    let words = &CommandWords(words);
+    expect_word(words, 3, b"from")?;
+    let start = read_end(alloc, n, words, 4)?;
+    expect_word(words, 5, b"to")?;
+    let goal = read_end(alloc, n, words, 6)?;
+    not_both(start, goal)
 }

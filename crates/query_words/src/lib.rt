@@ -1,4 +1,4 @@
-//! Packets as words of a command, and lists of packets as lines of a text.
+//! Queries and packets as words of a command, and lists of packets as lines of a text.
 //!
 //! Words are counted from 1, the command's own name included. They are read from left to right; the
 //! first one that can't be taken is the refusal.
@@ -7,11 +7,16 @@
 mod ends;
 mod events;
 mod packets;
+mod pairs;
+mod queries;
 mod refusal;
+mod sides;
+mod values;
 mod words;
 
 pub use events::{EventFault, read_events};
 pub use packets::read_packet;
+pub use queries::{Query, read_query};
 pub use refusal::QueryRefusal;
 pub use words::word;
 

@@ -17,6 +17,15 @@ pub enum QueryRefusal {
     /// The interface with this id belongs to a NAT gateway or a transit gateway, so that no packet
     /// starts or ends there.
     NotAnEnd(Id),
+    /// Both ends of a query are the internet, between whose hosts no described network stands.
+    BothInternet,
+    /// The word with this number is a range of ports whose first is greater than its last.
+    EmptyRange(u64),
+    /// The greatest number of boxes in a report isn't between 1 and 20,000.
+    MaxOutOfRange,
+    /// A side that was left out is the primary private address of this interface, which has none
+    /// (DescribeNetworkInterfaces, `PrivateIpAddress`).
+    NoAddress(Id),
     /// Memory was refused.
     Memory,
 }

@@ -1,5 +1,8 @@
 // Words of one grammar, with the limits of each, and what the words of worked commands mean.
 ghost use Rattle.query_words.specs.Worked.{RefusesPorts, RefusesWords, TakesWords};
+ghost use Rattle.query_words.specs.WorkedQueries.{RefusesEnds, RefusesLackOfAddresses, RefusesNames, RefusesValues, TakesEnds, TakesPairs};
+
+mod queries;
 
 use crate::words::{label_of, port_of, proto_of};
 use vpc_base::Label;
@@ -69,4 +72,28 @@ fn refuses_words()
 
 fn refuses_ports()
     ensures { RefusesPorts }
+{}
+
+fn takes_ends()
+    ensures { TakesEnds }
+{}
+
+fn takes_pairs()
+    ensures { TakesPairs }
+{}
+
+fn refuses_ends()
+    ensures { RefusesEnds }
+{}
+
+fn refuses_names()
+    ensures { RefusesNames }
+{}
+
+fn refuses_values()
+    ensures { RefusesValues }
+{}
+
+fn refuses_lack_of_addresses()
+    ensures { RefusesLackOfAddresses }
 {}

@@ -2,7 +2,7 @@
 ghost use Rattle.std.specs.Prelude.{◌≡◌, ◌≤◌, ◌∷◌, [], List, codes, length, map, string_bytes, ℕ};
 ghost use Rattle.prefix_text.specs.Addr.{addr_of};
 ghost use Rattle.query_words.specs.Words.{expect_word, read_as, word_at};
-ghost use Rattle.query_words.specs.Words.{label_of, port_limit, port_of, proto_of};
+ghost use Rattle.query_words.specs.Words.{has_ports, label_of, port_limit, port_of, proto_of};
 
 use crate::QueryRefusal;
 use prefix_text::{read_addr, read_number};
@@ -79,15 +79,18 @@ pub fn proto_of(word: &[u8]) -> Option<u8>
     }
 }
 
+/// Whether the protocol has ports, or numbers in their places: ICMP, TCP and UDP alone.
+pub(crate) fn has_ports(proto: u8) -> bool
+    ensures { result ≡ has_ports proto }
+{
+    proto == 1 || (proto == 6 || proto == 17)
+}
+
 // The greatest number that a protocol has in the place of a port.
 fn port_limit(proto: u8) -> u64
     ensures { result ≡ port_limit proto }
 {
-    if proto == 1 || (proto == 6 || proto == 17) {
-        65535
-    } else {
-        0
-    }
+    if has_ports(proto) { 65535 } else { 0 }
 }
 
 /// A port of TCP or UDP, or a number of an ICMP message; other protocols have 0 alone.

@@ -11,6 +11,7 @@ pub mod Runs
 pub mod Meaning
 pub mod AskingOn
 pub mod RunsOn
+pub mod Finding
 pub mod GroupsOn
 pub mod MemberCuts
 pub mod RuleCuts

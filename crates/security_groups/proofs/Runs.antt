@@ -46,26 +46,26 @@ least-ended lists members dir h last rules ends before =
     nowhere false b true = refl
     nowhere false b false = refl
 
--- they begin after it
+-- it begins after its port
+pub starts-later : (lists : List (List Run)) (members : List ℕ) (dir : Dir) (h : Header) (r : Rule) → h.q < r.q_from → allows lists members dir h r ≡ false
+starts-later lists members dir h r less = rw (lt-leb r.q_from h.q less) (nowhere (nat_le h.q r.q_to) (names lists members (far_address dir h) r) (matches_proto r.proto h.proto))
+  where
+    nowhere : (a b c : Bool) → (c && ((false && a) && b)) ≡ false
+    nowhere a b true = refl
+    nowhere a b false = refl
+
 pub least-begun : (lists : List (List Run)) (members : List ℕ) (dir : Dir) (h : Header) (all rules : List Rule) → AreBegun all h.q rules
     → least (allows lists members dir h) rules ≡ least (allows lists members dir h) all
 least-begun lists members dir h all rules are =
     let p = allows lists members dir h in
     let begun = length rules in
-    let after : least p (drop begun all) ≡ None = least-none p (drop begun all) (λ k d within. starts (get_or (drop begun all) k d) (are.later k d within)) in
+    let after : least p (drop begun all) ≡ None = least-none p (drop begun all) (λ k d within. starts-later lists members dir h (get_or (drop begun all) k d) (are.later k d within)) in
     ap (least p) are.first
     ∙ sym
     (ap (least p) (sym (take-append-drop begun all))
     ∙ least-append p (take begun all) (drop begun all)
     ∙ ap (lesser (least p (take begun all))) after
     ∙ lesser-none (least p (take begun all)))
-  where
-    nowhere : (a b c : Bool) → (c && ((false && a) && b)) ≡ false
-    nowhere a b true = refl
-    nowhere a b false = refl
-
-    starts : (r : Rule) → h.q < r.q_from → allows lists members dir h r ≡ false
-    starts r before = rw (lt-leb r.q_from h.q before) (nowhere (nat_le h.q r.q_to) (names lists members (far_address dir h) r) (matches_proto r.proto h.proto))
 
 -- the rules up to where a port parts them
 pub are-begun : (table rules seen asked : List Rule) (q begun : ℕ) → seen ≡ rules → asked ≡ rules → rules ≡ table → begun ≤ length seen

@@ -5,7 +5,7 @@ use Rattle.std.specs.List.{All, list_any}
 use Rattle.std.specs.List.Sorted.{IsNonDecreasingBy}
 use Rattle.std.proofs.lemmas.Bool.{lt-leb}
 use Rattle.std.proofs.lemmas.Bool.Decides.{nat_tests}
-use Rattle.std.proofs.lemmas.List.{get_or-drop, get_or_default, drop_all, length-drop, length-take, take-append-drop}
+use Rattle.std.proofs.lemmas.List.{get_or-drop, get_or_default, drop_all, length-drop, take-append-drop}
 use Rattle.std.proofs.lemmas.List.Elements.{All-contains, All-drop, All-head, All-tail, All-take}
 use Rattle.std.proofs.lemmas.List.Folds.{list_any-append}
 use Rattle.address_sets.specs.declared.sets.Run.{Run}
@@ -30,6 +30,7 @@ use Rattle.image_tests.specs.Tests.{cuts_of_range}
 use Rattle.security_groups.specs.declared.rules.Rule.{Rule}
 use Rattle.vpc_model.specs.Filter.{far_address, matches_proto}
 use Rattle.security_groups.proofs.OnceEach.{or_false}
+use Rattle.security_groups.proofs.Runs.{starts-later}
 use Rattle.security_groups.specs.Asking.{allows, names}
 use Rattle.security_groups.specs.Dividing.{DivideRule, DivideRules, IsLeftWith, any_allows}
 use Rattle.security_groups.specs.Tables.{AreBegun, BeginAfter, EndBy, run_of}
@@ -39,32 +40,23 @@ use Rattle.security_groups.specs.Tables.{AreBegun, BeginAfter, EndBy, run_of}
 any-parts : (p : Rule → Bool) (rules : List Rule) (n : ℕ) → list_any p rules ≡ (list_any p (take n rules) || list_any p (drop n rules))
 any-parts p rules n = ap (list_any p) (sym (take-append-drop n rules)) ∙ list_any-append p (take n rules) (drop n rules)
 
-none-of : (p : Rule → Bool) (rules : List Rule) → All (λ r. p r ≡ false) rules → list_any p rules ≡ false
+pub none-of : (p : Rule → Bool) (rules : List Rule) → All (λ r. p r ≡ false) rules → list_any p rules ≡ false
 none-of p [] all = refl
 none-of p (r ∷ rs) all =
     let fails = All-head (λ x. p x ≡ false) r rs all in
     rw fails (none-of p rs (All-tail (λ x. p x ≡ false) r rs all))
 
-first-decide : (p : Rule → Bool) (rules : List Rule) (n : ℕ) → list_any p (drop n rules) ≡ false → list_any p rules ≡ list_any p (take n rules)
+pub first-decide : (p : Rule → Bool) (rules : List Rule) (n : ℕ) → list_any p (drop n rules) ≡ false → list_any p rules ≡ list_any p (take n rules)
 first-decide p rules n none = any-parts p rules n ∙ ap (λ b. list_any p (take n rules) || b) none ∙ or_false (list_any p (take n rules))
 
 -- a run, and the runs after it
-run-parts : (p : Rule → Bool) (rules : List Rule) (k : ℕ) → list_any p (drop (64 * k) rules) ≡ (list_any p (run_of k rules) || list_any p (drop (64 * (k + 1)) rules))
+pub run-parts : (p : Rule → Bool) (rules : List Rule) (k : ℕ) → list_any p (drop (64 * k) rules) ≡ (list_any p (run_of k rules) || list_any p (drop (64 * (k + 1)) rules))
 run-parts p rules k =
     let next : 64 * k + 64 ≡ 64 * (k + 1) = omega arith in
     any-parts p (drop (64 * k) rules) 64
     ∙ ap (λ rs. list_any p (run_of k rules) || list_any p rs) (drop-drop 64 (64 * k) rules ∙ ap (λ n. drop n rules) next)
 
 -- ---- rules that can't allow a header
-
-starts-later : (lists : List (List Run)) (members : List ℕ) (dir : Dir) (h : Header) (r : Rule) → h.q < r.q_from → allows lists members dir h r ≡ false
-starts-later lists members dir h r less =
-    let fails : nat_le r.q_from h.q ≡ false = lt-leb r.q_from h.q less in
-    rw fails (nowhere (nat_le h.q r.q_to) (names lists members (far_address dir h) r) (matches_proto r.proto h.proto))
-  where
-    nowhere : (a b c : Bool) → (c && ((false && a) && b)) ≡ false
-    nowhere a b true = refl
-    nowhere a b false = refl
 
 ended-before : (lists : List (List Run)) (members : List ℕ) (dir : Dir) (h : Header) (r : Rule) → r.q_to < h.q → allows lists members dir h r ≡ false
 ended-before lists members dir h r less =
@@ -127,14 +119,6 @@ left-before lists members dir rules begun i next x valid within is ascend later 
         let same = ap (λ (r : Rule). r.q_from) at in
         let here = below h t in
         starts-later lists members dir (header_at i h) (get_or (drop begun rules) n d) (omega arith)
-
--- ---- a rule of a run
-
-pub run-within : (rules : List Rule) (k j : ℕ) → j < length (run_of k rules) → 64 * k + j < length rules
-run-within rules k j below =
-    let cut = length-take 64 (drop (64 * k) rules) in
-    let left = length-drop (64 * k) rules in
-    omega arith
 
 -- ---- what is left of an image after some runs
 

@@ -1,6 +1,6 @@
 -- The cuts that divide enough for what rules of groups ask.
 use Rattle.std.specs.List.{list_any}
-use Rattle.std.specs.Prelude.{◌||◌, [], All, ◌≡◌, Bool, List, None, slice_index_or, true, ℕ}
+use Rattle.std.specs.Prelude.{◌||◌, ◌<◌, [], All, ◌≡◌, Bool, List, None, Option, Some, false, length, slice_index_or, true, ℕ}
 use Rattle.address_sets.specs.Runs.{is_in}
 use Rattle.address_sets.specs.declared.sets.Run.{Run}
 use Rattle.box_images.specs.Answers.{Answers, Reduces}
@@ -39,6 +39,11 @@ DivideRules lists members rules cuts = All (λ r. DivideRule lists members r cut
 -- the rule of a number, from 0; past the last one, a rule without ports
 abbrev pub rule_at : List Rule → ℕ → Rule
 rule_at rules k = slice_index_or rules k (record { number = 0; proto = None; q_from = 1; q_to = 0; blocks = []; lists = []; groups = [] })
+
+-- the number of a rule that passes the test, or none where no rule does
+abbrev pub FindsOne : (Rule → Bool) → List Rule → Option ℕ → Type 0
+FindsOne test rules None = list_any test rules ≡ false
+FindsOne test rules (Some k) = (k < length rules) × (test (rule_at rules k) ≡ true)
 
 -- one of the rules allows the packet
 abbrev pub any_allows : List (List Run) → List ℕ → Dir → List Rule → Header → Bool

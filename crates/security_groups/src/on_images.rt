@@ -132,7 +132,8 @@ fn names_on(
     listed_on(lists, members, rule, side, &i.within(&block.body))
 }
 
-/// Whether a rule allows the headers of an image.
+/// Whether a rule allows the headers of an image. One that doesn't name the address is told so of all
+/// protocols and ports.
 pub fn allows_on(
     lists: &[AddressSet],
     members: &NumberSet,
@@ -149,5 +150,10 @@ pub fn allows_on(
     if !fits.told {
         return fits;
     }
-    names_on(lists, members, rule, far_side(dir), &i.within(&fits.body))
+    let side = far_side(dir);
+    let named = names_on(lists, members, rule, side, i);
+    if !named.told {
+        return named;
+    }
+    names_on(lists, members, rule, side, &i.within(&fits.body))
 }

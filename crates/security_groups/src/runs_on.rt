@@ -1,12 +1,13 @@
 // Whether one of some rules allows the headers of an image.
-ghost use Rattle.std.specs.Prelude.{◌≡◌, ◌≤◌, ◌<◌, IfSome, List, length, take, true, ℕ};
+ghost use Rattle.std.specs.Prelude.{◌≡◌, ◌≤◌, List, length, take, true, ℕ};
+ghost use Rattle.security_groups.specs.Asking.{allows};
 ghost use Rattle.std.specs.List.Sorted.{IsNonDecreasingBy};
 ghost use Rattle.address_sets.specs.declared.sets.Run.{Run};
 ghost use Rattle.box_images.specs.Answers.{Answers};
 ghost use Rattle.box_images.specs.Images.{IsImageOfWalk, IsValidImage, header_at};
 ghost use Rattle.header_boxes.specs.Boxes.{holds, low_of};
 ghost use Rattle.vpc_base.specs.declared.headers.Header.{Header};
-ghost use Rattle.security_groups.specs.Dividing.{DivideRules, IsLeftWith, any_allows};
+ghost use Rattle.security_groups.specs.Dividing.{DivideRules, FindsOne, IsLeftWith, any_allows};
 ghost use Rattle.security_groups.specs.Tables.{AreLasts, BeginAfter};
 
 use crate::asking::allows;
@@ -110,7 +111,7 @@ fn allowing_in(
     dir: Dir,
     h: &Header,
 ) -> Option<usize>
-    ensures { IfSome result (λ k. k < length rules.now) }
+    ensures { FindsOne (allows lists.now members.now dir h.now) rules.now result }
 {
     for (k, rule) in rules.iter().enumerate() {
         if allows(lists, members, rule, dir, h) {
@@ -130,7 +131,7 @@ pub fn allowing_in_runs(
     h: &Header,
 ) -> Option<usize>
     requires { AreLasts rules.now lasts.now }
-    ensures { IfSome result (λ k. k < length rules.now) }
+    ensures { FindsOne (allows lists.now members.now dir h.now) rules.now result }
 {
     for (k, last) in lasts.iter().enumerate() {
         if h.q <= *last {

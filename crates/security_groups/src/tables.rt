@@ -128,10 +128,9 @@ impl Model for RuleTable {
 }
 
 impl RuleTable {
-    ghost use Rattle.std.specs.Prelude.{IfSome};
     ghost use Rattle.box_images.specs.Answers.{Answers};
     ghost use Rattle.box_images.specs.Images.{IsImageOfWalk, IsValidImage, header_at};
-    ghost use Rattle.security_groups.specs.Dividing.{DivideRules, any_allows, rule_at};
+    ghost use Rattle.security_groups.specs.Dividing.{DivideRules, FindsOne, any_allows, rule_at};
 
     /// The table of some rules, in any order. It takes time n log n.
     pub fn of(alloc: Global, mut rules: Vec<Rule>) -> Result<RuleTable, AllocError>
@@ -176,7 +175,7 @@ impl RuleTable {
         dir: Dir,
         h: &Header,
     ) -> Option<usize>
-        ensures { IfSome result (λ k. k < length self.now) }
+        ensures { FindsOne (allows lists.now members.now dir h.now) self.now result }
     {
         let (rules, lasts) = self.begun(h.q);
         allowing_in_runs(lists, members, rules, lasts, dir, h)

@@ -93,9 +93,3 @@ pub traced_if_walked : {E : Type 0} (r : Result Answer E) (d : Description) (wor
 traced_if_walked (Ok a) d words e packet ends text_is = traces.walked e packet ends text_is
 traced_if_walked (Err x) d words e packet ends text_is = tt
 
--- a refusal that was told is meant, unless memory was wanting
-pub refused_if_told : {A : Type 0} (meant : Result A QueryRefusal) (cause : QueryRefusal) → Answers meant (Err cause) → cause ≢ refusals.Memory → meant ≡ Err cause
-refused_if_told meant (refusals.BadWord n) is not = is
-refused_if_told meant (refusals.UnknownId n) is not = is
-refused_if_told meant (refusals.NotAnEnd id) is not = is
-refused_if_told meant refusals.Memory is not = absurd (not refl)

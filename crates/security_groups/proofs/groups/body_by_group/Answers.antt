@@ -15,4 +15,4 @@ returns-then-allowed c =
     let x = c.one_allows_on-allowed.result in
     subst (λ (rs : List Rule). Answers (DivideRules lists members rs) (λ h. any_allows lists members dir rs (header_at i h)) i.part (record { body = x.body; told = true }))
     (rules-found c.args.groups.now dir c.args.group c.index-groups-group.result c.rules_of-rules.result.now (omega arith) c.index-groups-group.is c.rules_of-rules.ensures)
-    (one-allows lists members dir c.rules_of-rules.result.now c.in_ok-number.number i x c.in_ok-number.ensures c.if-allowed.true c.one_allows_on-allowed.ensures)
+    (one-allows lists members dir c.rules_of-rules.result.now c.in_ok-number.number i x c.in_ok-number.ensures.0 c.if-allowed.true c.one_allows_on-allowed.ensures)

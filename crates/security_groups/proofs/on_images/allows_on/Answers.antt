@@ -1,4 +1,5 @@
-use Rattle.std.proofs.Common.{[], Bool, ap, subst}
+use Rattle.std.proofs.Common.{◌&&◌, [], Bool, ap, subst, ◌≡◌, not, true, false, refl}
+use Rattle.std.proofs.Math.Bool.{and_comm}
 use Rattle.vpc_base.specs.declared.headers.Header.{Header}
 use Rattle.box_images.specs.Answers.{Answers}
 use Rattle.box_images.specs.Fields.{number_of}
@@ -25,11 +26,32 @@ returns-then-not-fits c =
     (answers_refused enough fits far i.part x c.if-not-fits.true
     (answers_more (Divide (cuts_of_rule r.proto r.q_from r.q_to [])) enough fits i.part x (λ cuts d. d.rule) c.rule_on-fits.ensures))
 
+fails : (b : Bool) → not b ≡ true → b ≡ false
+fails true e = absurd (let g : false ≡ true = e in cc)
+fails false e = refl
+
+pub returns-then-not-named : goal.returns-then-not-named
+returns-then-not-named c =
+    let i = c.args.i.now in
+    let r = c.args.rule.now in
+    let s = c.far_side-side.result in
+    let lists = c.args.lists.now in
+    let members = c.args.members.now in
+    let x = c.names_on-named.result in
+    let enough = DivideRule lists members r in
+    let fits : Header → Bool = λ h. fits_rule r.proto r.q_from r.q_to (header_at i h) in
+    let far : Header → Bool = λ h. names lists members (far_address c.args.dir (header_at i h)) r in
+    let at : Header → Bool = λ h. names lists members (number_of (header_at i h) s) r in
+    answers_rule enough r.proto r.q_from r.q_to i far i.part x
+    (answers_same enough (λ h. far h && fits h) (λ h. fits h && far h) i.part x (λ h. and_comm (far h) (fits h))
+    (answers_refused enough far fits i.part x (fails x.told c.if-not-named.true)
+    (answers_same enough at far i.part x (λ h. ap (λ a. names lists members a r) (c.far_side-side.ensures.far (header_at i h))) c.names_on-named.ensures)))
+
 pub returns : goal.returns
 returns c =
     let i = c.args.i.now in
     let r = c.args.rule.now in
-    let s = c.far_side.result in
+    let s = c.far_side-side.result in
     let lists = c.args.lists.now in
     let members = c.args.members.now in
     let x = c.rule_on-fits.result in
@@ -42,4 +64,4 @@ returns c =
     answers_rule enough r.proto r.q_from r.q_to i far i.part y
     (answers_both enough fits far i.part x y c.if-not-fits.false
     (answers_more (Divide (cuts_of_rule r.proto r.q_from r.q_to [])) enough fits i.part x (λ cuts d. d.rule) c.rule_on-fits.ensures)
-    (answers_same enough at far x.body y (λ h. ap (λ a. names lists members a r) (c.far_side.ensures.far (header_at i h))) later))
+    (answers_same enough at far x.body y (λ h. ap (λ a. names lists members a r) (c.far_side-side.ensures.far (header_at i h))) later))

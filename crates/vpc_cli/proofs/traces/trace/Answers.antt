@@ -2,7 +2,8 @@ use Rattle.std.proofs.Common.{map, string_bytes}
 use Rattle.query_words.specs.Packet.{packet_of}
 use Rattle.vpc_cli.specs.Traced as traces
 use Rattle.vpc_cli.proofs.AnswerLemmas.{if_ok_two}
-use Rattle.vpc_cli.proofs.TraceLemmas.{refused_if_told, traced_if_walked}
+use Rattle.query_words.proofs.EventLemmas.{refused_if_told}
+use Rattle.vpc_cli.proofs.TraceLemmas.{traced_if_walked}
 use Rattle.vpc_cli.proofs.traces.trace.Goals as goal
 
 pub returns-in-Ok : goal.returns-in-Ok

@@ -1,4 +1,3 @@
-use Rattle.std.proofs.Common.{length}
 use Rattle.query_words.proofs.WordLemmas.{word_at-line}
 use Rattle.query_words.proofs.words.LineWordsPacketWords.word.Goals as goal
 

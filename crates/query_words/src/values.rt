@@ -1,0 +1,73 @@
+// The values of a query's pairs.
+ghost use Rattle.std.specs.Prelude.{◌≡◌, ◌≤◌, IfOk, IfSome, length, map, string_bytes};
+ghost use Rattle.query_words.specs.Pairs.{IsSide, read_max, read_ports, read_side, some_max, some_ports};
+
+use crate::QueryRefusal;
+use crate::words::word;
+use prefix_text::{read_number, read_prefix, read_range};
+
+/// How many boxes a report may have at most.
+pub(crate) const MOST_BOXES: u32 = 20_000;
+
+const MOST_DECIMAL: u64 = 9_999_999_999;
+
+/// The addresses of the block that the word gives.
+pub(crate) fn read_side(words: &[String], number: usize) -> Result<Option<(u32, u32)>, QueryRefusal>
+    requires first { 1 ≤ number }
+    requires last { number ≤ length words.now }
+    ensures value { result ≡ read_side (map string_bytes words.now) number }
+    ensures some { IfOk result (λ r. IfSome r IsSide) }
+{
+    match read_prefix(word(words, number).as_bytes()) {
+        Some(block) => Ok(Some((block.first(), block.last()))),
+        None => Err(QueryRefusal::BadWord(number as u64)),
+    }
+}
+
+fn some_ports(number: usize, ports: (u16, u16)) -> Result<(u16, u16), QueryRefusal>
+    ensures value { result ≡ some_ports number ports }
+    ensures some { IfOk result IsSide }
+{
+    if ports.0 <= ports.1 {
+        Ok(ports)
+    } else {
+        Err(QueryRefusal::EmptyRange(number as u64))
+    }
+}
+
+/// A range of ports that isn't empty.
+pub(crate) fn read_ports(words: &[String], number: usize) -> Result<(u16, u16), QueryRefusal>
+    requires first { 1 ≤ number }
+    requires last { number ≤ length words.now }
+    ensures value { result ≡ read_ports (map string_bytes words.now) number }
+    ensures some { IfOk result IsSide }
+{
+    match read_range(word(words, number).as_bytes()) {
+        Some(ports) => some_ports(number, ports),
+        None => Err(QueryRefusal::BadWord(number as u64)),
+    }
+}
+
+fn some_max(max: u64) -> Result<u32, QueryRefusal>
+    ensures value { result ≡ some_max max }
+    ensures some { IfOk result (λ m. (1 ≤ m) × (m ≤ 20000)) }
+{
+    if 1 <= max && max <= u64::from(MOST_BOXES) {
+        Ok(max as u32)
+    } else {
+        Err(QueryRefusal::MaxOutOfRange)
+    }
+}
+
+/// How many boxes a report may have.
+pub(crate) fn read_max(words: &[String], number: usize) -> Result<u32, QueryRefusal>
+    requires first { 1 ≤ number }
+    requires last { number ≤ length words.now }
+    ensures value { result ≡ read_max (map string_bytes words.now) number }
+    ensures some { IfOk result (λ m. (1 ≤ m) × (m ≤ 20000)) }
+{
+    match read_number(word(words, number).as_bytes(), MOST_DECIMAL) {
+        Some(max) => some_max(max),
+        None => Err(QueryRefusal::BadWord(number as u64)),
+    }
+}

@@ -1,0 +1,7 @@
+use Rattle.std.proofs.Common.{◌≡◌, ◌*◌, drop}
+use Rattle.std.specs.List.{list_any}
+use Rattle.security_groups.specs.Asking.{allows}
+use Rattle.security_groups.proofs.runs_on.allowing_in_runs.Given as goal
+
+abbrev pub invariant-loop-k : goal.invariant-loop-k
+invariant-loop-k l = list_any (allows l.lists l.members l.dir l.h) (drop (64 * l.k) l.rules) ≡ list_any (allows l.lists l.members l.dir l.h) l.rules
