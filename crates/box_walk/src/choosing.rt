@@ -35,8 +35,8 @@ fn search_on<L: Ledger>(blank: Blank, index: &RouteIndex, i: &Image) -> Part<Opt
     index.choose_on(i, &mut steps)
 }
 
-/// The number of the route that the table of a subnet chooses, in whatever way the packet came to its
-/// router.
+/// The number of the route that the table of a subnet chooses, in whatever way the packets came to
+/// its router.
 pub fn route_on(f: &Fabric, s: SubnetNo, i: &Image) -> Part<Option<u32>>
     requires subnet { IsTrue (is_subnet f.now s) }
     requires valid { IsValidImage i.now }
@@ -51,12 +51,7 @@ pub fn route_on(f: &Fabric, s: SubnetNo, i: &Image) -> Part<Option<u32>>
     search_on::<Brand>(Blank::new(1), f.routes(t), i)
 }
 
-fn tgw_search_on<L: Ledger>(
-    blank: Blank,
-    f: &Fabric,
-    t: TgwTableNo,
-    i: &Image,
-) -> Part<Option<u32>>
+fn tgw_search_on<L: Ledger>(blank: Blank, f: &Fabric, t: TgwTableNo, i: &Image) -> Part<Option<u32>>
     requires name { blank.name ≡ L.name }
     requires parts { blank.parts ≡ L.parts }
     requires some { 0 < blank.parts }
@@ -70,7 +65,7 @@ fn tgw_search_on<L: Ledger>(
     f.transit().choose_on(t, i, &mut steps)
 }
 
-/// The number of the route that a transit gateway table chooses, which is that of an attachment.
+/// The number of the route that the table of a transit gateway attachment chooses.
 pub fn tgw_route_on(f: &Fabric, a: AttNo, t: TgwTableNo, i: &Image) -> Part<Option<u32>>
     requires table { IsTrue (is_tgw_table f.now t) }
     requires own { table_of_attachment f.now a ≡ Some t }

@@ -55,12 +55,14 @@ fn refused_in(f: &Fabric, s: SubnetNo, verdict: (bool, u16)) -> Option<Stop>
     }
 }
 
-/// The stop of headers that leave the subnet, where its ACL refuses them (VPC User Guide, "Network ACLs").
+/// The stop of headers that leave the subnet, where its ACL refuses them (VPC User Guide, "Network
+/// ACLs").
 pub fn leaving_on(f: &Fabric, s: SubnetNo, i: &Image) -> Part<Option<Stop>>
     requires subnet { IsTrue (is_subnet f.now s) }
     requires valid { IsValidImage i.now }
     requires walk { IsImageOfWalk i.now }
-    ensures { Answers (Standing f.now) (λ h. model.leaving f.now s (header_at i.now h)) i.now.part result }
+    ensures { Answers (Standing f.now)
+        (λ h. model.leaving f.now s (header_at i.now h)) i.now.part result }
 {
     let verdict = verdict_on(f, s, Dir::Outward, i);
     Part {
@@ -74,7 +76,8 @@ pub fn entering_on(f: &Fabric, s: SubnetNo, i: &Image) -> Part<Option<Stop>>
     requires subnet { IsTrue (is_subnet f.now s) }
     requires valid { IsValidImage i.now }
     requires walk { IsImageOfWalk i.now }
-    ensures { Answers (Standing f.now) (λ h. model.entering f.now s (header_at i.now h)) i.now.part result }
+    ensures { Answers (Standing f.now)
+        (λ h. model.entering f.now s (header_at i.now h)) i.now.part result }
 {
     let verdict = verdict_on(f, s, Dir::Inward, i);
     Part {
@@ -83,8 +86,8 @@ pub fn entering_on(f: &Fabric, s: SubnetNo, i: &Image) -> Part<Option<Stop>>
     }
 }
 
-/// The stop of headers that leave one subnet and enter another. Both ACLs are asked, even if the two
-/// subnets are one.
+/// The stop of headers that leave one subnet and enter another. Both ACLs are asked, even if the
+/// two subnets are one.
 pub fn between_on(f: &Fabric, s: SubnetNo, t: SubnetNo, i: &Image) -> Part<Option<Stop>>
     requires from { IsTrue (is_subnet f.now s) }
     requires to { IsTrue (is_subnet f.now t) }
@@ -106,7 +109,8 @@ pub fn crossing_on(f: &Fabric, s: SubnetNo, t: SubnetNo, i: &Image) -> Part<Opti
     requires to { IsTrue (is_subnet f.now t) }
     requires valid { IsValidImage i.now }
     requires walk { IsImageOfWalk i.now }
-    ensures { Answers (Standing f.now) (λ h. model.crossing f.now s t (header_at i.now h)) i.now.part result }
+    ensures { Answers (Standing f.now)
+        (λ h. model.crossing f.now s t (header_at i.now h)) i.now.part result }
 {
     if s.0 == t.0 {
         return Part {
@@ -120,8 +124,9 @@ pub fn crossing_on(f: &Fabric, s: SubnetNo, t: SubnetNo, i: &Image) -> Part<Opti
 /// Into an interface, unless it belongs to a gateway and so hosts nothing.
 pub fn into_host(f: &Fabric, e: EniNo) -> Onward
     requires { IsTrue (is_eni f.now e) }
-    ensures { (h : Header) → let row = rows.interface_at f.now e in onward_of (if model.is_gateway row.kind
-        then stop (stops.NotAHost e) else go (places.Into e) h) ≡ result }
+    ensures { (h : Header) → let row = rows.interface_at f.now e in
+        onward_of (if model.is_gateway row.kind then stop (stops.NotAHost e) else go (places.Into e) h)
+        ≡ result }
 {
     match interface_at(f, e).kind {
         InterfaceKind::Host => Onward::Go(Place::Into(e)),
@@ -129,8 +134,8 @@ pub fn into_host(f: &Fabric, e: EniNo) -> Onward
     }
 }
 
-/// Headers are delivered to an interface, or to the NAT gateway whose interface it is. Which of them
-/// doesn't depend on the header.
+/// Headers are delivered to an interface, or to the NAT gateway whose interface it is. All of them
+/// come to the same place.
 pub fn deliver_to(f: &Fabric, e: EniNo) -> Onward
     requires { IsTrue (is_eni f.now e) }
     ensures { (h : Header) → onward_of (model.deliver f.now e h) ≡ result }

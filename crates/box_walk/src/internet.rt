@@ -20,8 +20,8 @@ use vpc_model::{End, Place, Stop, VpcNo};
 // To the gateway of the VPC that has the destination, if one has it.
 fn to_owner(f: &Fabric, owner: Option<(VpcNo, u32)>) -> Onward
     requires { IfSome owner (λ o. IsTrue (is_vpc f.now o.0)) }
-    ensures { (h : Header) → onward_of (model.to_owner f.now h (option_map (λ (o : VpcNo × ℕ). o.0) owner))
-        ≡ result }
+    ensures { (h : Header) →
+        onward_of (model.to_owner f.now h (option_map (λ (o : VpcNo × ℕ). o.0) owner)) ≡ result }
 {
     let Some((v, _)) = owner else {
         return Onward::Arrive(End::Internet);
@@ -32,8 +32,8 @@ fn to_owner(f: &Fabric, owner: Option<(VpcNo, u32)>) -> Onward
     }
 }
 
-/// On the internet: to the gateway of the VPC that has the public address, else arrived. It carries no
-/// packet from or to an unroutable address.
+/// On the internet: to the gateway of the VPC that has the public address, else arrived. It carries
+/// no packet from or to an unroutable address.
 pub fn internet_on(f: &Fabric, i: &Image) -> Part<Onward>
     requires valid { IsValidImage i.now }
     requires walk { IsImageOfWalk i.now }

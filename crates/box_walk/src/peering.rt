@@ -39,8 +39,8 @@ fn after_carry(x: PeerNo, other: VpcNo, carry: Carry) -> Onward
     }
 }
 
-/// Over a peering: from a block of the one VPC to a block of the other, and no further (VPC Peering Guide,
-/// "Unsupported VPC peering configurations").
+/// Over a peering: from a block of the one VPC to a block of the other, and no further (VPC Peering
+/// Guide, "Unsupported VPC peering configurations").
 pub fn peer_on(f: &Fabric, x: PeerNo, v: VpcNo, i: &Image) -> Part<Onward>
     requires sound { IsTrue (is_sound f.now (places.Peer x v)) }
     requires valid { IsValidImage i.now }

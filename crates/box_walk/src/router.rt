@@ -21,13 +21,7 @@ use vpc_model::{
 };
 
 /// A local route: to the interface that has the destination.
-pub fn to_host_on(
-    f: &Fabric,
-    s: SubnetNo,
-    i: &Image,
-    host: Option<EniNo>,
-    v: VpcNo,
-) -> Part<Onward>
+pub fn to_host_on(f: &Fabric, s: SubnetNo, i: &Image, host: Option<EniNo>, v: VpcNo) -> Part<Onward>
     requires subnet { IsTrue (is_subnet f.now s) }
     requires vpc { v ≡ vpc_of_subnet f.now s }
     requires host { IfSome host (λ e. IsTrue (is_eni f.now e)) }
@@ -157,7 +151,8 @@ pub fn to_transit_on(
     requires valid { IsValidImage i.now }
     requires walk { IsImageOfWalk i.now }
     ensures { let attached = attachment_for f.now gateway.now s in Answers (Standing f.now)
-        (λ h. onward_of (model.to_transit f.now s (header_at i.now h) t k attached)) i.now.part result }
+        (λ h. onward_of (model.to_transit f.now s (header_at i.now h) t k attached))
+        i.now.part result }
 {
     let _ = f.network().description();
     match f.transit().enter(gateway.bytes(), s) {

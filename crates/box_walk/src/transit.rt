@@ -55,8 +55,10 @@ pub fn tgw_on(f: &Fabric, a: AttNo, entered: SubnetNo, i: &Image) -> Part<Onward
     requires attachment { IsTrue (is_attachment f.now a) }
     requires valid { IsValidImage i.now }
     requires walk { IsImageOfWalk i.now }
-    ensures { let table = table_of_attachment f.now a in Answers (AtPlace f.now (places.Tgw a entered))
-        (λ h. onward_of (by_tgw_table f.now a entered (header_at i.now h) table)) i.now.part result }
+    ensures { let table = table_of_attachment f.now a in
+        Answers (AtPlace f.now (places.Tgw a entered))
+        (λ h. onward_of (by_tgw_table f.now a entered (header_at i.now h) table))
+        i.now.part result }
 {
     let _ = f.network().description();
     let Some(t) = f.transit().table_of(a) else {
@@ -69,8 +71,8 @@ pub fn tgw_on(f: &Fabric, a: AttNo, entered: SubnetNo, i: &Image) -> Part<Onward
     }
 }
 
-/// Out of a transit gateway, to the router of the subnet by which packets leave. Which one doesn't
-/// depend on the header.
+/// Out of a transit gateway, to the router of the subnet by which packets leave. All of them come to
+/// the same place.
 pub fn tgw_leave_to(f: &Fabric, a: AttNo, entered: SubnetNo) -> Onward
     requires attachment { IsTrue (is_attachment f.now a) }
     requires subnet { IsTrue (is_subnet f.now entered) }
