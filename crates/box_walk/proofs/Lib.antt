@@ -1,0 +1,6 @@
+pub mod Telling
+pub mod AclAnswers
+pub mod Going
+pub mod RouteAnswers
+pub mod EdgeAnswers
+pub mod TargetAnswers
