@@ -1,0 +1,4 @@
+pub mod Boxes
+pub mod Stops
+pub mod Lines
+pub mod Reports

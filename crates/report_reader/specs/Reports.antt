@@ -1,0 +1,92 @@
+-- What a text says as a report, or the first line that is not in the grammar.
+use Rattle.std.specs.List.{slice_split}
+use Rattle.std.specs.Prelude.{◌==◌, ◌≡◌, ◌&&◌, ◌+◌, ◌-◌, ◌++◌, ◌∷◌, [], if◌then◌else◌, Bool, Err, List, None, Ok, Option, Result, Some, bytes_eq, codes, drop, length, nat_lt, ok_or, option_and_then, slice_get, slice_index_or, take, ℕ}
+use Rattle.vpc_laws.specs.Types.{Box5, Description, End, Row, StopText}
+use Rattle.report_reader.specs.declared.report.Report.{Report}
+use Rattle.report_reader.specs.declared.report.ReportFault.{ReportFault}
+use Rattle.report_reader.specs.declared.report.ReportFault.TheVariants as faults
+use Rattle.report_reader.specs.Lines.{is_end_line, query_of, row_of, sides_of}
+
+-- ---- lines
+
+-- what stands between newlines, before the first and after the last
+abbrev pub pieces_of : List ℕ → List (List ℕ)
+pieces_of text = slice_split (λ c. c == 10) text
+
+-- the lines, each of which ends with a newline
+abbrev pub lines_of : List ℕ → List (List ℕ)
+lines_of text = take (length (pieces_of text) - 1) (pieces_of text)
+
+-- the text ends with a newline
+abbrev pub is_ended : List ℕ → Bool
+is_ended text = length (slice_index_or (pieces_of text) (length (pieces_of text) - 1) []) == 0
+
+-- ---- rows
+
+-- the rows that a report may have
+abbrev pub row_limit : ℕ
+row_limit = 20000
+
+-- what a line says where a row may stand, after so many rows: the row, or none where the report ends here
+abbrev pub row_or_end : ℕ → Bool → List ℕ → Option (Row StopText) → Result (Option (Row StopText)) ReportFault
+row_or_end count last line (Some row) =
+    if nat_lt count row_limit then Ok (Some row) else Err (faults.TooManyBoxes (count + 4))
+row_or_end count last line None =
+    if is_end_line count line then (if last then Ok None else Err (faults.BadLine (count + 5)))
+    else Err (faults.BadLine (count + 4))
+
+-- the row after so many others, on the line after the first three and theirs
+abbrev pub next_row : Box5 → ℕ → Bool → List ℕ → Result (Option (Row StopText)) ReportFault
+next_row whole count last line = row_or_end count last line (row_of whole (count + 1) line)
+
+-- a row before the others, unless the report ends here
+abbrev pub row_before : {A E : Type 0} → Result (Option A) E → Result (List A) E → Result (List A) E
+row_before (Ok (Some row)) (Ok rows) = Ok (row ∷ rows)
+row_before (Ok (Some row)) (Err fault) = Err fault
+row_before (Ok None) rows = Ok []
+row_before (Err fault) rows = Err fault
+
+-- the rows after so many others; the line after the last one is the report's last
+abbrev pub rows_from : Box5 → Bool → ℕ → List (List ℕ) → Result (List (Row StopText)) ReportFault
+rows_from whole ended count [] = Err (faults.BadLine (count + 4))
+rows_from whole ended count (line ∷ lines) =
+    row_before (next_row whole count ((length lines == 0) && ended) line) (rows_from whole ended (count + 1) lines)
+
+-- ---- reports
+
+-- what is read after something that was read; the first fault is the answer
+infixl 10 ◌>>=◌
+abbrev pub ◌>>=◌ : {A B : Type 0} → Result A ReportFault → (A → Result B ReportFault) → Result B ReportFault
+(Ok a) >>= next = next a
+(Err fault) >>= next = Err fault
+
+-- the first line
+abbrev pub version_of : List ℕ → Option (Unit {0})
+version_of line = if bytes_eq line (codes "vpc-report 1") then Some tt else None
+
+-- the line with this number by its grammar; a line that isn't there is a bad one
+abbrev pub line_as : {A : Type 0} → (List ℕ → Option A) → List (List ℕ) → ℕ → Result A ReportFault
+line_as grammar lines number =
+    ok_or (option_and_then grammar (slice_get lines (number - 1))) (faults.BadLine number)
+
+-- the report of these lines, and whether the text ends with the last of them
+abbrev pub report_in : Description → List (List ℕ) → Bool → Result Report ReportFault
+report_in d lines ended = do
+  version ← line_as version_of lines 1
+  ends ← line_as (query_of d) lines 2
+  sides ← line_as sides_of lines 3
+  rows ← rows_from sides ended 0 (drop 3 lines)
+  Ok (record { start = ends.0; goal = ends.1; sides = sides; rows = rows })
+
+-- the report that a text says, or the first line that is not in the grammar
+abbrev pub report_of_text : Description → List ℕ → Result Report ReportFault
+report_of_text d text = report_in d (lines_of text) (is_ended text)
+
+-- ---- answers
+
+-- what is meant, or memory was wanting
+abbrev pub IsRead : {A : Type 0} → Result A ReportFault → Result A ReportFault → Type 0
+IsRead meant (Ok value) = meant ≡ Ok value
+IsRead meant (Err (faults.BadLine number)) = meant ≡ Err (faults.BadLine number)
+IsRead meant (Err (faults.TooManyBoxes number)) = meant ≡ Err (faults.TooManyBoxes number)
+IsRead meant (Err faults.Memory) = Unit {0}
