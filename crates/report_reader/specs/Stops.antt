@@ -33,11 +33,22 @@ name_spelled word = find (λ name. bytes_eq (name_text name) word) all_names
 abbrev pub id_of : List ℕ → Option (List ℕ)
 id_of word = if is_id word then Some word else None
 
+-- ID RULE
+abbrev pub ids_of : List ℕ → List ℕ → Option (List ℕ × List ℕ)
+ids_of id rule = do
+  id ← id_of id
+  rule ← id_of rule
+  Some (id, rule)
+
+-- what is told in a phase by a name, with its ID RULE
+abbrev pub told_by : Phase → StopName → List ℕ → List ℕ → Option StopText
+told_by phase name id rule = do
+  ids ← ids_of id rule
+  Some (record { phase = phase; name = name; id = ids.0; rule = ids.1 })
+
 -- PHASE NAME ID RULE
 abbrev pub told_of : List ℕ → List ℕ → List ℕ → List ℕ → Option StopText
 told_of phase name id rule = do
   phase ← phase_of phase
   name ← name_spelled name
-  id ← id_of id
-  rule ← id_of rule
-  Some (record { phase = phase; name = name; id = id; rule = rule })
+  told_by phase name id rule

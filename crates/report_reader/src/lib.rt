@@ -4,11 +4,14 @@
 //! the end, each on a line of its own.
 #![tactic(auto)]
 
+mod boxes;
 mod components;
 mod names;
 mod report;
 mod rows;
 mod stops;
+mod told;
+mod words;
 
 pub use report::{Report, ReportFault};
 pub use stops::same_text;
