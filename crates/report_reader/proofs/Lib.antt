@@ -1,1 +1,4 @@
 pub mod Spelling
+pub mod WordLemmas
+pub mod Found
+pub mod RowLemmas

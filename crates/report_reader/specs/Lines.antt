@@ -1,12 +1,23 @@
--- The lines of a report, each read by its own grammar.
+-- The lines of a report, each read from its words by a grammar of its own.
 use Rattle.std.specs.Prelude.{◌==◌, ◌&&◌, ◌++◌, ◌∷◌, [], if◌then◌else◌, Bool, List, None, Option, Some, bytes_eq, codes, decimal, false, length, true, ℕ}
 use Rattle.std.specs.Result.{result_ok}
 use Rattle.vpc_laws.specs.Types.{Box5, Description, End, Row, StopText}
 use Rattle.vpc_model.specs.declared.places.End.TheVariants as ends
 use Rattle.query_words.specs.Ends.{end_of}
-use Rattle.query_words.specs.Events.{words_of}
 use Rattle.report_reader.specs.Boxes.{◌>>=◌, box_at, is_inside, word_at}
 use Rattle.report_reader.specs.Stops.{told_of}
+
+-- ---- the version
+
+-- vpc-report 1
+abbrev pub is_version : List (List ℕ) → Bool
+is_version words =
+    (length words == 2)
+    && (bytes_eq (word_at words 0) (codes "vpc-report") && bytes_eq (word_at words 1) (codes "1"))
+
+-- the first line says nothing else
+abbrev pub version_of : List (List ℕ) → Option (Unit {0})
+version_of words = if is_version words then Some tt else None
 
 -- ---- the query
 
@@ -34,22 +45,22 @@ is_query words =
     && (bytes_eq (word_at words 1) (codes "from") && bytes_eq (word_at words 3) (codes "to")))
 
 -- query from END to END
-abbrev pub query_of : Description → List ℕ → Option (End × End)
-query_of d line =
-    let words = words_of line in
-    if is_query words then ends_named d (word_at words 2) (word_at words 4) else None
+abbrev pub query_of : Description → List (List ℕ) → Option (End × End)
+query_of d words = if is_query words then ends_named d (word_at words 2) (word_at words 4) else None
+
+-- `box` before the five ranges
+abbrev pub is_sides : List (List ℕ) → Bool
+is_sides words = (length words == 6) && bytes_eq (word_at words 0) (codes "box")
 
 -- box BOX
-abbrev pub sides_of : List ℕ → Option Box5
-sides_of line =
-    let words = words_of line in
-    if (length words == 6) && bytes_eq (word_at words 0) (codes "box") then box_at words 1 else None
+abbrev pub sides_of : List (List ℕ) → Option Box5
+sides_of words = if is_sides words then box_at words 1 else None
 
 -- ---- rows
 
--- a row with this number begins with it
-abbrev pub is_row : List (List ℕ) → ℕ → Bool
-is_row words number =
+-- `row` and its number, before nine words
+abbrev pub is_row : ℕ → List (List ℕ) → Bool
+is_row number words =
     (length words == 11)
     && (bytes_eq (word_at words 0) (codes "row") && bytes_eq (word_at words 1) (decimal number))
 
@@ -59,19 +70,23 @@ part_of whole words = do
   part ← box_at words 6
   if is_inside part whole then Some part else None
 
+-- PHASE STOP
+abbrev pub told_in : List (List ℕ) → Option StopText
+told_in words = told_of (word_at words 2) (word_at words 3) (word_at words 4) (word_at words 5)
+
 -- PHASE STOP BOX
 abbrev pub row_in : Box5 → List (List ℕ) → Option (Row StopText)
 row_in whole words = do
-  told ← told_of (word_at words 2) (word_at words 3) (word_at words 4) (word_at words 5)
   part ← part_of whole words
+  told ← told_in words
   Some (record { part = part; word = told })
 
 -- row NUMBER PHASE STOP BOX
-abbrev pub row_of : Box5 → ℕ → List ℕ → Option (Row StopText)
-row_of whole number line =
-    let words = words_of line in
-    if is_row words number then row_in whole words else None
+abbrev pub row_of : Box5 → ℕ → List (List ℕ) → Option (Row StopText)
+row_of whole number words = if is_row number words then row_in whole words else None
 
 -- end NUMBER, with the number of rows
-abbrev pub is_end_line : ℕ → List ℕ → Bool
-is_end_line count line = bytes_eq line (codes "end " ++ decimal count)
+abbrev pub is_end : ℕ → List (List ℕ) → Bool
+is_end count words =
+    (length words == 2)
+    && (bytes_eq (word_at words 0) (codes "end") && bytes_eq (word_at words 1) (decimal count))

@@ -2,10 +2,11 @@
 use Rattle.std.specs.List.{slice_split}
 use Rattle.std.specs.Prelude.{◌==◌, ◌≡◌, ◌&&◌, ◌+◌, ◌-◌, ◌++◌, ◌∷◌, [], if◌then◌else◌, Bool, Err, List, None, Ok, Option, Result, Some, bytes_eq, codes, drop, length, nat_lt, ok_or, option_and_then, slice_get, slice_index_or, take, ℕ}
 use Rattle.vpc_laws.specs.Types.{Box5, Description, End, Row, StopText}
+use Rattle.query_words.specs.Events.{words_of}
 use Rattle.report_reader.specs.declared.report.Report.{Report}
 use Rattle.report_reader.specs.declared.report.ReportFault.{ReportFault}
 use Rattle.report_reader.specs.declared.report.ReportFault.TheVariants as faults
-use Rattle.report_reader.specs.Lines.{is_end_line, query_of, row_of, sides_of}
+use Rattle.report_reader.specs.Lines.{is_end, query_of, row_of, sides_of, version_of}
 
 -- ---- lines
 
@@ -14,12 +15,12 @@ abbrev pub pieces_of : List ℕ → List (List ℕ)
 pieces_of text = slice_split (λ c. c == 10) text
 
 -- the lines, each of which ends with a newline
-abbrev pub lines_of : List ℕ → List (List ℕ)
-lines_of text = take (length (pieces_of text) - 1) (pieces_of text)
+abbrev pub lines_of : List (List ℕ) → List (List ℕ)
+lines_of pieces = take (length pieces - 1) pieces
 
--- the text ends with a newline
-abbrev pub is_ended : List ℕ → Bool
-is_ended text = length (slice_index_or (pieces_of text) (length (pieces_of text) - 1) []) == 0
+-- nothing stands after the last newline
+abbrev pub is_ended : List (List ℕ) → Bool
+is_ended pieces = length (slice_index_or pieces (length pieces - 1) []) == 0
 
 -- ---- rows
 
@@ -27,17 +28,25 @@ is_ended text = length (slice_index_or (pieces_of text) (length (pieces_of text)
 abbrev pub row_limit : ℕ
 row_limit = 20000
 
--- what a line says where a row may stand, after so many rows: the row, or none where the report ends here
-abbrev pub row_or_end : ℕ → Bool → List ℕ → Option (Row StopText) → Result (Option (Row StopText)) ReportFault
-row_or_end count last line (Some row) =
-    if nat_lt count row_limit then Ok (Some row) else Err (faults.TooManyBoxes (count + 4))
-row_or_end count last line None =
-    if is_end_line count line then (if last then Ok None else Err (faults.BadLine (count + 5)))
+-- no row, where the report ends with this line after so many rows
+abbrev pub end_after : ℕ → Bool → List (List ℕ) → Result (Option (Row StopText)) ReportFault
+end_after count last words =
+    if is_end count words then (if last then Ok None else Err (faults.BadLine (count + 5)))
     else Err (faults.BadLine (count + 4))
+
+-- a row after so many others, where it is read
+abbrev pub within_limit : ℕ → Row StopText → Result (Option (Row StopText)) ReportFault
+within_limit count row = if nat_lt count row_limit then Ok (Some row) else Err (faults.TooManyBoxes (count + 4))
+
+-- a row that is read, or the end
+abbrev pub row_or_end : ℕ → Bool → List (List ℕ) → Option (Row StopText) → Result (Option (Row StopText)) ReportFault
+row_or_end count last words (Some row) = within_limit count row
+row_or_end count last words None = end_after count last words
 
 -- the row after so many others, on the line after the first three and theirs
 abbrev pub next_row : Box5 → ℕ → Bool → List ℕ → Result (Option (Row StopText)) ReportFault
-next_row whole count last line = row_or_end count last line (row_of whole (count + 1) line)
+next_row whole count last line =
+    let words = words_of line in row_or_end count last words (row_of whole (count + 1) words)
 
 -- a row before the others, unless the report ends here
 abbrev pub row_before : {A E : Type 0} → Result (Option A) E → Result (List A) E → Result (List A) E
@@ -60,14 +69,10 @@ abbrev pub ◌>>=◌ : {A B : Type 0} → Result A ReportFault → (A → Result
 (Ok a) >>= next = next a
 (Err fault) >>= next = Err fault
 
--- the first line
-abbrev pub version_of : List ℕ → Option (Unit {0})
-version_of line = if bytes_eq line (codes "vpc-report 1") then Some tt else None
-
--- the line with this number by its grammar; a line that isn't there is a bad one
-abbrev pub line_as : {A : Type 0} → (List ℕ → Option A) → List (List ℕ) → ℕ → Result A ReportFault
+-- the line with this number, from 1, by its grammar; a line that isn't there is a bad one
+abbrev pub line_as : {A : Type 0} → (List (List ℕ) → Option A) → List (List ℕ) → ℕ → Result A ReportFault
 line_as grammar lines number =
-    ok_or (option_and_then grammar (slice_get lines (number - 1))) (faults.BadLine number)
+    ok_or (option_and_then (λ line. grammar (words_of line)) (slice_get lines (number - 1))) (faults.BadLine number)
 
 -- the report of these lines, and whether the text ends with the last of them
 abbrev pub report_in : Description → List (List ℕ) → Bool → Result Report ReportFault
@@ -78,9 +83,13 @@ report_in d lines ended = do
   rows ← rows_from sides ended 0 (drop 3 lines)
   Ok (record { start = ends.0; goal = ends.1; sides = sides; rows = rows })
 
+-- the report of what stands between newlines
+abbrev pub report_of_pieces : Description → List (List ℕ) → Result Report ReportFault
+report_of_pieces d pieces = report_in d (lines_of pieces) (is_ended pieces)
+
 -- the report that a text says, or the first line that is not in the grammar
 abbrev pub report_of_text : Description → List ℕ → Result Report ReportFault
-report_of_text d text = report_in d (lines_of text) (is_ended text)
+report_of_text d text = report_of_pieces d (pieces_of text)
 
 -- ---- answers
 

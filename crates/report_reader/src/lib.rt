@@ -6,12 +6,17 @@
 
 mod boxes;
 mod components;
+mod lines;
 mod names;
+mod reading;
 mod report;
+mod row_lines;
+mod row_lists;
 mod rows;
 mod stops;
 mod told;
 mod words;
 
+pub use reading::read_report;
 pub use report::{Report, ReportFault};
 pub use stops::same_text;
