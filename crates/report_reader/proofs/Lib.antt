@@ -1,4 +1,5 @@
+pub mod Found
+pub mod Printed
+pub mod RowLemmas
 pub mod Spelling
 pub mod WordLemmas
-pub mod Found
-pub mod RowLemmas

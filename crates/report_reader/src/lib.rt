@@ -20,3 +20,6 @@ mod words;
 pub use reading::read_report;
 pub use report::{Report, ReportFault};
 pub use stops::same_text;
+
+#[cfg(test)]
+mod tests;

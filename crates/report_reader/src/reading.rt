@@ -1,12 +1,12 @@
 // Whole reports.
-ghost use Rattle.std.specs.Prelude.{◌≡◌, ◌-◌, IfOk, IfSome, IsTrue, drop, length, map, slice_index_or, take};
+ghost use Rattle.std.specs.Prelude.{◌≡◌, IfOk, IfSome, IsTrue, drop, map};
 ghost use Rattle.vpc_model.specs.Sound.{is_end};
 ghost use Rattle.query_words.specs.Events.{words_of};
 ghost use Rattle.report_reader.specs.Lines.{query_of, sides_of, version_of};
 ghost use Rattle.report_reader.specs.Reports.{IsRead, line_as, pieces_of, report_in, report_of_pieces, report_of_text, rows_from};
 
 use crate::lines::{read_query, read_sides, read_version};
-use crate::row_lines::read_next_row;
+use crate::row_lists::read_rows;
 use crate::words::few_words;
 use crate::{Report, ReportFault};
 use header_boxes::{Box5, Row};
