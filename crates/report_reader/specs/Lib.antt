@@ -2,3 +2,4 @@ pub mod Boxes
 pub mod Stops
 pub mod Lines
 pub mod Reports
+pub mod ReadsBack

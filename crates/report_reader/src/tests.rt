@@ -54,7 +54,7 @@ fn printed(alloc: Global, n: &Network, report: &Report) -> Result<Vec<u8>, NoMem
     Ok(out)
 }
 
-fn told(alloc: Global, n: &Network, text: &[u8]) -> Told {
+fn answer(alloc: Global, n: &Network, text: &[u8]) -> Told {
     match read_report(alloc, n, text) {
         Ok(report) => match printed(alloc, n, &report) {
             Ok(again) if again.as_slice() == text => Told::Same,
@@ -133,7 +133,7 @@ fn tells_changes(rt: &impl Abort, alloc: Global, n: &Network) -> Result<(), NoMe
     ];
     for (old, new, want) in cases {
         let text = with(TWO_ROWS, old, new, alloc)?;
-        assert_eq!(rt; told(alloc, n, text.as_bytes()), want, "{old} as {new}");
+        assert_eq!(rt; answer(alloc, n, text.as_bytes()), want, "{old} as {new}");
     }
     Ok(())
 }
@@ -142,12 +142,12 @@ fn tells_changes(rt: &impl Abort, alloc: Global, n: &Network) -> Result<(), NoMe
 fn tells_missing_lines(rt: &impl Abort, alloc: Global, n: &Network) {
     let mut line = 1u64;
     for (k, c) in TWO_ROWS.as_bytes().iter().enumerate() {
-        assert_eq!(rt; told(alloc, n, &TWO_ROWS.as_bytes()[..k]), Told::BadLine(line));
+        assert_eq!(rt; answer(alloc, n, &TWO_ROWS.as_bytes()[..k]), Told::BadLine(line));
         if *c == b'\n' {
             line = line.saturating_add(1);
         }
     }
-    assert_eq!(rt; told(alloc, n, TWO_ROWS.as_bytes()), Told::Same);
+    assert_eq!(rt; answer(alloc, n, TWO_ROWS.as_bytes()), Told::Same);
 }
 
 // Whatever byte of a report is another one, it is no report, or one that prints as the damaged text.
@@ -159,7 +159,7 @@ fn tells_damage(rt: &impl Abort, alloc: Global, n: &Network) -> Result<(), NoMem
             if let Some(c) = text.get_mut(k) {
                 *c ^= bits;
             }
-            assert!(rt; told(alloc, n, text.as_slice()) != Told::Other);
+            assert!(rt; answer(alloc, n, text.as_slice()) != Told::Other);
         }
     }
     Ok(())
@@ -193,7 +193,7 @@ fn tells_many_rows(rt: &impl Abort, alloc: Global, n: &Network) -> Result<(), No
     ];
     for (rows, want) in cases {
         let text = many_rows(alloc, rows)?;
-        assert_eq!(rt; told(alloc, n, text.as_slice()), want);
+        assert_eq!(rt; answer(alloc, n, text.as_slice()), want);
     }
     Ok(())
 }
