@@ -6,4 +6,5 @@ pub mod ReadReports
 pub mod ReadWords
 pub mod RowLemmas
 pub mod Spelling
+pub mod Within
 pub mod WordLemmas

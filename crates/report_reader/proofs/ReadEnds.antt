@@ -1,5 +1,6 @@
 -- The ends of a printed query read as what they were.
-use Rattle.std.proofs.Common.{◌≡◌, ◌∙◌, ◌&&◌, ◌∷◌, [], List, None, Option, Some, ap, codes, false, if◌then◌else◌, refl, true, ℕ}
+use Rattle.std.proofs.Common.{◌≡◌, ◌∙◌, ◌&&◌, ◌∷◌, [], List, None, Option, Result, Some, ap, codes, false, if◌then◌else◌, refl, true, ℕ}
+use Rattle.std.specs.Result.{result_ok}
 use Rattle.std.specs.Str.{bytes_eq}
 use Rattle.std.proofs.lemmas.Bool.{cond-false, cond-true}
 use Rattle.vpc_laws.proofs.Members.{member-list_any}
@@ -11,6 +12,8 @@ use Rattle.vpc_model.specs.Id.{is_id}
 use Rattle.vpc_model.specs.Lookup.{eni_no, has_interface, interface_at, no_interface}
 use Rattle.vpc_model.specs.Step.Crossing.{is_gateway}
 use Rattle.vpc_model.specs.Told.{end_id}
+use Rattle.query_words.specs.Ends.{end_at}
+use Rattle.query_words.specs.declared.refusal.QueryRefusal.{QueryRefusal}
 use Rattle.report_reader.specs.Boxes.{◌>>=◌}
 use Rattle.report_reader.specs.Lines.{end_named, ends_named, is_internet}
 use Rattle.report_reader.specs.ReadsBack.{CanBeNamed, IsNamed}
@@ -23,7 +26,9 @@ has_own d i h =
 
 host_named : (d : Description) (i : EniNo) (id : List ℕ) → bytes_eq id (codes "internet") ≡ false → has_interface d id ≡ true → eni_no d id ≡ i
     → (let e = interface_at d i in is_gateway e.kind ≡ false) → end_named d id ≡ Some (ends.Interface i)
-host_named d i id other has own host = rw (other, has, own, host) refl
+host_named d i id other has own host =
+    ap (λ (r : Result End QueryRefusal). result_ok r)
+    (cond-false _ _ _ other ∙ (cond-true _ _ _ has ∙ (ap (λ (x : EniNo). end_at d x) own ∙ cond-false _ _ _ host)))
 
 pub end_named-end_id : (d : Description) (end : End) → IsAccepted d → IsNamed d end → end_named d (end_id d end) ≡ Some end
 end_named-end_id d (ends.Interface i) accepted h =

@@ -122,7 +122,7 @@ pieces_of-report from_id to_id sides rows from_word to_word valid fits few h =
     ∙ (pieces_of-line (codes "vpc-report") (codes "1" ∷ []) (query ++ 10 ∷ (box ++ 10 ∷ after_box)) (IsWord-id _ refl) (IsWord-id _ refl, tt)
     ∙ ap (λ (ls : List (List ℕ)). codes "vpc-report 1" ∷ ls) (pieces_of-line (codes "query") (query_words from_id to_id) (box ++ 10 ∷ after_box) (IsWord-id _ refl) (query_are_words from_id to_id from_word to_word)
     ∙ ap (λ (ls : List (List ℕ)). query ∷ ls) (pieces_of-line (codes "box") (box_words sides) after_box (IsWord-id _ refl) (AreWords-box sides valid fits)
-    ∙ ap (λ (ls : List (List ℕ)). box ∷ ls) (pieces_of-rows sides 0 rows after_rows few fits h
+    ∙ ap (λ (ls : List (List ℕ)). box ∷ ls) (pieces_of-rows sides 0 rows after_rows (omega (arith, few)) fits h
     ∙ (ap (λ (ls : List (List ℕ)). row_texts 0 rows ++ ls) (pieces_of-line (codes "end") (decimal (length rows) ∷ []) [] (IsWord-id _ refl) (IsWord-decimal (length rows) (omega (arith, few)), tt))
     ∙ sym (append_assoc (row_texts 0 rows) (end ∷ []) ([] ∷ [])))))))
 
@@ -157,7 +157,7 @@ report_in-lines d r accepted h =
     (ends_named-end_ids d r.start r.goal accepted h.start h.goal h.inside))
     (line-read sides_of (joined (codes "box") (box_words r.sides)) 3 (codes "box" ∷ box_words r.sides) r.sides (words_of-joined (codes "box") (box_words r.sides) (IsWord-id _ refl) (AreWords-box r.sides h.valid h.fits))
     (sides_of-words r.sides h.valid h.fits))
-    (rows_from-texts r.sides 0 (length r.rows) r.rows refl h.few h.fits h.rows)
+    (rows_from-texts r.sides 0 (length r.rows) r.rows (omega arith) h.few h.fits h.rows)
 
 pub printed_reports_read_back : (d : Description) (r : Report) → IsAccepted d → IsPrintable d r → report_of_text d (report_text d r.start r.goal r.sides r.rows) ≡ Ok r
 printed_reports_read_back d r accepted h =

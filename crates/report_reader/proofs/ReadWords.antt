@@ -28,7 +28,7 @@ ports_of-range_text : (r : ℕ × ℕ) → r.0 ≤ r.1 → r.1 < 2 ^ 16 → port
 ports_of-range_text r valid fits =
     ap (λ (o : Option (ℕ × ℕ)). o >>= range_between) (range_of-range_text r (omega (arith, valid, fits)) fits) ∙ range_between-valid r valid
 
-up_to_byte : ℕ × ℕ → Option (ℕ × ℕ)
+abbrev up_to_byte : ℕ × ℕ → Option (ℕ × ℕ)
 up_to_byte r = if nat_le r.1 255 then Some r else None
 
 protos_of-range_text : (r : ℕ × ℕ) → r.0 ≤ r.1 → r.1 < 2 ^ 8 → protos_of (range_text r) ≡ Some r
@@ -100,12 +100,18 @@ phase_of-phase_text phases.Reply = refl
 id_of-id : (id : List ℕ) → is_id id ≡ true → id_of id ≡ Some id
 id_of-id id is = cond-true _ _ _ is
 
+abbrev ids_read : Option (List ℕ) → Option (List ℕ) → Option (List ℕ × List ℕ)
+ids_read id rule = do
+  id ← id
+  rule ← rule
+  Some (id, rule)
+
 -- what is told by four words that were read
 abbrev told_read : Option Phase → Option StopName → Option (List ℕ) → Option (List ℕ) → Option StopText
 told_read phase name id rule = do
   phase ← phase
   name ← name
-  ids ← (id >>= (λ id. rule >>= (λ rule. Some (id, rule))))
+  ids ← ids_read id rule
   Some (record { phase = phase; name = name; id = ids.0; rule = ids.1 })
 
 told_from : (phase : Option Phase) (name : Option StopName) (id rule : Option (List ℕ)) (t : StopText) → phase ≡ Some t.phase → name ≡ Some t.name → id ≡ Some t.id → rule ≡ Some t.rule

@@ -86,7 +86,7 @@ abbrev pub row_of : Box5 → ℕ → List (List ℕ) → Option (Row StopText)
 row_of whole number words = if is_row number words then row_in whole words else None
 
 -- end NUMBER, with the number of rows
-abbrev pub is_end : ℕ → List (List ℕ) → Bool
-is_end count words =
+abbrev pub is_end_line : ℕ → List (List ℕ) → Bool
+is_end_line count words =
     (length words == 2)
     && (bytes_eq (word_at words 0) (codes "end") && bytes_eq (word_at words 1) (decimal count))

@@ -1,12 +1,14 @@
 -- What a text says as a report, or the first line that is not in the grammar.
 use Rattle.std.specs.List.{slice_split}
-use Rattle.std.specs.Prelude.{◌==◌, ◌≡◌, ◌&&◌, ◌+◌, ◌-◌, ◌++◌, ◌∷◌, [], if◌then◌else◌, Bool, Err, List, None, Ok, Option, Result, Some, bytes_eq, codes, drop, length, nat_lt, ok_or, option_and_then, slice_get, slice_index_or, take, ℕ}
+use Rattle.std.specs.Prelude.{◌==◌, ◌≡◌, ◌≤◌, ◌&&◌, All, ◌+◌, ◌-◌, ◌++◌, ◌∷◌, [], if◌then◌else◌, Bool, Err, List, None, Ok, Option, Result, Some, bytes_eq, codes, drop, length, nat_lt, ok_or, option_and_then, slice_get, slice_index_or, take, true, ℕ}
 use Rattle.vpc_laws.specs.Types.{Box5, Description, End, Row, StopText}
 use Rattle.query_words.specs.Events.{words_of}
 use Rattle.report_reader.specs.declared.report.Report.{Report}
 use Rattle.report_reader.specs.declared.report.ReportFault.{ReportFault}
 use Rattle.report_reader.specs.declared.report.ReportFault.TheVariants as faults
-use Rattle.report_reader.specs.Lines.{is_end, query_of, row_of, sides_of, version_of}
+use Rattle.header_boxes.specs.Boxes.{IsValid, IsWithin}
+use Rattle.vpc_model.specs.Sound.{is_end}
+use Rattle.report_reader.specs.Lines.{is_end_line, query_of, row_of, sides_of, version_of}
 
 -- ---- lines
 
@@ -31,7 +33,7 @@ row_limit = 20000
 -- no row, where the report ends with this line after so many rows
 abbrev pub end_after : ℕ → Bool → List (List ℕ) → Result (Option (Row StopText)) ReportFault
 end_after count last words =
-    if is_end count words then (if last then Ok None else Err (faults.BadLine (count + 5)))
+    if is_end_line count words then (if last then Ok None else Err (faults.BadLine (count + 5)))
     else Err (faults.BadLine (count + 4))
 
 -- a row after so many others, where it is read
@@ -99,3 +101,11 @@ IsRead meant (Ok value) = meant ≡ Ok value
 IsRead meant (Err (faults.BadLine number)) = meant ≡ Err (faults.BadLine number)
 IsRead meant (Err (faults.TooManyBoxes number)) = meant ≡ Err (faults.TooManyBoxes number)
 IsRead meant (Err faults.Memory) = Unit {0}
+
+-- a report whose ends are described, whose box is valid and holds those of its rows, and that has no more rows than are read
+pub record IsSoundReport (d : Description) (r : Report) : Type 0 where
+  pub start : is_end d r.start ≡ true
+  pub goal : is_end d r.goal ≡ true
+  pub valid : IsValid r.sides
+  pub within : All (λ row. IsWithin row.part r.sides) r.rows
+  pub few : length r.rows ≤ row_limit

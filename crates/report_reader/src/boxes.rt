@@ -1,6 +1,7 @@
 // Boxes from five words.
-ghost use Rattle.std.specs.Prelude.{◌≡◌, ◌<◌, ◌==◌, IfSome, length, position};
+ghost use Rattle.std.specs.Prelude.{◌≡◌, ◌≤◌, ◌<◌, ◌==◌, IfSome, length, position};
 ghost use Rattle.std.specs.List.{after_first, before_first};
+ghost use Rattle.header_boxes.specs.Boxes.{IsValid};
 ghost use Rattle.report_reader.specs.Boxes.{addresses_of, box_of, is_inside, lies_in, ports_of, protos_of};
 
 use header_boxes::Box5;
@@ -25,7 +26,8 @@ fn parted(text: &[u8]) -> (&[u8], &[u8])
 }
 
 fn read_addresses(text: &[u8]) -> Option<(u32, u32)>
-    ensures { result ≡ addresses_of text.now }
+    ensures value { result ≡ addresses_of text.now }
+    ensures valid { IfSome result (λ r. r.0 ≤ r.1) }
 {
     let (first, last) = parted(text);
     let first = read_addr(first)?;
@@ -38,7 +40,8 @@ fn read_addresses(text: &[u8]) -> Option<(u32, u32)>
 }
 
 fn read_ports(text: &[u8]) -> Option<(u16, u16)>
-    ensures { result ≡ ports_of text.now }
+    ensures value { result ≡ ports_of text.now }
+    ensures valid { IfSome result (λ r. r.0 ≤ r.1) }
 {
     let (first, last) = read_range(text)?;
     if first <= last {
@@ -49,7 +52,8 @@ fn read_ports(text: &[u8]) -> Option<(u16, u16)>
 }
 
 fn read_protos(text: &[u8]) -> Option<(u8, u8)>
-    ensures { result ≡ protos_of text.now }
+    ensures value { result ≡ protos_of text.now }
+    ensures valid { IfSome result (λ r. r.0 ≤ r.1) }
 {
     let (first, last) = read_ports(text)?;
     if last <= 255 {
@@ -67,7 +71,8 @@ pub fn read_box(
     p: &[u8],
     q: &[u8],
 ) -> Option<Box5>
-    ensures { result ≡ box_of proto.now src.now dst.now p.now q.now }
+    ensures value { result ≡ box_of proto.now src.now dst.now p.now q.now }
+    ensures valid { IfSome result IsValid }
 {
     Some(Box5 {
         proto: read_protos(proto)?,

@@ -6,6 +6,7 @@
 
 mod boxes;
 mod components;
+mod laws;
 mod lines;
 mod names;
 mod reading;
@@ -17,6 +18,7 @@ mod stops;
 mod told;
 mod words;
 
+pub use laws::report_laws;
 pub use reading::read_report;
 pub use report::{Report, ReportFault};
 pub use stops::same_text;

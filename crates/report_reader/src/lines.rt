@@ -3,6 +3,7 @@ ghost use Rattle.std.specs.Prelude.{◌≡◌, ◌+◌, ◌≤◌, IfSome, IsTru
 ghost use Rattle.vpc_model.specs.Lookup.{eni_no, has_interface, interface_at};
 ghost use Rattle.vpc_model.specs.Sound.{is_end, is_eni};
 ghost use Rattle.vpc_model.specs.Step.Crossing.{is_gateway};
+ghost use Rattle.header_boxes.specs.Boxes.{IsValid};
 ghost use Rattle.report_reader.specs.Boxes.{box_at};
 ghost use Rattle.report_reader.specs.Lines.{end_named, ends_named, is_internet, is_query, is_sides, query_of, sides_of, version_of};
 
@@ -108,7 +109,8 @@ pub fn read_query(n: &Network, words: &[&[u8]]) -> Option<(End, End)>
 /// The box of five words, the first of which has this number.
 pub fn read_box_at(words: &[&[u8]], first: usize) -> Option<Box5>
     requires { first + 5 ≤ length words.now }
-    ensures { result ≡ box_at (map (λ w. w.now) words.now) first }
+    ensures value { result ≡ box_at (map (λ w. w.now) words.now) first }
+    ensures valid { IfSome result IsValid }
 {
     read_box(
         word(words, first),
@@ -127,7 +129,8 @@ fn is_sides(words: &[&[u8]]) -> bool
 
 /// The box of `box BOX`.
 pub fn read_sides(words: &[&[u8]]) -> Option<Box5>
-    ensures { result ≡ sides_of (map (λ w. w.now) words.now) }
+    ensures value { result ≡ sides_of (map (λ w. w.now) words.now) }
+    ensures valid { IfSome result IsValid }
 {
     if is_sides(words) {
         read_box_at(words, 1)

@@ -1,9 +1,10 @@
 // Whole reports.
-ghost use Rattle.std.specs.Prelude.{◌≡◌, IfOk, IfSome, IsTrue, drop, map};
+ghost use Rattle.std.specs.Prelude.{◌≡◌, ◌≤◌, All, IfOk, IfSome, IsTrue, drop, length, map};
+ghost use Rattle.header_boxes.specs.Boxes.{IsValid, IsWithin};
 ghost use Rattle.vpc_model.specs.Sound.{is_end};
 ghost use Rattle.query_words.specs.Events.{words_of};
 ghost use Rattle.report_reader.specs.Lines.{query_of, sides_of, version_of};
-ghost use Rattle.report_reader.specs.Reports.{IsRead, line_as, pieces_of, report_in, report_of_pieces, report_of_text, rows_from};
+ghost use Rattle.report_reader.specs.Reports.{IsRead, IsSoundReport, line_as, pieces_of, report_in, report_of_pieces, report_of_text, row_limit, rows_from};
 
 use crate::lines::{read_query, read_sides, read_version};
 use crate::row_lists::read_rows;
@@ -38,7 +39,8 @@ fn ends_in(alloc: Global, n: &Network, line: &[u8]) -> Result<Option<(End, End)>
 }
 
 fn sides_in(alloc: Global, line: &[u8]) -> Result<Option<Box5>, AllocError>
-    ensures { IfOk result (λ o. o ≡ sides_of (words_of line.now)) }
+    ensures value { IfOk result (λ o. o ≡ sides_of (words_of line.now)) }
+    ensures valid { IfOk result (λ o. IfSome o IsValid) }
 {
     match few_words(alloc, line)? {
         Some(words) => Ok(read_sides(words.as_slice())),
@@ -67,7 +69,8 @@ fn read_ends(alloc: Global, n: &Network, lines: &[&[u8]]) -> Result<(End, End), 
 }
 
 fn read_whole(alloc: Global, lines: &[&[u8]]) -> Result<Box5, ReportFault>
-    ensures { IsRead (line_as sides_of (map (λ l. l.now) lines.now) 3) result }
+    ensures value { IsRead (line_as sides_of (map (λ l. l.now) lines.now) 3) result }
+    ensures valid { IfOk result IsValid }
 {
     match lines.get(2) {
         Some(line) => sides_in(alloc, line)?.ok_or(ReportFault::BadLine(3)),
@@ -94,7 +97,9 @@ fn rows_in(
     lines: &[&[u8]],
     ended: bool,
 ) -> Result<OwnList<Row<StopText>>, ReportFault>
-    ensures { IsRead (rows_from sides.now ended 0 (drop 3 (map (λ l. l.now) lines.now))) result }
+    ensures value { IsRead (rows_from sides.now ended 0 (drop 3 (map (λ l. l.now) lines.now))) result }
+    ensures within { IfOk result (λ rows. All (λ r. IsWithin r.part sides.now) rows) }
+    ensures few { IfOk result (λ rows. length rows ≤ row_limit) }
 {
     read_rows(alloc, sides, ended, row_lines(lines))
 }
@@ -105,7 +110,8 @@ fn report_in(
     lines: &[&[u8]],
     ended: bool,
 ) -> Result<Report, ReportFault>
-    ensures { IsRead (report_in n.now (map (λ l. l.now) lines.now) ended) result }
+    ensures value { IsRead (report_in n.now (map (λ l. l.now) lines.now) ended) result }
+    ensures sound { IfOk result (IsSoundReport n.now) }
 {
     expect_version(alloc, lines)?;
     let (start, goal) = read_ends(alloc, n, lines)?;
@@ -128,8 +134,8 @@ fn pieces_of(alloc: Global, text: &[u8]) -> Result<Vec<&[u8]>, AllocError>
 }
 
 fn report_of_pieces(alloc: Global, n: &Network, pieces: &[&[u8]]) -> Result<Report, ReportFault>
-    ensures { let all = map (λ l. l.now) pieces.now in
-        IsRead (report_of_pieces n.now all) result }
+    ensures value { IsRead (report_of_pieces n.now (map (λ l. l.now) pieces.now)) result }
+    ensures sound { IfOk result (IsSoundReport n.now) }
 {
     match pieces.split_last() {
         Some((tail, lines)) => report_in(alloc, n, lines, tail.is_empty()),
@@ -141,7 +147,8 @@ fn report_of_pieces(alloc: Global, n: &Network, pieces: &[&[u8]]) -> Result<Repo
 /// `row NUMBER PHASE STOP BOX`, and `end NUMBER`. Words have one blank between each two, and each line
 /// ends with one newline. Its boxes are not compared with one another, nor its rows with the network.
 pub fn read_report(alloc: Global, n: &Network, text: &[u8]) -> Result<Report, ReportFault>
-    ensures { IsRead (report_of_text n.now text.now) result }
+    ensures value { IsRead (report_of_text n.now text.now) result }
+    ensures sound { IfOk result (IsSoundReport n.now) }
 {
     let pieces = pieces_of(alloc, text)?;
     report_of_pieces(alloc, n, pieces.as_slice())

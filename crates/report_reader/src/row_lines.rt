@@ -1,7 +1,8 @@
 // The lines of rows and the last line, from their words.
-ghost use Rattle.std.specs.Prelude.{◌≡◌, ◌+◌, ◌<◌, ◌^◌, IfOk, length, map};
-ghost use Rattle.report_reader.specs.Lines.{is_end, is_row, part_of, row_in, row_of, told_in};
-ghost use Rattle.report_reader.specs.Reports.{IsRead, end_after, next_row, row_or_end, within_limit};
+ghost use Rattle.std.specs.Prelude.{◌≡◌, ◌+◌, ◌<◌, ◌^◌, IfOk, IfSome, None, Some, length, map};
+ghost use Rattle.header_boxes.specs.Boxes.{IsWithin};
+ghost use Rattle.report_reader.specs.Lines.{is_row, part_of, row_in, row_of, told_in};
+ghost use Rattle.report_reader.specs.Reports.{IsRead, end_after, next_row, row_limit, row_or_end, within_limit};
 
 use crate::ReportFault;
 use crate::boxes::is_inside;
@@ -26,9 +27,11 @@ fn is_row(words: &[&[u8]], number: u64) -> bool
 }
 
 // A box inside that of the query.
+#[tactic(auto, using(crate::proofs::Within::within_if_inside))]
 fn read_part(whole: &Box5, words: &[&[u8]]) -> Option<Box5>
     requires { length words.now ≡ 11 }
-    ensures { result ≡ part_of whole.now (map (λ w. w.now) words.now) }
+    ensures value { result ≡ part_of whole.now (map (λ w. w.now) words.now) }
+    ensures within { IfSome result (λ part. IsWithin part whole.now) }
 {
     let part = read_box_at(words, 6)?;
     if is_inside(&part, whole) {
@@ -53,7 +56,8 @@ fn told_in(alloc: Global, words: &[&[u8]]) -> Result<Option<StopText>, NoMemory>
 
 fn row_in(alloc: Global, whole: &Box5, words: &[&[u8]]) -> Result<Option<Row<StopText>>, NoMemory>
     requires { length words.now ≡ 11 }
-    ensures { IfOk result (λ row. row ≡ row_in whole.now (map (λ w. w.now) words.now)) }
+    ensures value { IfOk result (λ row. row ≡ row_in whole.now (map (λ w. w.now) words.now)) }
+    ensures within { IfOk result (λ row. IfSome row (λ r. IsWithin r.part whole.now)) }
 {
     let Some(part) = read_part(whole, words) else {
         return Ok(None);
@@ -70,7 +74,8 @@ fn read_row(
     number: u64,
     words: &[&[u8]],
 ) -> Result<Option<Row<StopText>>, NoMemory>
-    ensures { IfOk result (λ row. row ≡ row_of whole.now number (map (λ w. w.now) words.now)) }
+    ensures value { IfOk result (λ row. row ≡ row_of whole.now number (map (λ w. w.now) words.now)) }
+    ensures within { IfOk result (λ row. IfSome row (λ r. IsWithin r.part whole.now)) }
 {
     if is_row(words, number) {
         row_in(alloc, whole, words)
@@ -86,7 +91,8 @@ fn read_end(
     words: &[&[u8]],
 ) -> Result<Option<Row<StopText>>, ReportFault>
     requires { count < 2 ^ 63 }
-    ensures { result ≡ end_after count last (map (λ w. w.now) words.now) }
+    ensures value { result ≡ end_after count last (map (λ w. w.now) words.now) }
+    ensures none { IfOk result (λ o. o ≡ None) }
 {
     if !are_two(words, b"end", decimal_digits(u128::from(count)).as_slice()) {
         Err(ReportFault::BadLine(count + 4))
@@ -100,7 +106,9 @@ fn read_end(
 // A row after so many others, where it is read.
 fn within_limit(count: u64, row: Row<StopText>) -> Result<Option<Row<StopText>>, ReportFault>
     requires { count < 2 ^ 63 }
-    ensures { result ≡ within_limit count row }
+    ensures value { result ≡ within_limit count row }
+    ensures same { IfOk result (λ o. o ≡ Some row) }
+    ensures few { IfOk result (λ o. count < row_limit) }
 {
     if count < ROW_LIMIT {
         Ok(Some(row))
@@ -117,8 +125,10 @@ fn read_row_or_end(
     words: &[&[u8]],
 ) -> Result<Option<Row<StopText>>, ReportFault>
     requires { count < 2 ^ 63 }
-    ensures { let all = map (λ w. w.now) words.now in
+    ensures value { let all = map (λ w. w.now) words.now in
         IsRead (row_or_end count last all (row_of whole.now (count + 1) all)) result }
+    ensures within { IfOk result (λ o. IfSome o (λ r. IsWithin r.part whole.now)) }
+    ensures few { IfOk result (λ o. IfSome o (λ r. count < row_limit)) }
 {
     match read_row(alloc, whole, count + 1, words)? {
         Some(row) => within_limit(count, row),
@@ -136,7 +146,9 @@ pub fn read_next_row(
     line: &[u8],
 ) -> Result<Option<Row<StopText>>, ReportFault>
     requires { count < 2 ^ 63 }
-    ensures { IsRead (next_row whole.now count last line.now) result }
+    ensures value { IsRead (next_row whole.now count last line.now) result }
+    ensures within { IfOk result (λ o. IfSome o (λ r. IsWithin r.part whole.now)) }
+    ensures few { IfOk result (λ o. IfSome o (λ r. count < row_limit)) }
 {
     match few_words(alloc, line)? {
         Some(words) => read_row_or_end(alloc, whole, count, last, words.as_slice()),

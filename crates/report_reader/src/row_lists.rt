@@ -1,6 +1,7 @@
 // The rows of a report, one a line.
-ghost use Rattle.std.specs.Prelude.{◌≡◌, ◌+◌, ◌<◌, ◌==◌, ◌&&◌, map};
-ghost use Rattle.report_reader.specs.Reports.{IsRead, rows_from};
+ghost use Rattle.std.specs.Prelude.{◌≡◌, ◌+◌, ◌≤◌, ◌<◌, ◌==◌, ◌&&◌, All, IfOk, length, map};
+ghost use Rattle.header_boxes.specs.Boxes.{IsWithin};
+ghost use Rattle.report_reader.specs.Reports.{IsRead, row_limit, rows_from};
 
 use crate::ReportFault;
 use crate::row_lines::read_next_row;
@@ -24,7 +25,9 @@ pub fn read_rows(
     ended: bool,
     lines: &[&[u8]],
 ) -> Result<OwnList<Row<StopText>>, ReportFault>
-    ensures { IsRead (rows_from whole.now ended 0 (map (λ l. l.now) lines.now)) result }
+    ensures value { IsRead (rows_from whole.now ended 0 (map (λ l. l.now) lines.now)) result }
+    ensures within { IfOk result (λ rows. All (λ r. IsWithin r.part whole.now) rows) }
+    ensures few { IfOk result (λ rows. length rows ≤ row_limit) }
 {
     let mut rows = Vec::new(alloc);
     for (k, line) in lines.iter().enumerate() {
