@@ -12,7 +12,7 @@ use Rattle.block_report.specs.Reports.{addresses_text, box_line, box_text, row_l
 use Rattle.block_report.specs.Walks.{name_text, phase_text}
 use Rattle.query_words.specs.Events.{words_of}
 use Rattle.report_reader.specs.Boxes.{◌>>=◌, box_at, is_inside}
-use Rattle.report_reader.specs.Lines.{ part_of, row_in, row_of, sides_of, told_in}
+use Rattle.report_reader.specs.Lines.{part_of, row_in, row_of, sides_of, told_in}
 use Rattle.report_reader.specs.declared.report.ReportFault.{ReportFault}
 use Rattle.report_reader.specs.ReadsBack.{Fits, IsRowOf}
 use Rattle.report_reader.specs.Reports.{next_row, row_or_end, within_limit}
