@@ -42,7 +42,6 @@ is_id-end_id d ends.Internet h = refl
 
 -- ---- both
 
-
 abbrev ends_read : Option End → Option End → Option (End × End)
 ends_read start goal = do
   start ← start

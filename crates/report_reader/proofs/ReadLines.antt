@@ -26,12 +26,19 @@ abbrev pub box_words : Box5 → List (List ℕ)
 box_words b = range_text b.proto ∷ addresses_text b.src ∷ addresses_text b.dst ∷ range_text b.p ∷ range_text b.q ∷ []
 
 pub AreWords-box : (b : Box5) → IsValid b → Fits b → AreWords (box_words b)
-AreWords-box b valid fits =
-    (IsWord-range_text b.proto (omega (arith, valid.proto, fits.proto)) (omega (arith, fits.proto)),
-    (IsWord-addresses_text b.src (omega (arith, valid.src, fits.src)) fits.src,
-    (IsWord-addresses_text b.dst (omega (arith, valid.dst, fits.dst)) fits.dst,
-    (IsWord-range_text b.p (omega (arith, valid.p, fits.p)) fits.p,
-    (IsWord-range_text b.q (omega (arith, valid.q, fits.q)) fits.q, tt)))))
+AreWords-box b valid fits = (
+  IsWord-range_text b.proto (omega (arith, valid.proto, fits.proto)) (omega (arith, fits.proto)),
+  (
+    IsWord-addresses_text b.src (omega (arith, valid.src, fits.src)) fits.src,
+    (
+      IsWord-addresses_text b.dst (omega (arith, valid.dst, fits.dst)) fits.dst,
+      (
+        IsWord-range_text b.p (omega (arith, valid.p, fits.p)) fits.p,
+        (IsWord-range_text b.q (omega (arith, valid.q, fits.q)) fits.q, tt),
+      ),
+    ),
+  ),
+)
 
 -- ---- the words of lines
 
@@ -127,11 +134,16 @@ visible_phase phases.Request = refl
 visible_phase phases.Reply = refl
 
 pub AreWords-row : (whole : Box5) (n : ℕ) (row : Row StopText) → n ≤ 20000 → Fits whole → IsRowOf whole row → AreWords (row_words n row)
-AreWords-row whole n row few fits h =
-    (IsWord-decimal n (omega (arith, few)),
-    (IsWord-id _ (visible_phase row.word.phase),
-    (IsWord-id _ (visible_name row.word.name),
-    (IsWord-id _ h.id, (IsWord-id _ h.rule, AreWords-box row.part (valid-within row.part whole h.within) (fits-within row.part whole h.within fits))))))
+AreWords-row whole n row few fits h = (
+  IsWord-decimal n (omega (arith, few)),
+  (
+    IsWord-id _ (visible_phase row.word.phase),
+    (
+      IsWord-id _ (visible_name row.word.name),
+      (IsWord-id _ h.id, (IsWord-id _ h.rule, AreWords-box row.part (valid-within row.part whole h.within) (fits-within row.part whole h.within fits))),
+    ),
+  ),
+)
 
 pub IsWord-row : IsWord (codes "row")
 IsWord-row = IsWord-id (codes "row") refl

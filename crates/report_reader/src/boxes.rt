@@ -64,13 +64,7 @@ fn read_protos(text: &[u8]) -> Option<(u8, u8)>
 }
 
 /// The box of five words: protocols, sources, destinations, p and q, each a range that isn't empty.
-pub fn read_box(
-    proto: &[u8],
-    src: &[u8],
-    dst: &[u8],
-    p: &[u8],
-    q: &[u8],
-) -> Option<Box5>
+pub fn read_box(proto: &[u8], src: &[u8], dst: &[u8], p: &[u8], q: &[u8]) -> Option<Box5>
     ensures value { result ≡ box_of proto.now src.now dst.now p.now q.now }
     ensures valid { IfSome result IsValid }
 {

@@ -84,11 +84,7 @@ fn read_whole(alloc: Global, lines: &[&[u8]]) -> Result<Box5, ReportFault>
 fn row_lines<'a, 'b>(lines: &'a [&'b [u8]]) -> &'a [&'b [u8]]
     ensures { result.now ≡ drop 3 lines.now }
 {
-    if lines.len() < 3 {
-        &[]
-    } else {
-        &lines[3..]
-    }
+    if lines.len() < 3 { &[] } else { &lines[3..] }
 }
 
 fn rows_in(

@@ -85,11 +85,7 @@ fn read_row(
 }
 
 // The end of the report on the line after so many rows.
-fn read_end(
-    count: u64,
-    last: bool,
-    words: &[&[u8]],
-) -> Result<Option<Row<StopText>>, ReportFault>
+fn read_end(count: u64, last: bool, words: &[&[u8]]) -> Result<Option<Row<StopText>>, ReportFault>
     requires { count < 2 ^ 63 }
     ensures value { result ≡ end_after count last (map (λ w. w.now) words.now) }
     ensures none { IfOk result (λ o. o ≡ None) }

@@ -142,7 +142,10 @@ fn tells_changes(rt: &impl Abort, alloc: Global, n: &Network) -> Result<(), NoMe
 fn tells_missing_lines(rt: &impl Abort, alloc: Global, n: &Network) {
     let mut line = 1u64;
     for (k, c) in TWO_ROWS.as_bytes().iter().enumerate() {
-        assert_eq!(rt; answer(alloc, n, &TWO_ROWS.as_bytes()[..k]), Told::BadLine(line));
+        assert_eq!(rt;
+            answer(alloc, n, &TWO_ROWS.as_bytes()[..k]),
+            Told::BadLine(line)
+        );
         if *c == b'\n' {
             line = line.saturating_add(1);
         }
