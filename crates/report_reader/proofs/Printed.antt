@@ -1,5 +1,5 @@
 -- Lines and words of printed texts.
-use Rattle.std.proofs.Common.{◌≡◌, ◌≢◌, ◌∙◌, ◌<◌, ◌^◌, ◌==◌, ◌++◌, ◌∷◌, [], All, List, ap, append_assoc, arith, codes, decimal, false, get_or, length, lit<, ne_eqb, refl, sym, true, ℕ}
+use Rattle.std.proofs.Common.{◌≡◌, ◌≢◌, ◌∙◌, ◌<◌, ◌^◌, ◌==◌, ◌++◌, ◌∷◌, [], All, List, ap, arith, codes, decimal, false, get_or, lit<, ne_eqb, refl, sym, true, ℕ}
 use Rattle.std.proofs.lemmas.Bool.{and_parts, leb-true}
 use Rattle.std.proofs.lemmas.List.Elements.{All-append, All-cons, All-from_get_or, All-nil}
 use Rattle.std.proofs.lemmas.List.Splits.{slice_split_at, slice_split_none}

@@ -1,5 +1,5 @@
 -- The ends of a printed query read as what they were.
-use Rattle.std.proofs.Common.{◌≡◌, ◌∙◌, ◌&&◌, ◌∷◌, [], List, None, Option, Result, Some, ap, codes, false, if◌then◌else◌, refl, true, ℕ}
+use Rattle.std.proofs.Common.{◌≡◌, ◌∙◌, ◌&&◌, List, None, Option, Result, Some, ap, codes, false, if◌then◌else◌, refl, true, ℕ}
 use Rattle.std.specs.Result.{result_ok}
 use Rattle.std.specs.Str.{bytes_eq}
 use Rattle.std.proofs.lemmas.Bool.{cond-false, cond-true}

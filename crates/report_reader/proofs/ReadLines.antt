@@ -1,6 +1,6 @@
 -- The lines of a printed report read as what they were.
-use Rattle.std.proofs.Common.{◌≡◌, ◌∙◌, ◌+◌, ◌<◌, ◌≤◌, ◌^◌, ◌++◌, ◌∷◌, [], Bool, List, None, Ok, Option, Result, Some, ap, append_assoc, arith, codes, decimal, if◌then◌else◌, lt-ltb, refl, true, ℕ}
-use Rattle.std.proofs.lemmas.Bool.{and_from, cond-true}
+use Rattle.std.proofs.Common.{◌≡◌, ◌∙◌, ◌+◌, ◌<◌, ◌≤◌, ◌++◌, ◌∷◌, [], Bool, List, None, Ok, Option, Some, ap, append_assoc, arith, codes, decimal, if◌then◌else◌, lt-ltb, refl, true, ℕ}
+use Rattle.std.proofs.lemmas.Bool.{cond-true}
 use Rattle.header_boxes.specs.Boxes.{IsValid}
 use Rattle.prefix_text.specs.Range.{range_text}
 use Rattle.vpc_laws.proofs.Numbering.{bytes_self}
@@ -10,12 +10,10 @@ use Rattle.vpc_model.specs.declared.outcomes.Phase.TheVariants as phases
 use Rattle.vpc_model.specs.Id.{is_id}
 use Rattle.block_report.specs.Reports.{addresses_text, box_line, box_text, row_line}
 use Rattle.block_report.specs.Walks.{name_text, phase_text}
-use Rattle.query_words.specs.Events.{words_of}
 use Rattle.report_reader.specs.Boxes.{◌>>=◌, box_at, is_inside}
 use Rattle.report_reader.specs.Lines.{part_of, row_in, row_of, sides_of, told_in}
-use Rattle.report_reader.specs.declared.report.ReportFault.{ReportFault}
 use Rattle.report_reader.specs.ReadsBack.{Fits, IsRowOf}
-use Rattle.report_reader.specs.Reports.{next_row, row_or_end, within_limit}
+use Rattle.report_reader.specs.Reports.{next_row, row_or_end}
 use Rattle.report_reader.proofs.Printed.{AreWords, IsWord, IsWord-addresses_text, IsWord-decimal, IsWord-id, IsWord-range_text, joined, words_of-joined}
 use Rattle.report_reader.proofs.ReadWords.{box_of-texts, fits-within, is_inside-within, told_of-texts, valid-within}
 

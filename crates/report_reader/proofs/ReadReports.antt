@@ -1,22 +1,21 @@
 -- Printed reports read as what they were.
-use Rattle.std.proofs.Common.{◌≡◌, ◌∙◌, ◌+◌, ◌-◌, ◌<◌, ◌≤◌, ◌==◌, ◌++◌, ◌∷◌, [], All, Bool, List, None, Ok, Option, Result, Some, add-one, ap, append_assoc, arith, codes, decimal, drop, get_or, length, length-append, ok_or, refl, subst, suc, sym, take, take_at, true, ℕ}
+use Rattle.std.proofs.Common.{◌≡◌, ◌∙◌, ◌+◌, ◌-◌, ◌≤◌, ◌==◌, ◌++◌, ◌∷◌, [], All, List, Ok, Option, Result, Some, ap, append_assoc, arith, codes, decimal, drop, get_or, length, length-append, ok_or, refl, sym, take_at, true, ℕ}
 use Rattle.std.proofs.Math.Seq.{get_or-append_seam}
-use Rattle.std.proofs.lemmas.Bool.{cond-true}
 use Rattle.std.proofs.lemmas.List.Elements.{All-head, All-tail}
 use Rattle.vpc_laws.specs.Types.{Box5, Description, End, Row, StopText}
 use Rattle.header_boxes.specs.Boxes.{IsValid}
 use Rattle.vpc_model.specs.Accepted.{IsAccepted}
 use Rattle.vpc_model.specs.Id.{is_id}
 use Rattle.vpc_model.specs.Told.{end_id}
-use Rattle.block_report.specs.Reports.{box_line, ends_line, report_of, report_text, row_line, row_lines_from}
+use Rattle.block_report.specs.Reports.{box_line, ends_line, report_of, report_text, row_lines_from}
 use Rattle.query_words.specs.Events.{words_of}
 use Rattle.report_reader.specs.declared.report.Report.{Report}
 use Rattle.report_reader.specs.declared.report.ReportFault.{ReportFault}
 use Rattle.report_reader.specs.declared.report.ReportFault.TheVariants as faults
 use Rattle.report_reader.specs.Lines.{query_of, sides_of, version_of}
 use Rattle.report_reader.specs.ReadsBack.{Fits, IsPrintable, IsRowOf}
-use Rattle.report_reader.specs.Reports.{◌>>=◌, is_ended, line_as, lines_of, next_row, pieces_of, report_in, report_of_pieces, report_of_text, row_before, rows_from}
-use Rattle.report_reader.proofs.Printed.{AreWords, IsWord, IsWord-decimal, IsWord-id, joined, pieces_of-line, words_of-joined}
+use Rattle.report_reader.specs.Reports.{◌>>=◌, is_ended, line_as, lines_of, pieces_of, report_in, report_of_pieces, report_of_text, row_before, rows_from}
+use Rattle.report_reader.proofs.Printed.{AreWords, IsWord-decimal, IsWord-id, joined, pieces_of-line, words_of-joined}
 use Rattle.report_reader.proofs.ReadEnds.{ends_named-end_ids, is_id-end_id}
 use Rattle.report_reader.proofs.ReadLines.{AreWords-box, AreWords-row, IsWord-row, box_line-joined, box_words, next_row-end, next_row-row, row_line-joined, row_words, sides_of-words}
 

@@ -1,5 +1,5 @@
 -- The words of a printed report read as what they were.
-use Rattle.std.proofs.Common.{◌≡◌, ◌∙◌, ◌≤◌, ◌<◌, ◌^◌, ◌==◌, ◌++◌, ◌∷◌, [], List, Option, Some, ap, append_assoc, arith, codes, le-leb, lit<, nat_le, refl, true, if◌then◌else◌, None, ℕ}
+use Rattle.std.proofs.Common.{◌≡◌, ◌∙◌, ◌≤◌, ◌<◌, ◌^◌, ◌==◌, ◌++◌, ◌∷◌, [], List, Option, Some, ap, append_assoc, arith, le-leb, lit<, nat_le, refl, true, if◌then◌else◌, None, ℕ}
 use Rattle.std.specs.List.{after_first, before_first}
 use Rattle.std.specs.Option.{option_zip}
 use Rattle.std.proofs.lemmas.Bool.{and_from, cond-true}
@@ -8,7 +8,7 @@ use Rattle.prefix_text.proofs.AddrLaws.{All-addr_text, addr_of-addr_text}
 use Rattle.prefix_text.proofs.PartLemmas.{after_first-separator, before_first-separator}
 use Rattle.prefix_text.proofs.RangeLaws.{range_of-range_text}
 use Rattle.prefix_text.specs.Addr.{addr_of, addr_text}
-use Rattle.prefix_text.specs.Range.{range_of, range_text}
+use Rattle.prefix_text.specs.Range.{range_text}
 use Rattle.vpc_laws.specs.Types.{Box5, Phase, StopName, StopText}
 use Rattle.vpc_model.specs.declared.outcomes.Phase.TheVariants as phases
 use Rattle.vpc_model.specs.Id.{is_id}
@@ -16,7 +16,7 @@ use Rattle.block_report.specs.Reports.{addresses_text}
 use Rattle.block_report.specs.Walks.{name_text, phase_text}
 use Rattle.report_reader.specs.Boxes.{◌>>=◌, addresses_of, box_of, is_inside, lies_in, ports_of, protos_of, range_between}
 use Rattle.report_reader.specs.ReadsBack.{Fits}
-use Rattle.report_reader.specs.Stops.{id_of, ids_of, name_spelled, phase_of, told_by, told_of}
+use Rattle.report_reader.specs.Stops.{id_of, name_spelled, phase_of, told_of}
 use Rattle.report_reader.proofs.Spelling.{name_spelled-name_text}
 
 -- ---- ranges

@@ -1,5 +1,5 @@
 -- The lines of a report, each read from its words by a grammar of its own.
-use Rattle.std.specs.Prelude.{◌==◌, ◌&&◌, ◌++◌, ◌∷◌, [], if◌then◌else◌, Bool, List, None, Option, Some, bytes_eq, codes, decimal, false, length, true, ℕ}
+use Rattle.std.specs.Prelude.{◌==◌, ◌&&◌, ◌∷◌, [], if◌then◌else◌, Bool, List, None, Option, Some, bytes_eq, codes, decimal, false, length, true, ℕ}
 use Rattle.std.specs.Result.{result_ok}
 use Rattle.vpc_laws.specs.Types.{Box5, Description, End, Row, StopText}
 use Rattle.vpc_model.specs.declared.places.End.TheVariants as ends

@@ -1,7 +1,7 @@
 -- What a text says as a report, or the first line that is not in the grammar.
 use Rattle.std.specs.List.{slice_split}
-use Rattle.std.specs.Prelude.{◌==◌, ◌≡◌, ◌≤◌, ◌&&◌, All, ◌+◌, ◌-◌, ◌++◌, ◌∷◌, [], if◌then◌else◌, Bool, Err, List, None, Ok, Option, Result, Some, bytes_eq, codes, drop, length, nat_lt, ok_or, option_and_then, slice_get, slice_index_or, take, true, ℕ}
-use Rattle.vpc_laws.specs.Types.{Box5, Description, End, Row, StopText}
+use Rattle.std.specs.Prelude.{◌==◌, ◌≡◌, ◌≤◌, ◌&&◌, All, ◌+◌, ◌-◌, ◌∷◌, [], if◌then◌else◌, Bool, Err, List, None, Ok, Option, Result, Some, drop, length, nat_lt, ok_or, option_and_then, slice_get, slice_index_or, take, true, ℕ}
+use Rattle.vpc_laws.specs.Types.{Box5, Description, Row, StopText}
 use Rattle.query_words.specs.Events.{words_of}
 use Rattle.report_reader.specs.declared.report.Report.{Report}
 use Rattle.report_reader.specs.declared.report.ReportFault.{ReportFault}
