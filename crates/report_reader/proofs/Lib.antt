@@ -1,0 +1,10 @@
+pub mod Found
+pub mod Printed
+pub mod ReadEnds
+pub mod ReadLines
+pub mod ReadReports
+pub mod ReadWords
+pub mod RowLemmas
+pub mod Spelling
+pub mod Within
+pub mod WordLemmas

@@ -1,0 +1,5 @@
+pub mod Boxes
+pub mod Stops
+pub mod Lines
+pub mod Reports
+pub mod ReadsBack

@@ -1,0 +1,27 @@
+//! Reports read back from their texts.
+//!
+//! The grammar is that of the printed report: `vpc-report 1`, the query, its box, numbered rows and
+//! the end, each on a line of its own.
+#![tactic(auto)]
+
+mod boxes;
+mod components;
+mod laws;
+mod lines;
+mod names;
+mod reading;
+mod report;
+mod row_lines;
+mod row_lists;
+mod rows;
+mod stops;
+mod told;
+mod words;
+
+pub use laws::report_laws;
+pub use reading::read_report;
+pub use report::{Report, ReportFault};
+pub use stops::same_text;
+
+#[cfg(test)]
+mod tests;

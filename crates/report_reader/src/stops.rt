@@ -1,0 +1,108 @@
+// What is told of a stop, compared with a text.
+ghost use Rattle.std.specs.Prelude.{◌≡◌, ◌↔◌, IsTrue, bytes_eq, codes, decimal};
+ghost use Rattle.prefix_text.specs.Block.{block_text};
+ghost use Rattle.vpc_model.specs.Sound.{has_text};
+ghost use Rattle.vpc_model.specs.Told.{name_of, reach_text, stop_id, stop_rule, told_stop};
+
+use crate::components::{route_at, stop_id, tgw_route_at};
+use crate::names::name_text;
+use prefix_text::{Prefix, cidr_notation, decimal_digits};
+use reference_check::Network;
+use vpc_model::{Phase, Reach, Stop, StopName, StopText};
+
+// Names are alike where they are spelled alike.
+#[tactic(auto, using(crate::proofs::Spelling::name_text_tells))]
+fn is_name(a: StopName, b: StopName) -> bool
+    ensures { IsTrue result ↔ (a ≡ b) }
+{
+    name_text(a) == name_text(b)
+}
+
+fn is_number(text: &[u8], number: u16) -> bool
+    ensures { result ≡ bytes_eq text.now (decimal number) }
+{
+    text == decimal_digits(u128::from(number)).as_slice()
+}
+
+fn is_block(text: &[u8], block: &Prefix) -> bool
+    ensures { result ≡ bytes_eq text.now (block_text block.now) }
+{
+    text == cidr_notation(block).as_slice()
+}
+
+fn is_reach(text: &[u8], reach: &Reach) -> bool
+    ensures { result ≡ bytes_eq text.now (reach_text reach.now) }
+{
+    match reach {
+        Reach::Block(block) => is_block(text, block),
+        Reach::List(id) => text == id.bytes(),
+    }
+}
+
+fn is_dash(text: &[u8]) -> bool
+    ensures { result ≡ bytes_eq text.now (codes "-") }
+{
+    text == b"-".as_slice()
+}
+
+fn is_rule(n: &Network, text: &[u8], s: &Stop) -> bool
+    requires { IsTrue (has_text n.now s.now) }
+    ensures { result ≡ bytes_eq text.now (stop_rule n.now s.now) }
+{
+    match s {
+        Stop::Blackhole(t, k) => is_reach(text, &route_at(n, *t, *k).reach),
+        Stop::AclOut(_, number) => is_number(text, *number),
+        Stop::AclIn(_, number) => is_number(text, *number),
+        Stop::TgwBlackhole(t, k) => is_block(text, &tgw_route_at(n, *t, *k).block),
+        Stop::Detached(_)
+        | Stop::SourceCheck(_)
+        | Stop::DestCheck(_)
+        | Stop::GroupsOut(_)
+        | Stop::GroupsIn(_)
+        | Stop::NotAHost(_)
+        | Stop::ApplianceDrop(_)
+        | Stop::NoRoute(_)
+        | Stop::NoHost(_)
+        | Stop::NoGateway(_)
+        | Stop::GatewayDetached(_)
+        | Stop::NoPublic(_)
+        | Stop::PrivateAddress
+        | Stop::NatNotAvailable(_)
+        | Stop::NatAnswer(_)
+        | Stop::NatProtocol(_)
+        | Stop::NatFull(_)
+        | Stop::NatUnsolicited(_)
+        | Stop::PeerNotActive(_)
+        | Stop::PeerSource(_)
+        | Stop::PeerDestination(_)
+        | Stop::TgwNoAttachment(_, _)
+        | Stop::TgwNoZone(_)
+        | Stop::TgwNoTable(_)
+        | Stop::TgwNoRoute(_)
+        | Stop::Unmodelled(_)
+        | Stop::Loop(_)
+        | Stop::TooFar(_)
+        | Stop::WrongPlace(_)
+        | Stop::WrongReturn(_)
+        | Stop::NoReply(_) => is_dash(text),
+    }
+}
+
+fn is_component(n: &Network, text: &[u8], s: &Stop) -> bool
+    requires { IsTrue (has_text n.now s.now) }
+    ensures { result ≡ bytes_eq text.now (stop_id n.now s.now) }
+{
+    text == stop_id(n, s)
+}
+
+/// Whether a text is what is told of a stop in a phase. It takes no memory. Rules compare as they are
+/// spelled: a prefix whose host bits are set is another text.
+pub fn same_text(n: &Network, text: &StopText, phase: Phase, s: &Stop) -> bool
+    requires { IsTrue (has_text n.now s.now) }
+    ensures { IsTrue result ↔ (text.now ≡ told_stop n.now phase s.now) }
+{
+    text.phase == phase
+        && is_name(text.name, s.name())
+        && is_component(n, text.id.bytes(), s)
+        && is_rule(n, text.rule.bytes(), s)
+}
