@@ -1,6 +1,6 @@
 -- Rules that are asked of images run by run.
-use Rattle.std.proofs.Common.{◌≡◌, ◌∙◌, ◌&&◌, ◌||◌, ◌*◌, ◌+◌, ◌<◌, ◌≤◌, ◌∷◌, [], ℕ, Bool, List, ap, arith, drop, false, get_or, length, nat_le, refl, subst, sym, take, true}
-use Rattle.std.proofs.Math.Seq.{drop-drop}
+use Rattle.std.proofs.Common.{◌≡◌, ◌∙◌, ◌&&◌, ◌||◌, ◌*◌, ◌+◌, ◌<◌, ◌≤◌, ◌∷◌, [], ℕ, Bool, List, ap, arith, drop, false, get_or, length, nat_le, refl, subst, suc, sym, take, true}
+use Rattle.std.proofs.Math.Seq.{drop-cons, drop-drop}
 use Rattle.std.specs.List.{All, list_any}
 use Rattle.std.specs.List.Sorted.{IsNonDecreasingBy}
 use Rattle.std.proofs.lemmas.Bool.{lt-leb}
@@ -25,10 +25,11 @@ use Rattle.cut_laws.specs.Dividing.{Divide}
 use Rattle.image_tests.proofs.Answering.{answers_more, answers_same}
 use Rattle.image_tests.proofs.EdgeCuts.{range_of_rule}
 use Rattle.image_tests.proofs.Stretches.{low-is-least}
-use Rattle.image_tests.proofs.Trying.{header_of_rest}
+use Rattle.image_tests.proofs.Trying.{IsTrying, any_passes, header_of_rest, none_passes_yet}
 use Rattle.image_tests.specs.Tests.{cuts_of_range}
 use Rattle.security_groups.specs.declared.rules.Rule.{Rule}
 use Rattle.vpc_model.specs.Filter.{far_address, matches_proto}
+use Rattle.security_groups.proofs.AskingOn.{rule_test}
 use Rattle.security_groups.proofs.OnceEach.{or_false}
 use Rattle.security_groups.proofs.Runs.{starts-later}
 use Rattle.security_groups.specs.Asking.{allows, names}
@@ -225,3 +226,32 @@ pub ports-above : (i rest : Image) (body : Box5) (q : ℕ) → q ≡ (header_at 
 ports-above i rest body q is within image =
     subst (λ (j : Image). (h : Header) → holds h j.part ≡ true → q ≤ (header_at j h).q) (sym image)
     (λ h t. let le = low-is-least i.q i.part h (within_holds body i.part h within t) in omega arith)
+
+-- ---- rules that end before the ports of all headers are left behind, and what is left has no lower ports
+
+pub ports-above-rest : (i rest : Image) (q : ℕ) → ((h : Header) → holds h i.part ≡ true → q ≤ (header_at i h).q) → rest ≡ record i { part = rest.part } → IsWithin rest.part i.part
+    → (h : Header) → holds h rest.part ≡ true → q ≤ (header_at rest h).q
+ports-above-rest i rest q above image within h t =
+    subst (λ (g : Header). q ≤ g.q) (sym (header_of_rest i rest h image)) (above h (within_holds rest.part i.part h within t))
+
+pub rule_passed : (lists : List (List Run)) (members : List ℕ) (dir : Dir) (rules : List Rule) (i rest : Image) (k q : ℕ) (r : Rule)
+    → ((h : Header) → holds h i.part ≡ true → q ≤ (header_at i h).q) → r.q_to < q → k < length rules → r ≡ get_or rules k r
+    → IsTrying (DivideRules lists members rules) (any_passes (rule_test lists members dir i) rules) (any_passes (rule_test lists members dir i)) rules i k rest
+    → IsTrying (DivideRules lists members rules) (any_passes (rule_test lists members dir i) rules) (any_passes (rule_test lists members dir i)) rules i (k + 1) rest
+rule_passed lists members dir rules i rest k q r above before below is t = record {
+  image = t.image;
+  valid = t.valid;
+  walk = t.walk;
+  reduced = reduced_same (DivideRules lists members rules) (any_passes test rules) (any_passes test (drop k rules)) (any_passes test (drop (k + 1) rules)) i.part rest.part
+      (λ h inside.
+      let port = above h (within_holds rest.part i.part h t.reduced.inside.within inside) in
+      ap (λ rs. any_passes test rs h) (drop-cons rules k r below ∙ ap (λ n. get_or rules k r ∷ drop n rules) next ∙ ap (λ x. x ∷ drop (k + 1) rules) (sym is))
+      ∙ none_passes_yet test r (drop (k + 1) rules) h (ended-before lists members dir (header_at i h) r (omega arith)))
+      t.reduced;
+}
+  where
+    test : Rule → Header → Bool
+    test = rule_test lists members dir i
+
+    next : suc k ≡ k + 1
+    next = omega arith

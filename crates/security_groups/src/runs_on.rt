@@ -21,28 +21,33 @@ use image_tests::begins_on;
 use number_tables::NumberSet;
 use vpc_base::{Dir, Header};
 
+// A rule that ends before a port that no header is below isn't asked.
 fn any_in_on(
     lists: &[AddressSet],
     members: &NumberSet,
     rules: &[Rule],
     dir: Dir,
+    q: u16,
     i: &Image,
 ) -> Part<bool>
     requires valid { IsValidImage i.now }
     requires walk { IsImageOfWalk i.now }
+    requires above { (h : Header) → holds h i.now.part ≡ true → q ≤ (header_at i.now h).q }
     ensures { Answers (DivideRules lists.now members.now rules.now)
         (λ h. any_allows lists.now members.now dir rules.now (header_at i.now h)) i.now.part result }
 {
     let mut rest = *i;
     for rule in rules {
-        let allowed = allows_on(lists, members, rule, dir, &rest);
-        if allowed.told {
-            return Part {
-                body: allowed.body,
-                told: true,
-            };
+        if q <= rule.q_to {
+            let allowed = allows_on(lists, members, rule, dir, &rest);
+            if allowed.told {
+                return Part {
+                    body: allowed.body,
+                    told: true,
+                };
+            }
+            rest = rest.within(&allowed.body);
         }
-        rest = rest.within(&allowed.body);
     }
     Part {
         body: rest.part,
@@ -70,7 +75,7 @@ pub fn any_in_runs_on(
     let mut rest = *i;
     for (k, last) in lasts.iter().enumerate() {
         if q <= *last {
-            let allowed = any_in_on(lists, members, run_of(rules, k), dir, &rest);
+            let allowed = any_in_on(lists, members, run_of(rules, k), dir, q, &rest);
             if allowed.told {
                 return Part {
                     body: allowed.body,

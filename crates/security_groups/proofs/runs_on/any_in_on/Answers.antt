@@ -1,7 +1,9 @@
-use Rattle.std.proofs.Common.{arith, true}
-use Rattle.image_tests.proofs.Trying.{any_passes, none_passes_yet, one_passes, row_has, trying_first, trying_last, trying_next}
+use Rattle.std.proofs.Common.{◌+◌, arith, subst, sym, true}
+use Rattle.image_tests.proofs.Trying.{IsTrying, any_passes, none_passes_yet, one_passes, row_has, trying_first, trying_last, trying_next}
 use Rattle.security_groups.proofs.AskingOn.{rule_of_rest, rule_test}
+use Rattle.security_groups.proofs.RunsOn.{rule_passed}
 use Rattle.security_groups.proofs.runs_on.any_in_on.Goals as goal
+use Rattle.security_groups.proofs.runs_on.any_in_on.Goals.{else-q-rule, then-q-rule+else-allowed}
 use Rattle.security_groups.specs.Dividing.{DivideRules}
 
 pub loop-rule-init : goal.loop-rule-init
@@ -22,11 +24,18 @@ loop-rule-preserved c =
     let k = c.loop-rule.rule-index in
     let rest = c.loop-rule.rest in
     let row = c.rule-item.result in
-    let x = c.allows_on-allowed.result in
-    let has = row_has rules k row (omega arith) c.rule-item.is in
-    trying_next (DivideRules lists members rules) (any_passes test rules) (any_passes test) test (none_passes_yet test) rules i k rest row x
-    c.within-rest.result (omega arith) c.rule-item.is c.if-allowed.false c.within-rest.ensures.image c.within-rest.ensures.valid c.within-rest.ensures.kind
-    c.loop-rule.invariant (rule_of_rest lists members rules dir i rest row x has c.loop-rule.invariant.image c.allows_on-allowed.ensures)
+    elim c.if-q-rule.branch [
+      | then-q-rule+else-allowed w ↦
+          let x = w.allows_on-allowed.result in
+          let has = row_has rules k row (omega arith) c.rule-item.is in
+          subst (IsTrying (DivideRules lists members rules) (any_passes test rules) (any_passes test) rules i (k + 1)) (sym w.rest-is)
+          (trying_next (DivideRules lists members rules) (any_passes test rules) (any_passes test) test (none_passes_yet test) rules i k rest row x
+          w.within-rest.result (omega arith) c.rule-item.is w.if-allowed.false w.within-rest.ensures.image w.within-rest.ensures.valid w.within-rest.ensures.kind
+          c.loop-rule.invariant (rule_of_rest lists members rules dir i rest row x has c.loop-rule.invariant.image w.allows_on-allowed.ensures))
+      | else-q-rule w ↦
+          subst (IsTrying (DivideRules lists members rules) (any_passes test rules) (any_passes test) rules i (k + 1)) (sym w.rest-is)
+          (rule_passed lists members dir rules i rest k c.args.q row c.requires.above w.if-q-rule.false (omega arith) c.rule-item.is c.loop-rule.invariant)
+    ]
 
 pub returns-then-allowed : goal.returns-then-allowed
 returns-then-allowed c =

@@ -1,7 +1,7 @@
 use Rattle.std.proofs.Common.{List, ◌+◌, get_or, subst, sym}
 use Rattle.box_images.specs.Answers.{Answers}
 use Rattle.box_images.specs.Images.{header_at}
-use Rattle.security_groups.proofs.RunsOn.{IsInRuns, runs_allow, runs_next, runs_passed}
+use Rattle.security_groups.proofs.RunsOn.{IsInRuns, ports-above-rest, runs_allow, runs_next, runs_passed}
 use Rattle.security_groups.proofs.runs_on.any_in_runs_on.Goals as goal
 use Rattle.security_groups.proofs.runs_on.any_in_runs_on.Goals.{then-q-last+else-allowed, else-q-last}
 use Rattle.security_groups.specs.Dividing.{DivideRules, any_allows}
@@ -40,3 +40,8 @@ returns-then-allowed c =
     let x = c.any_in_on-allowed.result in
     runs_allow lists members dir rules c.args.i.now rest k x c.if-allowed.true c.loop-k.invariant
     (subst (λ (rs : List Rule). Answers (DivideRules lists members rs) (λ h. any_allows lists members dir rs (header_at rest h)) rest.part x) c.run_of.ensures c.any_in_on-allowed.ensures)
+
+pub any_in_on-allowed-requires-clause-above : goal.any_in_on-allowed-requires-clause-above
+any_in_on-allowed-requires-clause-above c =
+    let rest = c.loop-k.rest in
+    ports-above-rest c.args.i.now rest c.args.q c.requires.above c.loop-k.invariant.image c.loop-k.invariant.left.inside.within
