@@ -125,17 +125,17 @@ fn asks_rules(rt: HostRuntime) -> Result<(), Fail> {
         ((100, 80), (true, 199, 80)),
         // by the second of two rules with this port, on all of its ports
         ((200, 80), (true, 299, 90)),
-        // a rule has the port, and not the address
-        ((100, 81), (false, 149, 90)),
+        // a rule has the port, and not the address: not up to the next rule's port
+        ((100, 81), (false, 149, 199)),
         ((150, 81), (true, 299, 90)),
         // between rules, and past them all
         ((100, 91), (false, 299, 199)),
         ((100, 205), (true, 299, 210)),
         ((100, 311), (false, 299, 65535)),
         // what the list and the group have that a rule names
-        ((100, 300), (false, 119, 310)),
+        ((100, 300), (false, 119, 65535)),
         ((121, 300), (true, 129, 310)),
-        ((130, 300), (false, 139, 310)),
+        ((130, 300), (false, 139, 65535)),
         ((140, 300), (true, 140, 310)),
     ];
     for (from, answer) in cases {
@@ -156,7 +156,7 @@ fn asks_groups(rt: HostRuntime) -> Result<(), Fail> {
         ((200, 81), (true, 299, 90)),
         // not up to the first group's port, nor at addresses that the second one's rules lack
         ((100, 81), (false, 149, 84)),
-        ((100, 86), (false, 149, 90)),
+        ((100, 86), (false, 149, 199)),
     ];
     for (from, answer) in cases {
         assert!(rt; from.0 <= 299);
