@@ -1,3 +1,4 @@
 pub mod Among
 pub mod Rows
+pub mod Places
 pub mod Turning

@@ -5,10 +5,10 @@ use Rattle.cut_laws.proofs.Among.{among_through, left_among, on_sides_among, rig
 use Rattle.cut_laws.specs.Laws.{AclsAreStanding, AppliancesAreStanding, FixedAreStanding, InterfacesAreStanding, PlacesHaveTheirCuts, VpcsAreStanding}
 
 -- what is among a list is among that list joined with others
-later : (few a rest : CutLists) → AreAmong few rest → AreAmong few (joined_cuts a rest)
+pub later : (few a rest : CutLists) → AreAmong few rest → AreAmong few (joined_cuts a rest)
 later few a rest k = among_through few rest (joined_cuts a rest) k (right_among a rest)
 
-here : (few a rest : CutLists) → AreAmong few a → AreAmong few (joined_cuts a rest)
+pub here : (few a rest : CutLists) → AreAmong few a → AreAmong few (joined_cuts a rest)
 here few a rest k = among_through few a (joined_cuts a rest) k (left_among a rest)
 
 pub fixed_are_standing : FixedAreStanding

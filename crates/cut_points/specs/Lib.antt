@@ -1,4 +1,3 @@
 pub mod Types
 pub mod Gathered
 pub mod Cuts
-pub mod Laws

@@ -9,8 +9,3 @@ pub use Rattle.vpc_model.specs.declared.rows.PrefixList.{PrefixList}
 pub use Rattle.vpc_model.specs.declared.rows.Reach.{Reach}
 pub use Rattle.vpc_model.specs.declared.rows.Route.{Route}
 pub use Rattle.vpc_model.specs.declared.rows.RouteTable.{RouteTable}
-pub use Rattle.vpc_model.specs.declared.numbers.EniNo.{EniNo}
-pub use Rattle.vpc_model.specs.declared.numbers.GroupNo.{GroupNo}
-pub use Rattle.vpc_model.specs.declared.numbers.TableNo.{TableNo}
-pub use Rattle.vpc_model.specs.declared.numbers.TgwTableNo.{TgwTableNo}
-pub use Rattle.vpc_model.specs.declared.places.Place.{Place}

@@ -4,10 +4,8 @@
 mod ascending;
 mod cuts;
 mod gathered;
-mod laws;
 mod rows;
 #[cfg(test)]
 mod tests;
 
 pub use cuts::cuts_of;
-pub use laws::places_have_its_cuts;

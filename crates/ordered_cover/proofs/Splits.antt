@@ -13,7 +13,7 @@ use Rattle.vpc_base.specs.declared.headers.Header.{Header}
 use Rattle.header_boxes.specs.Boxes.{holds, IsValid, IsWithin, AreDisjoint, low_of, volume_of}
 use Rattle.header_boxes.specs.Cells.{IsAligned}
 use Rattle.header_boxes.specs.declared.boxes.Box5.{Box5}
-use Rattle.header_boxes.proofs.BoxLaws.{low_is_least, volume_is_positive}
+use Rattle.header_boxes.proofs.BoxLaws.{aligned_grows, low_is_least, volume_is_positive}
 use Rattle.header_boxes.proofs.CellNumbers.{aligned_through, aligned_to_itself}
 use Rattle.header_boxes.proofs.Held.{holds_low, holds_whole, valid_if_within, within_itself}
 use Rattle.header_boxes.specs.Rows.{IsFirstThrough, NoneThrough, HasWord, is_covered, AreWhole}
@@ -243,7 +243,7 @@ module _ {W : Type 0} {meaning : Header → Option W} {cuts : CutLists} {sides :
         begun = λ k d lt. let P : Box5 → Type 0 = (λ o. IsBefore (low_of (get_or rows k d).part) (low_of o)) in
             All-head P b others (All-permutation P open_boxes (b ∷ others) taken (s.begun k d lt));
         clear = λ h inside before. clear_in_rows rows s.are_true.word h (covered h inside before);
-        cells = λ ascending.
+        cells = λ all among.
             let b_aligned : IsAligned cuts b sides = All-head (λ o. IsAligned cuts o sides) b others (All-permutation (λ o. IsAligned cuts o sides) open_boxes (b ∷ others) taken s.aligned) in
             let b_apart : All (λ (r : Row W). AreDisjoint b r.part) rows = (λ k d lt h in_b in_row.
             let r = row_holder_at rows h k d lt in_row in
@@ -252,6 +252,7 @@ module _ {W : Type 0} {meaning : Header → Option W} {cuts : CutLists} {sides :
             let c = sum_by-cons (λ x. one_if (holds h x)) b others in
             let e = s.each h in let m = at_most_one (holds h sides) in
             absurd (omega (arith, r, here, o, c, e, m))) in
-            let l = more_cells (λ (r : Row W). r.part) cuts sides b rows s.are_true.within s.ordered.aligned s.are_true.disjoint within b_aligned b_apart in
+            let l = more_cells (λ (r : Row W). r.part) all sides b rows s.are_true.within (λ k d lt. aligned_grows cuts all (get_or rows k d).part sides among (s.ordered.aligned k d lt))
+            s.are_true.disjoint within (aligned_grows cuts all b sides among b_aligned) b_apart in
             omega (arith, l, count);
       }

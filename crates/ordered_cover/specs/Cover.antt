@@ -1,10 +1,10 @@
 -- What a cover answers, over a meaning that gives each header a word or lets it through.
 use Rattle.std.specs.Prelude.{ℕ, ◌≡◌, ◌≢◌, ◌≤◌, ◌<◌, true, List, Option, None, All, length}
 use Rattle.vpc_base.specs.Header.{IsBefore}
-use Rattle.vpc_base.specs.Cuts.{CutLists}
+use Rattle.vpc_base.specs.Cuts.{AreAmong, CutLists}
 use Rattle.vpc_base.specs.declared.headers.Header.{Header}
 use Rattle.header_boxes.specs.Boxes.{holds, low_of}
-use Rattle.header_boxes.specs.Cells.{AreAscending, cells_of}
+use Rattle.header_boxes.specs.Cells.{cells_of}
 use Rattle.header_boxes.specs.Rows.{IsFirstThrough, AreTrueRows, AreOrdered, AreWhole, IsFirstOutside}
 use Rattle.header_boxes.specs.declared.boxes.Box5.{Box5}
 use Rattle.header_boxes.specs.declared.rows.Row.{Row}
@@ -18,7 +18,7 @@ pub record IsBlocked {W : Type 0} (meaning : Header → Option W) (cuts : CutLis
   pub whole : AreWhole sides rows
   pub few : length rows ≤ max
 
--- exactly max ordered true rows, the first header outside them, which comes after each row's low corner, and more cells than max
+-- exactly max ordered true rows, the first header outside them, which comes after each row's low corner; and more cells than max, by any cuts that have all of these
 pub record IsMore {W : Type 0} (meaning : Header → Option W) (cuts : CutLists) (sides : Box5) (max : ℕ) (rows : List (Row W)) (next : Header) : Type 0 where
   pub are_true : AreTrueRows meaning sides rows
   pub ordered : AreOrdered cuts sides rows
@@ -26,7 +26,7 @@ pub record IsMore {W : Type 0} (meaning : Header → Option W) (cuts : CutLists)
   pub outside : IsFirstOutside sides rows next
   pub begun : All (λ r. IsBefore (low_of r.part) next) rows
   pub clear : (h : Header) → holds h sides ≡ true → IsBefore h next → meaning h ≢ None
-  pub cells : AreAscending cuts → max < cells_of cuts sides
+  pub cells : (all : CutLists) → AreAmong cuts all → max < cells_of all sides
 
 -- what a cover with at most max rows answers
 abbrev pub IsCover : {W : Type 0} → (Header → Option W) → CutLists → Box5 → ℕ → Cover W → Type 0

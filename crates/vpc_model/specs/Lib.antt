@@ -19,6 +19,7 @@ pub mod Verdict
 pub mod Replay
 pub mod Accepted
 pub mod Cuts
+pub mod Near
 pub mod Sound
 pub mod Told
 pub mod Report

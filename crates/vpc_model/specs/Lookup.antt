@@ -1,8 +1,8 @@
 -- Rows by their numbers, and numbers by ids. A number counts the rows of a list, from 0. In an
 -- accepted description every number that is asked for is in range and every id that is looked for is
 -- described; elsewhere the row is an empty one, and the number is the list's length.
-use Rattle.std.specs.List.{list_any, position_or_len}
-use Rattle.std.specs.Prelude.{◌==◌, ◌&&◌, [], Bool, List, None, Option, Some, bytes_eq, false, find, length, option_map, position, slice_index_or, true, unwrap_or, ℕ}
+use Rattle.std.specs.List.{flat_map, list_any, position_or_len}
+use Rattle.std.specs.Prelude.{◌==◌, ◌&&◌, ◌∷◌, [], Bool, List, None, Option, Some, bytes_eq, false, find, length, option_map, position, slice_index_or, true, unwrap_or, ℕ}
 use Rattle.vpc_model.specs.Types.{Acl, AclNo, AttNo, Attachment, Block, Description, EniNo, Group, GroupNo, IgwNo, Interface, InternetGateway, NatGateway, NatNo, PeerNo, Peering, RouteTable, Subnet, SubnetNo, TableNo, TgwTable, TgwTableNo, Vpc, VpcNo}
 use Rattle.vpc_model.specs.declared.rows.InterfaceKind.TheVariants as kinds
 use Rattle.vpc_model.specs.declared.rows.NatLife.TheVariants as lives
@@ -161,6 +161,14 @@ is_in_vpc d v e = let vpc = vpc_at d v in bytes_eq (vpc_of_interface d e) vpc.id
 -- the private address is one of the interface's (EC2 API, DescribeNetworkInterfaces)
 abbrev pub has_address : Interface → ℕ → Bool
 has_address e a = list_any (λ x. x.0 == a) e.addresses
+
+-- a private address, and its public one if it has one (EC2 API, DescribeNetworkInterfaces)
+abbrev pub both_addresses : ℕ × Option ℕ → List ℕ
+both_addresses x = x.0 ∷ elim x.1 [ None ↦ [] | Some public ↦ public ∷ [] ]
+
+-- the private and public addresses of all interfaces (EC2 API, DescribeNetworkInterfaces)
+abbrev pub addresses_in : Description → List ℕ
+addresses_in d = flat_map (λ e. flat_map both_addresses e.addresses) d.interfaces
 
 -- the interface of a VPC with this private address (EC2 API, DescribeNetworkInterfaces)
 abbrev pub host_of : Description → VpcNo → ℕ → Option EniNo

@@ -1,6 +1,6 @@
 -- Whether a request arrives and its reply returns.
-use Rattle.std.specs.Prelude.{◌==◌, ◌&&◌, [], if◌then◌else◌, Bool, None, Option, Some, false, true}
-use Rattle.vpc_model.specs.Types.{Description, End, Header, Outcome, Verdict}
+use Rattle.std.specs.Prelude.{◌==◌, ◌&&◌, [], if◌then◌else◌, Bool, List, None, Option, Some, false, true}
+use Rattle.vpc_model.specs.Types.{Description, End, Header, Hop, Outcome, Verdict}
 use Rattle.vpc_model.specs.declared.places.End.TheVariants as ends
 use Rattle.vpc_base.specs.declared.headers.Label.TheVariants as labels
 use Rattle.vpc_model.specs.declared.outcomes.Outcome.TheVariants as outcomes
@@ -46,3 +46,20 @@ verdict_of_request d appliances start goal h request (outcomes.Arrived end k) =
 -- the verdict of a request with this header from the start to the target (profile)
 abbrev pub verdict_of : Description → Appliances → End → End → Header → Verdict
 verdict_of d appliances start goal h = let request = request_walk d appliances start h in verdict_of_request d appliances start goal h request request.outcome
+
+-- ---- the hops of the reply
+
+-- of the reply, where there is one
+abbrev pub hops_of_reply : Description → Appliances → End → Walk → Option Header → List Hop
+hops_of_reply d appliances goal request None = []
+hops_of_reply d appliances goal request (Some r) = let w = reply_walk d appliances goal r request in w.hops
+
+-- of the reply of what arrived at the target
+abbrev pub hops_after : Description → Appliances → End → Walk → Outcome → List Hop
+hops_after d appliances goal request (outcomes.Stopped s) = []
+hops_after d appliances goal request (outcomes.Arrived end k) =
+    if same_end end goal then hops_of_reply d appliances goal request (reply_of k) else []
+
+-- the hops of the reply of a request from the start to the target; none where the request doesn't arrive there, or has no reply
+abbrev pub reply_hops : Description → Appliances → End → End → Header → List Hop
+reply_hops d appliances start goal h = let request = request_walk d appliances start h in hops_after d appliances goal request request.outcome
