@@ -1,5 +1,5 @@
 -- NAT gateways by their interfaces.
-use Rattle.std.proofs.Common.{◌≡◌, ◌∙◌, ◌++◌, ◌+◌, ◌<◌, ◌^◌, ◌==◌, ◌&&◌, ◌∷◌, [], ℕ, Bool, Contains, List, Option, Some, ap, arith, bytes_eq, cond, false, find, get_or, inl, inr, length, option_map, refl, subst, sym, true}
+use Rattle.std.proofs.Common.{◌≡◌, ◌∙◌, ◌++◌, ◌+◌, ◌<◌, ◌^◌, ◌==◌, ◌&&◌, ◌∷◌, [], ℕ, Bool, Contains, List, Option, Some, ap, arith, bytes_eq, cond, false, find, get_or, inl, inr, length, option_map, refl, sym, true}
 use Rattle.std.specs.List.{position_from}
 use Rattle.std.proofs.lemmas.Bool.{and_parts, both_ways, cases_Bool, eq-eqb, ne_eqb}
 use Rattle.std.proofs.lemmas.Iterator.Adapters.{position_from-zero}
@@ -9,11 +9,11 @@ use Rattle.number_tables.specs.declared.tables.Entry.{Entry}
 use Rattle.vpc_laws.proofs.Accepting.{accepted_has_all_named}
 use Rattle.vpc_laws.proofs.Lengths.{accepted_has_short_lists}
 use Rattle.vpc_laws.proofs.Numbering.{accepted_numbers_are_own, bytes_self, ids_are_found, same_bytes}
-use Rattle.vpc_laws.specs.Types.{Description, EniNo, Interface, NatGateway, NatNo}
+use Rattle.vpc_laws.specs.Types.{Description, EniNo, NatGateway, NatNo}
 use Rattle.vpc_model.specs.Accepted.{IsAccepted}
 use Rattle.vpc_model.specs.Lookup.{eni_no, has_address, has_interface, interface_at, no_interface}
 use Rattle.vpc_model.specs.Sound.{is_eni}
-use Rattle.vpc_model.specs.Step.Crossing.{is_eni_of, nat_of}
+use Rattle.vpc_model.specs.Step.Crossing.{is_eni_of}
 use Rattle.vpc_model.specs.declared.rows.NatLife.{NatLife}
 use Rattle.vpc_model.specs.declared.rows.NatLife.TheVariants as lives
 use Rattle.fabric.specs.Nats.{AreNats, life_entry, nat_entries}

@@ -1,25 +1,25 @@
 -- What the indexes of a network's tables and ACLs are.
-use Rattle.std.specs.Prelude.{◌≡◌, ◌≤◌, ◌<◌, ◌+◌, ◌*◌, ◌^◌, List, length, ℕ}
+use Rattle.std.specs.Prelude.{List}
 use Rattle.std.specs.List.{AllZip}
 use Rattle.cut_laws.specs.Dividing.{DivideFirsts}
 use Rattle.edge_gateways.specs.Edges.{AreEdgesOf, EdgeLists}
 use Rattle.network_acls.specs.Tried.{SortsRows, TriedRows}
 use Rattle.number_tables.specs.declared.tables.Entry.{Entry}
-use Rattle.piece_table.specs.Pieces.{ArePieces, PieceLists, told_at}
-use Rattle.route_tables.specs.Rows.{blocks_in}
+use Rattle.piece_table.specs.Pieces.{ArePieces, PieceLists}
+use Rattle.route_tables.specs.Rows.{AreFewPieces, ChooseRoutes}
 use Rattle.security_groups.specs.Dividing.{HasRuleCuts}
 use Rattle.security_groups.specs.Index.{GroupLists, HasRulesOf}
 use Rattle.transit_gateway.specs.Index.{IsTransitOf}
 use Rattle.transit_gateway.specs.Lists.{TransitLists}
-use Rattle.vpc_laws.specs.Types.{Acl, Description, NatNo, RouteTable}
+use Rattle.vpc_laws.specs.Types.{Acl, Description, EniNo, NatNo, RouteTable}
+use Rattle.fabric.specs.Hosts.{AreHosts}
 use Rattle.fabric.specs.Nats.{AreNats}
 use Rattle.vpc_model.specs.Cuts.{cuts_of_table}
-use Rattle.vpc_model.specs.Routes.{chosen_route}
 
 -- the pieces of a table: what each address chooses, how many there are, and where they begin
 pub record IsRouteIndex (d : Description) (t : RouteTable) (x : PieceLists) : Type 0 where
-  pub chosen : (a : ℕ) → a < 2 ^ 32 → told_at x a ≡ chosen_route d t.routes a
-  pub few : length x.firsts ≤ 2 * length (blocks_in d t.routes) + 1
+  pub chosen : ChooseRoutes d t.routes x
+  pub few : AreFewPieces d t.routes x
   pub firsts : DivideFirsts x.firsts (cuts_of_table d t)
   pub pieces : ArePieces x
 
@@ -27,7 +27,8 @@ pub record IsRouteIndex (d : Description) (t : RouteTable) (x : PieceLists) : Ty
 abbrev pub IsAclIndex : Acl → TriedRows → Type 0
 IsAclIndex a x = SortsRows a.rows x
 
--- the indexes of all ACLs, groups and route tables, of the edges, of the transit gateways, and NAT gateways by their interfaces
+-- the indexes of all ACLs, groups and route tables, of the edges, of the transit gateways, NAT gateways by their interfaces, and interfaces by
+-- their addresses
 pub record IndexLists : Type 0 where
   pub acls : List TriedRows
   pub groups : GroupLists
@@ -35,6 +36,7 @@ pub record IndexLists : Type 0 where
   pub edges : EdgeLists
   pub transit : TransitLists
   pub nats : List (Entry NatNo)
+  pub hosts : List (Entry EniNo)
 
 -- they are those of the description
 pub record AreIndexesOf (d : Description) (x : IndexLists) : Type 0 where
@@ -45,3 +47,4 @@ pub record AreIndexesOf (d : Description) (x : IndexLists) : Type 0 where
   pub edges : AreEdgesOf d x.edges
   pub transit : IsTransitOf d x.transit
   pub nats : AreNats d x.nats
+  pub hosts : AreHosts d x.hosts

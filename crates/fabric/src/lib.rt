@@ -2,6 +2,7 @@
 #![tactic(auto)]
 
 mod acls;
+mod hosts;
 mod nats;
 mod network;
 mod routes;

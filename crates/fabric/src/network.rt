@@ -4,9 +4,11 @@ ghost use Rattle.edge_gateways.specs.Edges.{AreEdgesOf};
 ghost use Rattle.security_groups.specs.Dividing.{HasRuleCuts};
 ghost use Rattle.security_groups.specs.Index.{HasRulesOf};
 ghost use Rattle.transit_gateway.specs.Index.{IsTransitOf};
+ghost use Rattle.fabric.specs.Hosts.{AreHosts};
 ghost use Rattle.fabric.specs.Indexes.{AreIndexesOf, IsAclIndex, IsRouteIndex};
 
 use crate::acls::acl_indexes;
+use crate::hosts::hosts_by_address;
 use crate::nats::nats_by_interface;
 use crate::routes::route_indexes;
 use edge_gateways::EdgeMaps;
@@ -30,6 +32,7 @@ struct Indexes {
     edges: EdgeMaps,
     transit: TransitIndex,
     nats: NumberTable<NatNo>,
+    hosts: NumberTable<EniNo>,
 }
 
 impl Model for Indexes {
@@ -44,6 +47,7 @@ impl Model for Indexes {
       edges = x.edges;
       transit = x.transit;
       nats = x.nats;
+      hosts = x.hosts;
     } };
 }
 
@@ -56,6 +60,7 @@ fn indexes_of(alloc: Global, n: &Network) -> Result<Indexes, NoMemory>
     let edges = EdgeMaps::of(alloc, n)?;
     let transit = TransitIndex::of(alloc, n)?;
     let nats = nats_by_interface(alloc, n)?;
+    let hosts = hosts_by_address(alloc, n)?;
     Ok(Indexes {
         acls,
         groups,
@@ -63,6 +68,7 @@ fn indexes_of(alloc: Global, n: &Network) -> Result<Indexes, NoMemory>
         edges,
         transit,
         nats,
+        hosts,
     })
 }
 
@@ -108,6 +114,12 @@ impl Indexes {
         ensures { result ≡ value_at i.0 self.now.nats }
     {
         self.nats.get(u64::from(i.0))
+    }
+
+    fn hosts(&self) -> &NumberTable<EniNo>
+        ensures { result.now ≡ self.now.hosts }
+    {
+        &self.hosts
     }
 }
 
@@ -204,5 +216,13 @@ impl Fabric {
         ensures { result ≡ nat_of self.now i }
     {
         self.indexes.nat_of(i)
+    }
+
+    /// The interfaces by the keys of their VPCs and private addresses: a look-up reads about log2 n entries
+    /// where a search goes through all interfaces, and the next key says up to where an address is nobody's.
+    pub fn hosts(&self) -> &NumberTable<EniNo>
+        ensures { AreHosts self.now result.now }
+    {
+        self.indexes.hosts()
     }
 }

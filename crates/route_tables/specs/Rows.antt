@@ -1,12 +1,12 @@
 -- Routes as blocks that tell their numbers.
-use Rattle.std.specs.Prelude.{◌∷◌, ◌++◌, ◌+◌, ◌-◌, ◌*◌, ◌&&◌, [], All, Bool, List, false, filter, if◌then◌else◌, map, nat_le, not, option_map, unwrap_or, ℕ}
+use Rattle.std.specs.Prelude.{◌≡◌, ◌<◌, ◌≤◌, ◌∷◌, ◌++◌, ◌+◌, ◌-◌, ◌*◌, ◌^◌, ◌&&◌, [], All, Bool, List, false, filter, if◌then◌else◌, length, map, nat_le, not, option_map, unwrap_or, ℕ}
 use Rattle.std.specs.List.{flat_map}
 use Rattle.block_pieces.specs.declared.rows.BlockRow.{BlockRow}
 use Rattle.piece_table.specs.Pieces.{PieceLists, told_at}
 use Rattle.prefix_text.specs.Block.{Block, IsBlock}
 use Rattle.vpc_laws.specs.Types.{Description, Route}
 use Rattle.vpc_model.specs.Cuts.{blocks_of_reach}
-use Rattle.vpc_model.specs.Routes.{is_local, kind_of}
+use Rattle.vpc_model.specs.Routes.{chosen_route, is_local, kind_of}
 
 -- the blocks of routes and the entries of the prefix lists that they name, each route's apart
 abbrev pub blocks_in : Description → List Route → List Block
@@ -46,3 +46,13 @@ counted_rows_of d locals number r =
 abbrev pub counted_rows : Description → PieceLists → ℕ → List Route → List BlockRow
 counted_rows d locals number [] = []
 counted_rows d locals number (r ∷ rs) = counted_rows_of d locals number r ++ counted_rows d locals (number + 1) rs
+
+-- ---- what is told of addresses
+
+-- the pieces tell of each address the route that is chosen for it
+abbrev pub ChooseRoutes : Description → List Route → PieceLists → Type 0
+ChooseRoutes d routes x = (a : ℕ) → a < 2 ^ 32 → told_at x a ≡ chosen_route d routes a
+
+-- there are at most twice as many as blocks, and one more
+abbrev pub AreFewPieces : Description → List Route → PieceLists → Type 0
+AreFewPieces d routes x = length x.firsts ≤ 2 * length (blocks_in d routes) + 1

@@ -1,14 +1,13 @@
 // The index of a route table.
-ghost use Rattle.std.specs.Prelude.{◌≡◌, ◌≤◌, ◌<◌, ◌+◌, ◌-◌, ◌*◌, ◌^◌, ℕ, IfOk, IsTrue, length};
+ghost use Rattle.std.specs.Prelude.{◌≡◌, ◌≤◌, ◌<◌, ◌-◌, ◌*◌, ◌^◌, IfOk, IsTrue, length};
 ghost use Rattle.box_images.specs.Answers.{Answers};
 ghost use Rattle.box_images.specs.Images.{IsImageOfWalk, IsValidImage, header_at};
 ghost use Rattle.cut_laws.specs.Dividing.{DivideFirsts};
 ghost use Rattle.piece_table.specs.Pieces.{ArePieces, told_at};
 ghost use Rattle.vpc_model.specs.Cuts.{all_cuts, cuts_of_route, cuts_of_table};
 ghost use Rattle.vpc_model.specs.Lookup.{table_at};
-ghost use Rattle.vpc_model.specs.Routes.{chosen_route};
 ghost use Rattle.vpc_model.specs.Sound.{is_table};
-ghost use Rattle.route_tables.specs.Rows.{blocks_in};
+ghost use Rattle.route_tables.specs.Rows.{AreFewPieces, ChooseRoutes};
 
 use crate::counted::counted_rows;
 use crate::locals::local_rows;
@@ -56,8 +55,8 @@ fn index_of<L: Ledger>(
     requires name { blank.name ≡ L.name }
     requires parts { blank.parts ≡ L.parts }
     requires some { 0 < blank.parts }
-    ensures chosen { IfOk result (λ x. (a : ℕ) → a < 2 ^ 32 → told_at x a ≡ chosen_route n.now routes.now a) }
-    ensures few { IfOk result (λ x. length x.firsts ≤ 2 * length (blocks_in n.now routes.now) + 1) }
+    ensures chosen { IfOk result (ChooseRoutes n.now routes.now) }
+    ensures few { IfOk result (AreFewPieces n.now routes.now) }
     ensures firsts { IfOk result (λ x. DivideFirsts x.firsts (all_cuts (cuts_of_route n.now) routes.now)) }
     ensures pieces { IfOk result ArePieces }
 {
@@ -75,8 +74,8 @@ impl RouteIndex {
     /// Takes time n log n in the number of blocks. Fails for want of memory alone.
     pub fn of(alloc: Global, n: &Network, t: TableNo) -> Result<RouteIndex, NoMemory>
         requires table { IsTrue (is_table n.now t) }
-        ensures chosen { IfOk result (λ x. (a : ℕ) → a < 2 ^ 32 → told_at x a ≡ chosen_route n.now (table_at n.now t).routes a) }
-        ensures few { IfOk result (λ x. length x.firsts ≤ 2 * length (blocks_in n.now (table_at n.now t).routes) + 1) }
+        ensures chosen { IfOk result (ChooseRoutes n.now (table_at n.now t).routes) }
+        ensures few { IfOk result (AreFewPieces n.now (table_at n.now t).routes) }
         ensures firsts { IfOk result (λ x. DivideFirsts x.firsts (cuts_of_table n.now (table_at n.now t))) }
         ensures pieces { IfOk result ArePieces }
     {

@@ -1,4 +1,4 @@
-use Rattle.std.proofs.Common.{◌∙◌, ◌<◌, ◌+◌, ◌≡◌, ap, arith, length, subst, sym, take}
+use Rattle.std.proofs.Common.{◌∙◌, ◌<◌, ◌+◌, ap, arith, length, subst, sym, take}
 use Rattle.std.specs.List.{AllZip}
 use Rattle.vpc_laws.specs.Types.{Description}
 use Rattle.vpc_model.specs.Lookup.{acl_at}

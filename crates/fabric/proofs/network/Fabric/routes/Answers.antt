@@ -1,4 +1,4 @@
-use Rattle.std.proofs.Common.{length, subst, sym}
+use Rattle.std.proofs.Common.{length, subst}
 use Rattle.std.proofs.lemmas.Bool.{ltb-true}
 use Rattle.fabric.specs.Indexes.{AreIndexesOf, IsRouteIndex}
 use Rattle.fabric.proofs.Numbered.{index-table, number-within}
