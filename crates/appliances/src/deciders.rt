@@ -28,7 +28,8 @@ pub struct Deciders {
     decide: Decide,
     ghost numbered: { (e : EniNo) → value_at e.0 numbers ≡ number_of appliances e },
     ghost callable: { (k : ℕ) (h : _) → k < length appliances → Decide.pre decide k h },
-    ghost answers: { (k : ℕ) (h : _) (r : Bool) → k < length appliances → Decide.post decide k h r → r ≡ passes_at appliances k h.now },
+    ghost answers: { (k : ℕ) (h : _) (r : Bool) → k < length appliances
+        → Decide.post decide k h r → r ≡ passes_at appliances k h.now },
 }
 
 fn numbers_of(
@@ -58,7 +59,8 @@ impl Deciders {
     ) -> Result<Deciders, NoMemory>
         requires few { length appliances < 2 ^ 32 }
         requires callable { (k : ℕ) (h : _) → k < length appliances → Decide.pre decide k h }
-        requires answers { (k : ℕ) (h : _) (r : Bool) → k < length appliances → Decide.post decide k h r → r ≡ passes_at appliances k h.now }
+        requires answers { (k : ℕ) (h : _) (r : Bool) → k < length appliances
+            → Decide.post decide k h r → r ≡ passes_at appliances k h.now }
         ensures { IfOk result (λ d. d.appliances ≡ appliances) }
     {
         let numbers = numbers_of(alloc, appliances.as_slice())?;

@@ -1,8 +1,5 @@
-pub mod Forwarding
-pub mod Publics
 pub mod Edges
 pub mod Entering
-pub mod Routing
 pub mod Steps
 pub mod Walking
 pub mod Verdicts

@@ -1,4 +1,3 @@
 pub mod Comes
 pub mod Moments
-pub mod Replies
 pub mod Session

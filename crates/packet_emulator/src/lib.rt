@@ -22,6 +22,7 @@ mod transit;
 mod verdict;
 mod walks;
 
+pub use places::same_place;
 pub use session::Session;
-pub use verdict::{both, round};
+pub use verdict::{both, round, same_end};
 pub use walks::{Hops, walk};

@@ -25,8 +25,8 @@ fn same_enter(a: EnterBy, b: EnterBy) -> bool
     }
 }
 
-// A router that was reached in another way is another place.
-fn same_place(a: Place, b: Place) -> bool
+/// Whether two places are one. A router that was reached in another way is another place.
+pub fn same_place(a: Place, b: Place) -> bool
     ensures { result ≡ same_place a b }
 {
     match (a, b) {

@@ -1,10 +1,9 @@
 // A request and its reply.
 ghost use Rattle.std.specs.Prelude.{◌≡◌, ◌≤◌, [], IsTrue};
-ghost use Rattle.packet_emulator.specs.Replies.{hops_after, reply_hops};
 ghost use Rattle.vpc_base.specs.Header.{reply_of};
 ghost use Rattle.vpc_model.specs.Sound.{is_end};
 ghost use Rattle.vpc_model.specs.Connections.{is_header};
-ghost use Rattle.vpc_model.specs.Verdict.{reply_walk, request_walk, same_end, verdict_of, verdict_of_reply, verdict_of_request};
+ghost use Rattle.vpc_model.specs.Verdict.{hops_after, reply_hops, reply_walk, request_walk, same_end, verdict_of, verdict_of_reply, verdict_of_request};
 ghost use Rattle.vpc_model.specs.Walk.{Walk};
 ghost use Rattle.vpc_model.specs.declared.outcomes.Outcome.TheVariants as outcomes;
 
@@ -16,7 +15,8 @@ use nat_gateway::SmallNats;
 use vpc_base::{Header, Label};
 use vpc_model::{End, Outcome, Phase, Stop, Verdict, start_place};
 
-fn same_end(a: End, b: End) -> bool
+/// Whether two ends are one.
+pub fn same_end(a: End, b: End) -> bool
     ensures { result ≡ same_end a b }
 {
     match (a, b) {

@@ -1,7 +1,7 @@
 use Rattle.std.proofs.Common.{◌∙◌, ap, sym}
 use Rattle.vpc_laws.specs.Types.{Interface}
 use Rattle.vpc_model.specs.Lookup.{has_address}
-use Rattle.packet_emulator.proofs.Forwarding.{boxes_at-number, taken_in-drops, taken_in-none, taken_in-own, taken_in-passes}
+use Rattle.appliances.proofs.Forwarding.{boxes_at-number, taken_in-drops, taken_in-none, taken_in-own, taken_in-passes}
 use Rattle.packet_emulator.proofs.interface.taken_in.Goals as goal
 
 pub returns-in_default : goal.returns-in_default

@@ -1,5 +1,5 @@
 use Rattle.std.proofs.Common.{◌∙◌, subst, sym}
-use Rattle.packet_emulator.proofs.Edges.{owner-lies}
+use Rattle.fabric.proofs.Owners.{owner-lies}
 use Rattle.vpc_model.specs.Accepted.{IsAccepted}
 use Rattle.packet_emulator.proofs.internet.internet.Goals as goal
 

@@ -1,5 +1,5 @@
 use Rattle.std.proofs.Common.{◌∙◌, subst, sym}
-use Rattle.packet_emulator.proofs.Edges.{private-none, private-other, private-own}
+use Rattle.fabric.proofs.Owners.{private-none, private-other, private-own}
 use Rattle.vpc_model.specs.Accepted.{IsAccepted}
 use Rattle.packet_emulator.proofs.internet.private_at.Goals as goal
 

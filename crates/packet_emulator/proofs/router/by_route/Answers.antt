@@ -1,5 +1,5 @@
 use Rattle.std.proofs.Common.{◌∙◌, ap}
-use Rattle.packet_emulator.proofs.Routing.{has_target}
+use Rattle.fabric.proofs.Routing.{has_target}
 use Rattle.vpc_laws.specs.Types.{RouteTable}
 use Rattle.packet_emulator.proofs.router.by_route.Goals as goal
 

@@ -1,6 +1,6 @@
 use Rattle.std.proofs.Common.{◌≡◌, ◌∙◌, ap, subst, sym}
 use Rattle.fabric.proofs.RowFacts.{table-lies}
-use Rattle.packet_emulator.proofs.Routing.{chosen_route-lies}
+use Rattle.fabric.proofs.Routing.{chosen_route-lies}
 use Rattle.packet_emulator.specs.Comes.{comes}
 use Rattle.vpc_laws.specs.Types.{Description, TableNo}
 use Rattle.vpc_model.specs.Lookup.{table_at, table_of}

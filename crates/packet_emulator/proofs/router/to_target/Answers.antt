@@ -1,5 +1,5 @@
 use Rattle.std.proofs.Common.{◌∙◌, ap, sym}
-use Rattle.packet_emulator.proofs.Routing.{eni-named, nat-named, peering-named}
+use Rattle.fabric.proofs.Routing.{eni-named, nat-named, peering-named}
 use Rattle.vpc_laws.specs.Types.{Description}
 use Rattle.vpc_model.specs.Lookup.{eni_no, igw_no, table_at}
 use Rattle.vpc_model.specs.Step.Router as model

@@ -2,8 +2,7 @@ use Rattle.std.proofs.Common.{◌∙◌, ap, sym}
 use Rattle.conn_tracking.specs.Tracked.{Tracked}
 use Rattle.nat_gateway.specs.Book.{Book}
 use Rattle.packet_emulator.proofs.Verdicts.{walk_of-request}
-use Rattle.packet_emulator.specs.Replies.{hops_after}
-use Rattle.vpc_model.specs.Verdict.{request_walk, verdict_of_request}
+use Rattle.vpc_model.specs.Verdict.{hops_after, request_walk, verdict_of_request}
 use Rattle.vpc_model.specs.Walk.{Walk}
 use Rattle.packet_emulator.proofs.verdict.both.Goals as goal
 
