@@ -1,6 +1,3 @@
+pub mod Rests
 pub mod Telling
-pub mod AclAnswers
-pub mod Going
-pub mod RouteAnswers
-pub mod EdgeAnswers
-pub mod TargetAnswers
+pub mod Texts

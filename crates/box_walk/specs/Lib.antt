@@ -1,2 +1,5 @@
-pub mod Cuts
-pub mod Onward
+pub mod Walks
+pub mod Rests
+pub mod Asking
+pub mod Told
+pub mod Laws

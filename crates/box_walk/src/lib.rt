@@ -1,15 +1,13 @@
-//! The walk of all headers of a box at once. A step is one for all headers of a body: a part of the box
-//! with its low corner, aligned to the cuts of the rows that the place asks. One file serves each section
-//! of the walk.
+//! The walks of all headers of a box at once, and the probe that asks whether requests arrive and their
+//! replies return.
 #![tactic(auto)]
 
-mod choosing;
-mod crossing;
-mod enter;
-mod internet;
-mod onward;
-mod peering;
-mod router;
-mod transit;
+mod laws;
+mod probe;
+mod verdict;
+mod walks;
 
-pub use onward::Onward;
+pub use box_steps::{BoxMoment, BoxNext, ImageNat, step_on};
+pub use laws::words_have_texts;
+pub use probe::RoundProbe;
+pub use walks::{Ending, walk_on};

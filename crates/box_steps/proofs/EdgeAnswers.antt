@@ -1,0 +1,152 @@
+-- What peerings and the internet answer for all headers of a body.
+use Rattle.std.proofs.Common.{◌≡◌, ◌∙◌, ◌==◌, ◌&&◌, ◌||◌, Bool, IfSome, List, None, Option, Some, ap, bytes_eq, cond, false, find, is_some, not, option_map, refl, subst, sym, true, ℕ}
+use Rattle.std.specs.List.{flat_map}
+use Rattle.std.proofs.lemmas.Bool.{and_parts}
+use Rattle.vpc_base.specs.Cuts.{CutLists}
+use Rattle.vpc_base.specs.declared.headers.Header.{Header}
+use Rattle.header_boxes.specs.Boxes.{IsValid}
+use Rattle.box_images.specs.Answers.{Answers}
+use Rattle.box_images.specs.Images.{header_at}
+use Rattle.box_images.specs.declared.images.Image.{Image}
+use Rattle.box_images.specs.declared.images.Part.{Part}
+use Rattle.cut_laws.proofs.Among.{among_through}
+use Rattle.cut_laws.proofs.Rows.{fixed_are_standing}
+use Rattle.cut_laws.specs.Dividing.{CutOut, Divide}
+use Rattle.edge_gateways.proofs.Standing.{owners_are_cut_out, sides_are_divided}
+use Rattle.edge_gateways.specs.Carry.{carry_if}
+use Rattle.edge_gateways.specs.Edges.{AreEdgesOf, CanCarry, EdgeLists, carry, owner_in}
+use Rattle.edge_gateways.specs.OnImages.{DivideSides}
+use Rattle.edge_gateways.specs.declared.peerings.Carry.{Carry}
+use Rattle.image_tests.proofs.Answering.{answers_more}
+use Rattle.vpc_laws.proofs.Sounding.{IfFound, known-accepted, owner-by}
+use Rattle.vpc_laws.specs.Types.{Description, PeerNo, VpcNo}
+use Rattle.vpc_model.specs.Accepted.{IsAccepted}
+use Rattle.vpc_model.specs.Cuts.{address_cuts, cuts_of_blocks, fixed_cuts, on_sides, standing_cuts}
+use Rattle.vpc_model.specs.Internet.{is_unroutable, owned_by, owner_of}
+use Rattle.vpc_model.specs.Lookup.{has_vpc, peering_at, vpc_at, vpc_no}
+use Rattle.vpc_model.specs.Peerings.{has_block, other_side}
+use Rattle.vpc_model.specs.Sound.{is_peering, is_sound, is_vpc, joins}
+use Rattle.vpc_model.specs.Step.Internet.{to_owner}
+use Rattle.vpc_model.specs.Step.Peering.{by_pair}
+use Rattle.vpc_model.specs.Step.Words.{Next, go, stop}
+use Rattle.vpc_model.specs.declared.places.EnterBy.TheVariants as through
+use Rattle.vpc_model.specs.declared.places.Place.TheVariants as places
+use Rattle.vpc_model.specs.declared.stops.Stop.TheVariants as stops
+use Rattle.box_steps.proofs.RouteAnswers.{told_of_low}
+use Rattle.box_steps.proofs.Telling.{answers_then, answers_told}
+use Rattle.box_steps.specs.Cuts.{Standing}
+use Rattle.box_steps.specs.Onward.{after_carry, onward_of}
+use Rattle.box_steps.specs.declared.onward.Onward.{Onward}
+use Rattle.box_steps.specs.declared.onward.Onward.TheVariants as onwards
+
+-- ---- peerings
+
+-- a sound place on a peering has two VPCs that are described, of which the sender is one
+can_carry : (d : Description) (x : PeerNo) (v : VpcNo) (pair : List ℕ × List ℕ) → is_sound d (places.Peer x v) ≡ true → (peering_at d x).pair ≡ Some pair → CanCarry d x v
+can_carry d x v pair sound active =
+    let row = peering_at d x in
+    let vpc = vpc_at d v in
+    let first = and_parts (is_peering d x) (is_vpc d v && joins d vpc.id row.pair) sound in
+    let second = and_parts (is_vpc d v) (joins d vpc.id row.pair) first.1 in
+    let joined : joins d vpc.id (Some pair) ≡ true = subst (λ (o : Option (List ℕ × List ℕ)). joins d vpc.id o ≡ true) active second.1 in
+    let both = and_parts (bytes_eq pair.0 vpc.id || bytes_eq pair.1 vpc.id) (has_vpc d pair.0 && has_vpc d pair.1) joined in
+    let described = and_parts (has_vpc d pair.0) (has_vpc d pair.1) both.1 in
+    record { pair = pair; active = active; one = described.0; other = described.1; sends = second.0; side = both.0 }
+
+-- the VPC at the other side
+abbrev pub far : Description → VpcNo → List ℕ × List ℕ → VpcNo
+far d v pair = vpc_no d (other_side (vpc_at d v).id pair)
+
+by-carry : (b c : Bool) (x : PeerNo) (w : VpcNo) (h : Header)
+    → onward_of (cond (not b) (stop (stops.PeerSource x)) (cond (not c) (stop (stops.PeerDestination x)) (go (places.Enter w (through.Peering x)) h))) ≡ after_carry x w (carry_if b c)
+by-carry true true x w h = refl
+by-carry true false x w h = refl
+by-carry false c x w h = refl
+
+sides-divide : (d : Description) (m : EdgeLists) (x : PeerNo) (v : VpcNo) → AreEdgesOf d m → CanCarry d x v → (cuts : CutLists) → Standing d cuts → DivideSides m.blocks m.sides x v cuts
+sides-divide d m x v are can cuts standing =
+    let sides = sides_are_divided d m x v are can in
+    record { sender = λ a fits turns. standing.addr _ (sides.sender a fits turns); receiver = λ a fits turns. standing.addr _ (sides.receiver a fits turns) }
+
+carry-told : (d : Description) (m : EdgeLists) (x : PeerNo) (v : VpcNo) (pair : List ℕ × List ℕ) (k : Header) → AreEdgesOf d m → is_sound d (places.Peer x v) ≡ true
+    → (peering_at d x).pair ≡ Some pair → carry_if (has_block d v k.src) (has_block d (far d v pair) k.dst) ≡ carry m x v k
+unfolding can_carry
+carry-told d m x v pair k are sound active = sym (are.carries x v k (can_carry d x v pair sound active))
+
+pub answers_of_peering : (d : Description) (m : EdgeLists) (x : PeerNo) (v other : VpcNo) (pair : List ℕ × List ℕ) (i : Image) (y : Part Carry) (next : Onward) → AreEdgesOf d m
+    → is_sound d (places.Peer x v) ≡ true → (peering_at d x).pair ≡ Some pair → other ≡ far d v pair → next ≡ after_carry x other y.told
+    → Answers (DivideSides m.blocks m.sides x v) (λ h. carry m x v (header_at i h)) i.part y
+    → Answers (Standing d) (λ h. onward_of (by_pair d x v (header_at i h) (peering_at d x).pair)) i.part (record { body = y.body; told = next })
+answers_of_peering d m x v other pair i y next are sound active is leads k =
+    answers_told (Standing d) (λ h. carry m x v (header_at i h)) (λ h. onward_of (by_pair d x v (header_at i h) (peering_at d x).pair)) i.part y next
+    (λ h e. ap (λ (o : Option (List ℕ × List ℕ)). onward_of (by_pair d x v (header_at i h) o)) active
+    ∙ by-carry (has_block d v (header_at i h).src) (has_block d (far d v pair) (header_at i h).dst) x (far d v pair) (header_at i h)
+    ∙ ap (after_carry x (far d v pair)) (carry-told d m x v pair (header_at i h) are sound active ∙ e)
+    ∙ sym (leads ∙ ap (λ (w : VpcNo). after_carry x w y.told) is))
+    (answers_more (DivideSides m.blocks m.sides x v) (Standing d) (λ h. carry m x v (header_at i h)) i.part y (sides-divide d m x v are (can_carry d x v pair sound active)) k)
+
+-- ---- the internet
+
+-- what comes next on the internet
+abbrev pub on_internet : Description → Header → Next
+on_internet d k = cond (is_unroutable k.src || is_unroutable k.dst) (stop stops.PrivateAddress) (to_owner d k (owner_of d k.dst))
+
+abbrev unroutable-at : Image → Header → Bool
+unroutable-at i h = is_unroutable (header_at i h).src || is_unroutable (header_at i h).dst
+
+unroutable-standing : (d : Description) (i : Image) (x : Part Bool) → Answers (Divide fixed_cuts) (unroutable-at i) i.part x → Answers (Standing d) (unroutable-at i) i.part x
+unroutable-standing d i x k =
+    answers_more (Divide fixed_cuts) (Standing d) (unroutable-at i) i.part x (λ cuts standing. among_through (on_sides fixed_cuts) (standing_cuts d) cuts (fixed_are_standing d) standing) k
+
+by-unroutable : (b : Bool) (yes-next no-next : Next) (v : Bool) → b ≡ v → v ≡ true → onward_of (cond b yes-next no-next) ≡ onward_of yes-next
+by-unroutable true yes-next no-next v e is = refl
+by-unroutable false yes-next no-next v e is = absurd (let f : false ≡ true = e ∙ is in cc)
+
+by-routable : (b : Bool) (yes-next no-next : Next) (v : Bool) → b ≡ v → v ≡ false → onward_of (cond b yes-next no-next) ≡ onward_of no-next
+by-routable true yes-next no-next v e is = absurd (let f : true ≡ false = e ∙ is in cc)
+by-routable false yes-next no-next v e is = refl
+
+pub answers_unroutable : (d : Description) (i : Image) (x : Part Bool) → x.told ≡ true → Answers (Divide fixed_cuts) (unroutable-at i) i.part x
+    → Answers (Standing d) (λ h. onward_of (on_internet d (header_at i h))) i.part (record { body = x.body; told = onwards.Stop stops.PrivateAddress })
+answers_unroutable d i x is k =
+    answers_told (Standing d) (unroutable-at i) (λ h. onward_of (on_internet d (header_at i h))) i.part x (onwards.Stop stops.PrivateAddress)
+    (λ h e. by-unroutable (unroutable-at i h) (stop stops.PrivateAddress) (to_owner d (header_at i h) (owner_of d (header_at i h).dst)) x.told e is) (unroutable-standing d i x k)
+
+pub owners-divide : (d : Description) (m : EdgeLists) → AreEdgesOf d m → (cuts : CutLists) → Standing d cuts → CutOut (λ public. is_some (owner_in m public)) cuts
+owners-divide d m are cuts standing a fits some =
+    among_through (on_sides (cuts_of_blocks (address_cuts a))) (standing_cuts d) cuts (owners_are_cut_out d m are a fits some) standing
+
+owner-first : (d : Description) (m : EdgeLists) (public : ℕ) (o : Option (VpcNo × ℕ)) → AreEdgesOf d m → owner_in m public ≡ o → owner_of d public ≡ option_map (λ (x : VpcNo × ℕ). x.0) o
+owner-first d m public o are told = sym (are.pairs.owner public) ∙ ap (option_map (λ (x : VpcNo × ℕ). x.0)) told
+
+answers_of_owner : (d : Description) (m : EdgeLists) (j : Image) (y : Part (Option (VpcNo × ℕ))) (next : Onward) → AreEdgesOf d m
+    → ((h : Header) → onward_of (to_owner d h (option_map (λ (x : VpcNo × ℕ). x.0) y.told)) ≡ next)
+    → Answers (CutOut (λ public. is_some (owner_in m public))) (λ h. owner_in m (header_at j h).dst) j.part y
+    → Answers (Standing d) (λ h. onward_of (to_owner d (header_at j h) (owner_of d (header_at j h).dst))) j.part (record { body = y.body; told = next })
+answers_of_owner d m j y next are leads k =
+    answers_told (Standing d) (λ h. owner_in m (header_at j h).dst) (λ h. onward_of (to_owner d (header_at j h) (owner_of d (header_at j h).dst))) j.part y next
+    (λ h e. ap (λ (o : Option VpcNo). onward_of (to_owner d (header_at j h) o)) (owner-first d m (header_at j h).dst y.told are e) ∙ leads (header_at j h))
+    (answers_more (CutOut (λ public. is_some (owner_in m public))) (Standing d) (λ h. owner_in m (header_at j h).dst) j.part y (owners-divide d m are) k)
+
+pub answers_routable : (d : Description) (m : EdgeLists) (i j : Image) (x : Part Bool) (y : Part (Option (VpcNo × ℕ))) (next : Onward) → IsValid i.part → AreEdgesOf d m → x.told ≡ false
+    → j ≡ record i { part = x.body } → ((h : Header) → onward_of (to_owner d h (option_map (λ (o : VpcNo × ℕ). o.0) y.told)) ≡ next)
+    → Answers (Divide fixed_cuts) (unroutable-at i) i.part x
+    → Answers (CutOut (λ public. is_some (owner_in m public))) (λ h. owner_in m (header_at j h).dst) j.part y
+    → Answers (Standing d) (λ h. onward_of (on_internet d (header_at i h))) i.part (record { body = y.body; told = next })
+answers_routable d m i j x y next valid are is within leads k l =
+    answers_then (Standing d) (λ h. is_unroutable h.src || is_unroutable h.dst) (λ h. onward_of (on_internet d h)) (λ h. onward_of (to_owner d h (owner_of d h.dst))) i j x (record { body = y.body; told = next })
+    valid within
+    (λ h e. by-routable (unroutable-at i h) (stop stops.PrivateAddress) (to_owner d (header_at i h) (owner_of d (header_at i h).dst)) x.told e is)
+    (unroutable-standing d i x k) (answers_of_owner d m j y next are leads l)
+
+owner-lies : (d : Description) (m : EdgeLists) (public : ℕ) (o : Option (VpcNo × ℕ)) → IsAccepted d → AreEdgesOf d m → owner_in m public ≡ o → IfSome o (λ x. is_vpc d x.0 ≡ true)
+owner-lies d m public None accepted are told = tt
+owner-lies d m public (Some x) accepted are told =
+    subst (λ (o : Option VpcNo). IfFound (is_vpc d) o) (owner-first d m public (Some x) are told)
+    (owner-by d (known-accepted d accepted) public (find (λ (o : VpcNo × ℕ). o.1 == public) (flat_map (owned_by d) d.interfaces)) refl)
+
+-- the owner that was told is described
+pub owner_lies : (enough : CutLists → Type 0) (d : Description) (m : EdgeLists) (j : Image) (y : Part (Option (VpcNo × ℕ))) → IsAccepted d → AreEdgesOf d m
+    → Answers enough (λ h. owner_in m (header_at j h).dst) j.part y → IfSome y.told (λ x. is_vpc d x.0 ≡ true)
+owner_lies enough d m j y accepted are k =
+    owner-lies d m _ y.told accepted are (sym (told_of_low enough (λ h. owner_in m (header_at j h).dst) j.part y k))

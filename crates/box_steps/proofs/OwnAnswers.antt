@@ -1,0 +1,56 @@
+-- The addresses of one interface, asked of images.
+use Rattle.std.proofs.Common.{◌≡◌, ◌==◌, ◌+◌, Bool, List, Option, ap, arith, refl, subst, sym, ℕ}
+use Rattle.std.specs.List.{Contains}
+use Rattle.std.specs.Prelude.{nat_le}
+use Rattle.std.proofs.lemmas.Bool.Decides.{nat_tests}
+use Rattle.std.proofs.lemmas.List.Elements.{All-contains}
+use Rattle.vpc_base.specs.declared.headers.Header.{Header}
+use Rattle.box_images.specs.Answers.{Answers}
+use Rattle.box_images.specs.Bodies.{IsCut}
+use Rattle.box_images.specs.Fields.{number_of}
+use Rattle.box_images.specs.Images.{IsImageOfWalk, IsValidImage, field_of, header_at}
+use Rattle.box_images.specs.declared.fields.Side.{Side}
+use Rattle.box_images.specs.declared.images.Image.{Image}
+use Rattle.box_images.specs.declared.images.Part.{Part}
+use Rattle.cut_laws.proofs.Among.{filter_in}
+use Rattle.image_tests.proofs.Answering.{answers_more, answers_same, side_answers}
+use Rattle.image_tests.proofs.Fields.{address_field, address_is_cut, greatest_address}
+use Rattle.image_tests.proofs.Trying.{header_of_rest}
+use Rattle.image_tests.specs.Tests.{IsAddressSide, TellsSide}
+use Rattle.vpc_base.specs.Cuts.{CutLists}
+use Rattle.vpc_model.specs.Cuts.{address_cuts}
+use Rattle.vpc_model.specs.Filter.{is_between}
+use Rattle.box_steps.specs.Hosts.{DivideAddress, DivideOwn}
+
+-- the test of a header
+abbrev pub own_test : Side → Image → ℕ × Option ℕ → Header → Bool
+own_test s i x h = x.0 == number_of (header_at i h) s
+
+between_itself : (a n : ℕ) → is_between a a n ≡ (a == n)
+between_itself a n = grind (arith, nat_tests)
+
+address_cut : (cuts : CutLists) (i : Image) (s : Side) (a v : ℕ) → IsImageOfWalk i → IsAddressSide s → Contains (address_cuts a) v → DivideAddress a cuts → IsCut cuts 4294967295 (field_of i s) v
+address_cut cuts i s a v walk address has divide =
+    address_is_cut cuts (field_of i s) v (address_field i s walk address)
+    (λ le. divide.addr v (filter_in (λ n. nat_le n 4294967295) (address_cuts a) v (grind (arith, nat_tests)) has))
+
+-- one address, by the range from it to itself
+pub address_answers : (i : Image) (s : Side) (a : ℕ) (x : Part Bool) → IsValidImage i → IsImageOfWalk i → IsAddressSide s → TellsSide i s a a x
+    → Answers (DivideAddress a) (λ h. a == number_of (header_at i h) s) i.part x
+address_answers i s a x valid walk address told =
+    answers_same (DivideAddress a) (λ h. is_between a a (number_of (header_at i h) s)) (λ h. a == number_of (header_at i h) s) i.part x
+    (λ h. between_itself a (number_of (header_at i h) s))
+    (side_answers (DivideAddress a) i s a a x valid
+    (λ cuts divide.
+    subst (λ (n : ℕ). IsCut cuts n (field_of i s) a × IsCut cuts n (field_of i s) (a + 1)) (sym (greatest_address s address))
+    (address_cut cuts i s a a walk address (0, omega arith, refl) divide, address_cut cuts i s a (a + 1) walk address (1, omega arith, refl) divide))
+    told)
+
+-- one of them, asked of what is left of an image
+pub own_of_rest : (addresses : List (ℕ × Option ℕ)) (s : Side) (i rest : Image) (own : ℕ × Option ℕ) (x : Part Bool) → Contains addresses own → rest ≡ record i { part = rest.part }
+    → Answers (DivideAddress own.0) (own_test s rest own) rest.part x → Answers (DivideOwn addresses) (own_test s i own) rest.part x
+own_of_rest addresses s i rest own x has e k =
+    answers_more (DivideAddress own.0) (DivideOwn addresses) (own_test s i own) rest.part x
+    (λ cuts all. All-contains (λ (y : ℕ × Option ℕ). DivideAddress y.0 cuts) addresses own all has)
+    (answers_same (DivideAddress own.0) (own_test s rest own) (own_test s i own) rest.part x
+    (λ h. ap (λ (y : Header). own.0 == number_of y s) (header_of_rest i rest h e)) k)

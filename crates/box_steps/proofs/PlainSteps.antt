@@ -1,0 +1,113 @@
+-- Places that change no header and remember nothing: what was told of all headers is one step.
+use Rattle.std.proofs.Common.{◌≡◌, ◌∙◌, ◌||◌, Bool, ap, cond, false, inl, inr, refl, subst, sym, true}
+use Rattle.vpc_base.specs.declared.headers.Header.{Header}
+use Rattle.vpc_base.specs.declared.headers.Label.{Label}
+use Rattle.vpc_base.specs.declared.headers.Label.TheVariants as labels
+use Rattle.box_images.specs.Answers.{Answers}
+use Rattle.box_images.specs.Images.{IsImageOfWalk, header_at}
+use Rattle.box_images.specs.declared.images.Part.{Part}
+use Rattle.image_tests.proofs.Answering.{answers_all}
+use Rattle.vpc_laws.specs.Types.{AttNo, Description, PeerNo, Place, SubnetNo, VpcNo}
+use Rattle.vpc_model.specs.Accepted.{IsAccepted}
+use Rattle.vpc_model.specs.Appliances.{Appliances}
+use Rattle.vpc_model.specs.Internet.{is_unroutable, owner_of}
+use Rattle.vpc_model.specs.Lookup.{addresses_in, host_of, peering_at, table_at, table_of}
+use Rattle.vpc_model.specs.Routes.{chosen_route}
+use Rattle.vpc_model.specs.Sound.{is_sound}
+use Rattle.vpc_model.specs.Step.{step_at}
+use Rattle.vpc_model.specs.Step.Enter.{enter_host}
+use Rattle.vpc_model.specs.Step.Internet.{to_owner}
+use Rattle.vpc_model.specs.Step.Peering.{by_pair}
+use Rattle.vpc_model.specs.Step.Router.{by_route}
+use Rattle.vpc_model.specs.Step.Transit.{by_tgw_table, leave_by}
+use Rattle.vpc_model.specs.Step.Words.{Moment, Next, plain, stop}
+use Rattle.vpc_model.specs.Transit.{leave_subnet, table_of_attachment}
+use Rattle.vpc_model.specs.declared.places.Came.{Came}
+use Rattle.vpc_model.specs.declared.places.EnterBy.{EnterBy}
+use Rattle.vpc_model.specs.declared.places.Place.TheVariants as places
+use Rattle.vpc_model.specs.declared.stops.Stop.TheVariants as stops
+use Rattle.box_steps.proofs.Staying.{Stays, by_pair-stays, by_route-stays, by_tgw_table-stays, enter_host-stays, internet-stays, leave_by-stays}
+use Rattle.box_steps.proofs.Turning.{plain_step, standing_answers}
+use Rattle.box_steps.specs.Cuts.{AtPlace, Standing}
+use Rattle.box_steps.specs.Moments.{IsBoxMoment, IsStepOn, IsTurned, moment_at}
+use Rattle.box_steps.specs.Onward.{onward_of}
+use Rattle.box_steps.specs.declared.moment.BoxMoment.{BoxMoment}
+use Rattle.box_steps.specs.declared.onward.Onward.{Onward}
+
+-- ---- moments
+
+-- the header is one that a walk makes
+pub walk_of_moment : (d : Description) (label : Label) (m : BoxMoment) → IsBoxMoment d label m → IsImageOfWalk m.header
+walk_of_moment d labels.Opening m k = (addresses_in d, inl k.kind)
+walk_of_moment d labels.Answer m k = (addresses_in d, inr k.kind)
+
+-- the place where the moment is
+pub sound_at : (d : Description) (label : Label) (m : BoxMoment) (p : Place) → IsBoxMoment d label m → m.place ≡ p → is_sound d p ≡ true
+sound_at d label m p k is = ap (is_sound d) (sym is) ∙ k.sound
+
+-- ---- at one place
+
+-- what comes next follows from the header alone
+at_plain : (d : Description) (appliances : Appliances) (label : Label) (p : Place) (next : Header → Next) (x : Part Onward) (old new : BoxMoment) (onward : Onward)
+    → IsAccepted d → IsBoxMoment d label old → old.place ≡ p → IsTurned x old new onward → ((h : Header) → Stays h (next h))
+    → ((m : Moment) → step_at d appliances label p m ≡ plain m (next m.header))
+    → Answers (AtPlace d p) (λ h. onward_of (next (header_at old.header h))) old.header.part x → IsStepOn d appliances label old new onward
+at_plain d appliances label p next x old new onward accepted moment is t stays same k =
+    plain_step d appliances label x next old new onward accepted moment t
+    (subst (λ (q : Place). Answers (AtPlace d q) (λ h. onward_of (next (header_at old.header h))) old.header.part x) (sym is) k) stays
+    (λ h. ap (λ (q : Place). step_at d appliances label q (moment_at h old)) is ∙ same (moment_at h old))
+
+pub router_step : (d : Description) (appliances : Appliances) (label : Label) (s : SubnetNo) (came : Came) (x : Part Onward) (old new : BoxMoment) (onward : Onward)
+    → IsAccepted d → IsBoxMoment d label old → old.place ≡ places.Router s came → IsTurned x old new onward
+    → Answers (AtPlace d (places.Router s came)) (λ h. let k = header_at old.header h in onward_of (by_route d s k (table_of d s) (chosen_route d (table_at d (table_of d s)).routes k.dst))) old.header.part x
+    → IsStepOn d appliances label old new onward
+router_step d appliances label s came x old new onward accepted moment is t k =
+    at_plain d appliances label (places.Router s came) (λ h. by_route d s h (table_of d s) (chosen_route d (table_at d (table_of d s)).routes h.dst)) x old new onward
+    accepted moment is t (by_route-stays d s) (λ m. refl) k
+
+pub enter_step : (d : Description) (appliances : Appliances) (label : Label) (v : VpcNo) (by : EnterBy) (x : Part Onward) (old new : BoxMoment) (onward : Onward)
+    → IsAccepted d → IsBoxMoment d label old → old.place ≡ places.Enter v by → IsTurned x old new onward
+    → Answers (Standing d) (λ h. let k = header_at old.header h in onward_of (enter_host d v k (host_of d v k.dst))) old.header.part x → IsStepOn d appliances label old new onward
+enter_step d appliances label v by x old new onward accepted moment is t k =
+    at_plain d appliances label (places.Enter v by) (λ h. enter_host d v h (host_of d v h.dst)) x old new onward accepted moment is t (enter_host-stays d v) (λ m. refl)
+    (standing_answers d (places.Enter v by) (λ h. let g = header_at old.header h in onward_of (enter_host d v g (host_of d v g.dst))) old.header.part x k)
+
+plain-either : (m : Moment) (b : Bool) (x y : Next) → cond b (plain m x) (plain m y) ≡ plain m (cond b x y)
+plain-either m true x y = refl
+plain-either m false x y = refl
+
+pub internet_step : (d : Description) (appliances : Appliances) (label : Label) (x : Part Onward) (old new : BoxMoment) (onward : Onward)
+    → IsAccepted d → IsBoxMoment d label old → old.place ≡ places.Internet → IsTurned x old new onward
+    → Answers (Standing d) (λ h. let k = header_at old.header h in onward_of (cond (is_unroutable k.src || is_unroutable k.dst) (stop stops.PrivateAddress) (to_owner d k (owner_of d k.dst)))) old.header.part x
+    → IsStepOn d appliances label old new onward
+internet_step d appliances label x old new onward accepted moment is t k =
+    at_plain d appliances label places.Internet (λ h. cond (is_unroutable h.src || is_unroutable h.dst) (stop stops.PrivateAddress) (to_owner d h (owner_of d h.dst))) x old new onward
+    accepted moment is t (internet-stays d)
+    (λ m. plain-either m (is_unroutable m.header.src || is_unroutable m.header.dst) (stop stops.PrivateAddress) (to_owner d m.header (owner_of d m.header.dst)))
+    (standing_answers d places.Internet
+    (λ h. let g = header_at old.header h in onward_of (cond (is_unroutable g.src || is_unroutable g.dst) (stop stops.PrivateAddress) (to_owner d g (owner_of d g.dst)))) old.header.part x k)
+
+pub peer_step : (d : Description) (appliances : Appliances) (label : Label) (c : PeerNo) (v : VpcNo) (x : Part Onward) (old new : BoxMoment) (onward : Onward)
+    → IsAccepted d → IsBoxMoment d label old → old.place ≡ places.Peer c v → IsTurned x old new onward
+    → Answers (Standing d) (λ h. onward_of (by_pair d c v (header_at old.header h) (peering_at d c).pair)) old.header.part x → IsStepOn d appliances label old new onward
+peer_step d appliances label c v x old new onward accepted moment is t k =
+    at_plain d appliances label (places.Peer c v) (λ h. by_pair d c v h (peering_at d c).pair) x old new onward accepted moment is t (by_pair-stays d c v) (λ m. refl)
+    (standing_answers d (places.Peer c v) (λ h. onward_of (by_pair d c v (header_at old.header h) (peering_at d c).pair)) old.header.part x k)
+
+pub tgw_step : (d : Description) (appliances : Appliances) (label : Label) (a : AttNo) (entered : SubnetNo) (x : Part Onward) (old new : BoxMoment) (onward : Onward)
+    → IsAccepted d → IsBoxMoment d label old → old.place ≡ places.Tgw a entered → IsTurned x old new onward
+    → Answers (AtPlace d (places.Tgw a entered)) (λ h. onward_of (by_tgw_table d a entered (header_at old.header h) (table_of_attachment d a))) old.header.part x
+    → IsStepOn d appliances label old new onward
+tgw_step d appliances label a entered x old new onward accepted moment is t k =
+    at_plain d appliances label (places.Tgw a entered) (λ h. by_tgw_table d a entered h (table_of_attachment d a)) x old new onward accepted moment is t
+    (by_tgw_table-stays d a entered) (λ m. refl) k
+
+pub tgw_leave_step : (d : Description) (appliances : Appliances) (label : Label) (a : AttNo) (entered : SubnetNo) (told : Onward) (x : Part Onward) (old new : BoxMoment) (onward : Onward)
+    → IsAccepted d → IsBoxMoment d label old → old.place ≡ places.TgwLeave a entered → x ≡ record { body = old.header.part; told = told } → IsTurned x old new onward
+    → ((h : Header) → onward_of (leave_by a h (leave_subnet d a entered)) ≡ told) → IsStepOn d appliances label old new onward
+tgw_leave_step d appliances label a entered told x old new onward accepted moment is x_is t all =
+    at_plain d appliances label (places.TgwLeave a entered) (λ h. leave_by a h (leave_subnet d a entered)) x old new onward accepted moment is t
+    (leave_by-stays d a entered) (λ m. refl)
+    (subst (Answers (AtPlace d (places.TgwLeave a entered)) (λ h. onward_of (leave_by a (header_at old.header h) (leave_subnet d a entered))) old.header.part) (sym x_is)
+    (answers_all (AtPlace d (places.TgwLeave a entered)) (λ h. onward_of (leave_by a (header_at old.header h) (leave_subnet d a entered))) old.header.part told moment.valid.part
+    (λ h. sym (all (header_at old.header h)))))

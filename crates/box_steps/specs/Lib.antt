@@ -1,0 +1,6 @@
+pub mod Cuts
+pub mod Hosts
+pub mod Onward
+pub mod Publics
+pub mod Moments
+pub mod Passing

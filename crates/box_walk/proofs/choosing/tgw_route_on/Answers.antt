@@ -1,5 +1,0 @@
-use Rattle.box_walk.proofs.RouteAnswers.{answers_of_tgw_table}
-use Rattle.box_walk.proofs.choosing.tgw_route_on.Goals as goal
-
-pub returns : goal.returns
-returns c = λ entered. answers_of_tgw_table c.args.f.now c.args.a entered c.args.t c.args.i.now c.tgw_search_on.result c.requires.own c.tgw_search_on.ensures

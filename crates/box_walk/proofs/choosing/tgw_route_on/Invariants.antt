@@ -1,4 +1,0 @@
-use Rattle.box_walk.proofs.choosing.tgw_route_on.Given as goal
-
-abbrev pub ghosts-tgw_search_on : goal.ghosts-tgw_search_on
-ghosts-tgw_search_on a = record { name = a.blank.name; parts = a.blank.parts }

@@ -1,9 +1,0 @@
-use Rattle.std.proofs.Common.{◌∙◌, subst, sym}
-use Rattle.vpc_model.specs.Accepted.{IsAccepted}
-use Rattle.box_walk.proofs.TargetAnswers.{zone-lies}
-use Rattle.box_walk.proofs.router.to_transit_on.Goals as goal
-
-pub to_zone_on-requires-clause-zone : goal.to_zone_on-requires-clause-zone
-to_zone_on-requires-clause-zone c =
-    zone-lies c.args.f.now c.bytes.result.now c.args.s c.in-Ok.a c.in-Ok.zone (subst IsAccepted c.network.ensures c.description.ensures.accepted) c.requires.subnet
-    (sym (c.enter.ensures c.args.f.now c.transit.ensures) ∙ c.in-Ok.is)

@@ -1,0 +1,31 @@
+-- What is asked of requests from one end to another.
+use Rattle.std.specs.Prelude.{◌≡◌, None, Option, Some, true}
+use Rattle.vpc_base.specs.declared.headers.Header.{Header}
+use Rattle.vpc_laws.specs.Types.{Description, End, Phase, Stop, Verdict}
+use Rattle.vpc_model.specs.Appliances.{appliances_of}
+use Rattle.vpc_model.specs.Sound.{is_end}
+use Rattle.vpc_model.specs.Verdict.{verdict_of}
+use Rattle.vpc_model.specs.declared.outcomes.Verdict.TheVariants as verdicts
+
+-- a described network, and the two ends
+pub record Asking : Type 0 where
+  pub network : Description
+  pub start : End
+  pub goal : End
+
+abbrev pub asked : Description → End → End → Asking
+asked d start goal = record { network = d; start = start; goal = goal }
+
+-- both ends are described
+pub record IsAsking (a : Asking) : Type 0 where
+  pub start : is_end a.network a.start ≡ true
+  pub goal : is_end a.network a.goal ≡ true
+
+-- what stops a request or its reply, and in which phase; none where the request gets through
+abbrev pub stop_of : Verdict → Option (Phase × Stop)
+stop_of verdicts.Through = None
+stop_of (verdicts.Stopped phase s) = Some (phase, s)
+
+-- the same of a request with this header
+abbrev pub word_of : Asking → Header → Option (Phase × Stop)
+word_of a h = stop_of (verdict_of a.network (appliances_of a.network) a.start a.goal h)

@@ -1,0 +1,122 @@
+// The probe that is asked of the requests from one end to another.
+ghost use Rattle.std.specs.Prelude.{◌≡◌, [], IsTrue, List, ℕ};
+ghost use Rattle.vpc_base.specs.Cuts.{AreAmong};
+ghost use Rattle.vpc_base.specs.declared.headers.Header.{Header};
+ghost use Rattle.header_boxes.specs.Boxes.{IsValid, low_of};
+ghost use Rattle.box_images.specs.Answers.{Answers};
+ghost use Rattle.box_images.specs.Images.{IsImageOfOpen, IsValidImage, header_at};
+ghost use Rattle.vpc_model.specs.Appliances.{appliances_of};
+ghost use Rattle.vpc_model.specs.Near.{near_cuts};
+ghost use Rattle.vpc_model.specs.Place.{start_of};
+ghost use Rattle.vpc_model.specs.Sound.{is_end};
+ghost use Rattle.box_walk.specs.Asking.{IsAsking, asked, word_of};
+
+use crate::verdict::{Word, word_of_request};
+use appliances::Deciders;
+use box_images::{Image, Part};
+use box_steps::BoxMoment;
+use fabric::Fabric;
+use header_boxes::Box5;
+use ordered_cover::Probe;
+use std::cell::RefCell;
+use vpc_model::{End, Phase, Stop, start_place};
+
+/// What stops requests from one end to another, or their replies. A part that is answered is one for which
+/// all requests pass the same places, and so do their replies.
+#[derive(Drop)]
+pub struct RoundProbe<'a> {
+    fabric: &'a Fabric,
+    deciders: &'a Deciders,
+    start: End,
+    goal: End,
+    // What is followed: made once for all probes, since it has room for all that a walk may leave behind.
+    followed: RefCell<BoxMoment>,
+    ghost known: { IsAsking (asked fabric.now start goal) },
+    ghost described: { deciders.now.appliances ≡ appliances_of fabric.now },
+}
+
+// Requests at the start, of which nothing is remembered.
+fn begin(m: &mut BoxMoment, start: End, sides: &Box5)
+    requires { IsValid sides.now }
+    ensures place { m.new.place ≡ start_of start }
+    ensures part { m.new.header.part ≡ sides.now }
+    ensures value { (h : Header) → header_at m.new.header h ≡ h }
+    ensures valid { IsValidImage m.new.header }
+    ensures kind { (addresses : List ℕ) → IsImageOfOpen addresses m.new.header }
+    ensures conns { m.new.conns.items ≡ [] }
+    ensures nats { m.new.nats.items ≡ [] }
+{
+    m.place = start_place(&start);
+    m.header = Image::of(sides);
+    m.conns.clear();
+    m.nats.clear();
+}
+
+fn moment_at(start: End, sides: &Box5) -> BoxMoment
+    requires { IsValid sides.now }
+{
+    BoxMoment::at(start_place(&start), Image::of(sides))
+}
+
+impl<'a> RoundProbe<'a> {
+    /// The probe for the requests from the end `start` to the end `goal`, with the appliances that the
+    /// network describes.
+    pub fn of(f: &'a Fabric, deciders: &'a Deciders, start: End, goal: End) -> RoundProbe<'a>
+        requires appliances { deciders.now.appliances ≡ appliances_of f.now }
+        requires start { IsTrue (is_end f.now start) }
+        requires goal { IsTrue (is_end f.now goal) }
+        ensures { asked result.fabric.now result.start result.goal ≡ asked f.now start goal }
+    {
+        RoundProbe {
+            fabric: f,
+            deciders,
+            start,
+            goal,
+            followed: RefCell::from(moment_at(start, &Box5::default())),
+        }
+    }
+
+    // What stops the requests of a part of the sides, or their replies, by the moment that follows them.
+    fn follow(&self, sides: &Box5, m: &mut BoxMoment) -> Part<Word>
+        requires { IsValid sides.now }
+        ensures { Answers
+            (AreAmong (near_cuts self.now.fabric.now (appliances_of self.now.fabric.now) self.now.start self.now.goal (low_of sides.now)))
+            (word_of (asked self.now.fabric.now self.now.start self.now.goal)) sides.now result }
+    {
+        begin(m, self.start, sides);
+        let told = word_of_request(self.fabric, self.deciders, self.start, self.goal, m);
+        Part {
+            body: m.header.part,
+            told,
+        }
+    }
+}
+
+impl<'a> Probe for RoundProbe<'a> {
+    ghost use Rattle.vpc_model.specs.Cuts.{cuts_of};
+    ghost use Rattle.cut_laws.proofs.Places.{near_cuts_are_among_all};
+
+    type Word = (Phase, Stop);
+
+    ghost meaning = { λ p h. word_of (asked p.fabric.now p.start p.goal) h };
+
+    ghost cuts = { λ p. cuts_of p.fabric.now };
+
+    ghost near = { λ p h. near_cuts p.fabric.now (appliances_of p.fabric.now) p.start p.goal h };
+
+    ghost near_among = { λ p h. near_cuts_are_among_all p.fabric.now (appliances_of p.fabric.now) p.start p.goal h };
+
+    fn probe(&self, sides: &Box5) -> (Box5, Option<(Phase, Stop)>) {
+        match self.followed.try_borrow_mut() {
+            Ok(mut m) => {
+                let answer = self.follow(sides, &mut m);
+                (answer.body, answer.told)
+            }
+            // It is lent while another probe is asked.
+            Err(_) => {
+                let answer = self.follow(sides, &mut moment_at(self.start, sides));
+                (answer.body, answer.told)
+            }
+        }
+    }
+}
