@@ -1,0 +1,4 @@
+pub mod Ranges
+pub mod Numbers
+pub mod Described
+pub mod Accepting
