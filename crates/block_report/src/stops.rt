@@ -24,6 +24,7 @@ use vpc_model::{
     TgwTableNo,
 };
 
+/// The name of a stop, as it is printed.
 pub fn name_text(name: StopName) -> &'static [u8]
     ensures { result.now ≡ name_text name }
 {
@@ -68,7 +69,8 @@ pub fn name_text(name: StopName) -> &'static [u8]
 
 // ---- the component
 
-fn route_at<'a>(n: &'a Network, t: TableNo, k: u32) -> &'a Route
+/// A route of a route table by its number there.
+pub fn route_at<'a>(n: &'a Network, t: TableNo, k: u32) -> &'a Route
     requires { IsTrue (is_route n.now t k) }
     ensures { let table = table_at n.now t in result.now ≡ slice_index_or table.routes k no_route }
 {
@@ -76,7 +78,8 @@ fn route_at<'a>(n: &'a Network, t: TableNo, k: u32) -> &'a Route
     &table.routes.as_slice()[k as usize]
 }
 
-fn tgw_route_at<'a>(n: &'a Network, t: TgwTableNo, k: u32) -> &'a TgwRoute
+/// A route of a transit gateway route table by its number there.
+pub fn tgw_route_at<'a>(n: &'a Network, t: TgwTableNo, k: u32) -> &'a TgwRoute
     requires { IsTrue (is_tgw_route n.now t k) }
     ensures { let table = tgw_table_at n.now t in result.now ≡ slice_index_or table.routes k no_tgw_route }
 {

@@ -5,7 +5,6 @@
 #![tactic(auto)]
 
 mod boxes;
-mod components;
 mod laws;
 mod lines;
 mod names;
@@ -13,7 +12,6 @@ mod reading;
 mod report;
 mod row_lines;
 mod row_lists;
-mod rows;
 mod stops;
 mod told;
 mod words;

@@ -1,51 +1,9 @@
 // The names of stops.
 ghost use Rattle.std.specs.Prelude.{◌≡◌};
-ghost use Rattle.block_report.specs.Walks.{name_text};
 ghost use Rattle.report_reader.specs.Stops.{name_spelled};
 
+use block_report::name_text;
 use vpc_model::StopName;
-
-pub fn name_text(name: StopName) -> &'static [u8]
-    ensures { result.now ≡ name_text name }
-{
-    match name {
-        StopName::Detached => b"Detached",
-        StopName::SourceCheck => b"SourceCheck",
-        StopName::DestCheck => b"DestCheck",
-        StopName::GroupsOut => b"GroupsOut",
-        StopName::GroupsIn => b"GroupsIn",
-        StopName::NotAHost => b"NotAHost",
-        StopName::ApplianceDrop => b"ApplianceDrop",
-        StopName::NoRoute => b"NoRoute",
-        StopName::Blackhole => b"Blackhole",
-        StopName::AclOut => b"AclOut",
-        StopName::AclIn => b"AclIn",
-        StopName::NoHost => b"NoHost",
-        StopName::NoGateway => b"NoGateway",
-        StopName::GatewayDetached => b"GatewayDetached",
-        StopName::NoPublic => b"NoPublic",
-        StopName::PrivateAddress => b"PrivateAddress",
-        StopName::NatNotAvailable => b"NatNotAvailable",
-        StopName::NatAnswer => b"NatAnswer",
-        StopName::NatProtocol => b"NatProtocol",
-        StopName::NatFull => b"NatFull",
-        StopName::NatUnsolicited => b"NatUnsolicited",
-        StopName::PeerNotActive => b"PeerNotActive",
-        StopName::PeerSource => b"PeerSource",
-        StopName::PeerDestination => b"PeerDestination",
-        StopName::TgwNoAttachment => b"TgwNoAttachment",
-        StopName::TgwNoZone => b"TgwNoZone",
-        StopName::TgwNoTable => b"TgwNoTable",
-        StopName::TgwNoRoute => b"TgwNoRoute",
-        StopName::TgwBlackhole => b"TgwBlackhole",
-        StopName::Unmodelled => b"Unmodelled",
-        StopName::Loop => b"Loop",
-        StopName::TooFar => b"TooFar",
-        StopName::WrongPlace => b"WrongPlace",
-        StopName::WrongReturn => b"WrongReturn",
-        StopName::NoReply => b"NoReply",
-    }
-}
 
 const NAMES: [StopName; 35] = [
     StopName::Detached,

@@ -4,8 +4,7 @@ ghost use Rattle.prefix_text.specs.Block.{block_text};
 ghost use Rattle.vpc_model.specs.Sound.{has_text};
 ghost use Rattle.vpc_model.specs.Told.{name_of, reach_text, stop_id, stop_rule, told_stop};
 
-use crate::components::{route_at, stop_id, tgw_route_at};
-use crate::names::name_text;
+use block_report::{name_text, route_at, stop_id, tgw_route_at};
 use prefix_text::{Prefix, cidr_notation, decimal_digits};
 use reference_check::Network;
 use vpc_model::{Phase, Reach, Stop, StopName, StopText};

@@ -1,6 +1,5 @@
 -- What is due, from what was read and answered.
-use Rattle.std.proofs.Common.{◌≡◌, ◌<◌, ◌≤◌, ℕ, List, Option, Some, None, Result, Ok, Err, IfOk, [], ◌∷◌, zero, suc, arith, codes, false, inl, inr, length, refl, subst, sym}
-use Rattle.serde_json.specs.Data.{Data}
+use Rattle.std.proofs.Common.{◌≡◌, ◌<◌, ◌≤◌, ℕ, List, Option, Some, None, Result, Ok, Err, IfOk, [], ◌∷◌, zero, suc, arith, codes, false, inl, inr, length, refl, subst, sym, true}
 use Rattle.vpc_io.specs.Rose.{Rose}
 use Rattle.vpc_io.specs.Told.{IfTold}
 use Rattle.vpc_model.specs.declared.rows.Description.{Description}
@@ -13,7 +12,7 @@ use Rattle.vpc_cli.specs.Due.{IsAnswered, IsDue, IsDueForBytes}
 use Rattle.vpc_cli.specs.Due as due
 use Rattle.vpc_cli.specs.Replayed.{IsReplayed, IsReplayedFrom, events_refusal_line}
 use Rattle.vpc_cli.specs.Replayed as replays
-use Rattle.vpc_cli.specs.Words.{HasCount, command_of, file_name, second_name}
+use Rattle.vpc_cli.specs.Words.{HasCount, command_of, file_name, has_file, second_name}
 use Rattle.vpc_cli.specs.declared.status.Status.{Status}
 use Rattle.vpc_cli.specs.declared.status.Status.TheVariants as ends
 use Rattle.vpc_cli.specs.declared.words.Mode.{Mode}
@@ -34,6 +33,7 @@ pub names_a_file : (mode : Mode) (count : ℕ) → HasCount mode count → 2 ≤
 names_a_file modes.Trace count has = omega arith
 names_a_file modes.Ask count has = omega arith
 names_a_file modes.Replay count has = omega arith
+names_a_file modes.Make count has = omega arith
 
 -- the bytes of a file, as they are told
 told_bytes : (told : Option (List ℕ)) (bytes : List ℕ) → IfTold told (λ b. bytes ≡ b) → IfTold told (λ b. b ≡ bytes)
@@ -54,18 +54,18 @@ some_long None limit long = let more = more_bytes limit in (more.0, tt, more.1)
 some_long (Some bytes) limit long = (bytes, refl, long)
 
 pub too_big_is_due : (command : Mode) (words : List (List ℕ)) (told : List ℕ → Option (List ℕ)) (failed : List ℕ → Type 0) (status : Status) (text : List ℕ)
-    → command_of words ≡ Ok command → IfTold (told (file_name words)) (λ bytes. file_limit < length bytes)
+    → command_of words ≡ Ok command → has_file command ≡ true → IfTold (told (file_name words)) (λ bytes. file_limit < length bytes)
     → (status ≡ ends.Description) × (text ≡ refusal_line (codes "TooBig")) → IsDue words told failed status text
-too_big_is_due command words told failed status text is long h =
+too_big_is_due command words told failed status text is file long h =
     let found = some_long (told (file_name words)) file_limit long in
-    due.too_big command found.0 is found.1 found.2 h.0 h.1
+    due.too_big command found.0 is file found.1 found.2 h.0 h.1
 
 -- what is due for the bytes that were read is due for the file
 pub bytes_are_due : (command : Mode) (words : List (List ℕ)) (told : List ℕ → Option (List ℕ)) (failed : List ℕ → Type 0) (bytes : List ℕ) (status : Status) (text : List ℕ)
-    → command_of words ≡ Ok command → IfTold (told (file_name words)) (λ b. bytes ≡ b) → length bytes ≤ file_limit
+    → command_of words ≡ Ok command → has_file command ≡ true → IfTold (told (file_name words)) (λ b. bytes ≡ b) → length bytes ≤ file_limit
     → IsDueForBytes command words told failed bytes status text → IsDue words told failed status text
-bytes_are_due command words told failed bytes status text is taken few answer =
-    due.of_bytes command bytes is (told_bytes (told (file_name words)) bytes taken) few answer
+bytes_are_due command words told failed bytes status text is file taken few answer =
+    due.of_bytes command bytes is file (told_bytes (told (file_name words)) bytes taken) few answer
 
 -- a cause that was told is due
 pub cause_is_due : (command : Mode) (words : List (List ℕ)) (told : List ℕ → Option (List ℕ)) (failed : List ℕ → Type 0) (bytes : List ℕ) (cause : BundleRefusal) (status : Status) (text : List ℕ)
@@ -90,19 +90,20 @@ replayed_by d words told before failed sooner status text same follows (replays.
 replayed_by d words told before failed sooner status text same follows (replays.of_bytes bytes is few answer) =
     replays.of_bytes bytes (subst (λ (o : Option (List ℕ)). IfTold o (λ b. b ≡ bytes)) (same (second_name words)) is) few answer
 
-answered_by : (command : Mode) (value : Data) (d : Description) (words : List (List ℕ)) (told before : List ℕ → Option (List ℕ)) (failed sooner : List ℕ → Type 0) (status : Status) (text : List ℕ)
+answered_by : (command : Mode) (d : Description) (words : List (List ℕ)) (told before : List ℕ → Option (List ℕ)) (failed sooner : List ℕ → Type 0) (status : Status) (text : List ℕ)
     → ((n : List ℕ) → told n ≡ before n) → ((n : List ℕ) → failed n → sooner n)
-    → IsAnswered command value d words told failed status text → IsAnswered command value d words before sooner status text
-answered_by modes.Trace value d words told before failed sooner status text same follows answer = answer
-answered_by modes.Ask value d words told before failed sooner status text same follows answer = answer
-answered_by modes.Replay value d words told before failed sooner status text same follows answer = replayed_by d words told before failed sooner status text same follows answer
+    → IsAnswered command d words told failed status text → IsAnswered command d words before sooner status text
+answered_by modes.Trace d words told before failed sooner status text same follows answer = answer
+answered_by modes.Ask d words told before failed sooner status text same follows answer = answer
+answered_by modes.Make d words told before failed sooner status text same follows answer = answer
+answered_by modes.Replay d words told before failed sooner status text same follows answer = replayed_by d words told before failed sooner status text same follows answer
 
 pub due_before : (command : Mode) (words : List (List ℕ)) (told before : List ℕ → Option (List ℕ)) (failed sooner : List ℕ → Type 0) (bytes : List ℕ) (status : Status) (text : List ℕ)
     → ((n : List ℕ) → told n ≡ before n) → ((n : List ℕ) → failed n → sooner n)
     → IsDueForBytes command words told failed bytes status text → IsDueForBytes command words before sooner bytes status text
 due_before command words told before failed sooner bytes status text same follows (due.refused cause is ends_so says) = due.refused cause is ends_so says
 due_before command words told before failed sooner bytes status text same follows (due.answered network described answer) =
-    due.answered network described (answered_by command described.value network words told before failed sooner status text same follows answer)
+    due.answered network described (answered_by command network words told before failed sooner status text same follows answer)
 
 -- ---- the second file
 

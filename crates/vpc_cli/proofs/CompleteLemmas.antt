@@ -21,23 +21,24 @@ use Rattle.vpc_model.specs.declared.stop_texts.StopText.{StopText}
 use Rattle.bundle.specs.Meaning.{IsCause, Means, meaning_of}
 use Rattle.bundle.specs.declared.refusal.BundleRefusal.{BundleRefusal}
 use Rattle.bundle.specs.declared.refusal.BundleRefusal.TheVariants as causes
-use Rattle.one_subnet.specs.Site.{description_of}
-use Rattle.one_subnet.specs.declared.site.Site.{Site}
 use Rattle.query_words.specs.Events.{events_of}
 use Rattle.query_words.specs.Packet.{packet_of}
-use Rattle.subnet_reach.specs.Query.{box_of, meaning_in}
-use Rattle.subnet_reach.specs.declared.query.Query.{Query}
-use Rattle.vpc_cli.specs.Asked.{IsAsked, IsDecided, IsReachable, IsReported, IsReportedInPart, form_of}
+use Rattle.query_words.specs.Query.{query_of}
+use Rattle.query_words.specs.Words.{word_at}
+use Rattle.query_words.specs.declared.queries.Query.{Query}
+use Rattle.network_reach.specs.Reached.{meaning_in}
+use Rattle.vpc_cli.specs.Asked.{IsAnswerTo, IsAsked, IsDecided, IsReachable, IsReported, IsReportedInPart}
 use Rattle.vpc_cli.specs.Asked as asks
 use Rattle.vpc_cli.specs.Described.{Describes, file_limit}
 use Rattle.vpc_cli.specs.Due.{IsAnswered, IsComplete, IsDue, IsDueForBytes, IsFault, ReadFailed}
 use Rattle.vpc_cli.specs.Due as due
-use Rattle.vpc_cli.specs.Query.{query_of}
+use Rattle.vpc_cli.specs.Made.{IsMade, made_count}
+use Rattle.vpc_cli.specs.Made as makes
 use Rattle.vpc_cli.specs.Replayed.{IsReplayed, IsReplayedFrom}
 use Rattle.vpc_cli.specs.Replayed as replays
 use Rattle.vpc_cli.specs.Traced.{IsTraced, status_of, traced_status}
 use Rattle.vpc_cli.specs.Traced as traces
-use Rattle.vpc_cli.specs.Words.{command_of, file_name, second_name}
+use Rattle.vpc_cli.specs.Words.{command_of, file_name, has_file, second_name}
 use Rattle.vpc_cli.specs.declared.status.Status.{Status}
 use Rattle.vpc_cli.specs.declared.status.Status.TheVariants as ends
 use Rattle.vpc_cli.specs.declared.words.Mode.{Mode}
@@ -157,12 +158,10 @@ no_cause bytes causes.Memory d is described = is
 
 -- what is due for bytes that describe a network is the answer in it
 answer_for : (command : Mode) (words : List (List ℕ)) (told : List ℕ → Option (List ℕ)) (failed : List ℕ → Type 0) (bytes : List ℕ) (d : Description) (status : Status) (text : List ℕ)
-    → IsDueForBytes command words told failed bytes status text → (described : Describes bytes d) → IsAnswered command described.value d words told failed status text
+    → IsDueForBytes command words told failed bytes status text → Describes bytes d → IsAnswered command d words told failed status text
 answer_for command words told failed bytes d status text (due.refused cause is status_is text_is) described = absurd (no_cause bytes cause d is described)
 answer_for command words told failed bytes d status text (due.answered e other answer) described =
-    let network = described_network bytes e d other described in
-    let value = described_value bytes e d other described in
-    subst (λ (v : Data). IsAnswered command v d words told failed status text) value (subst (λ (n : Description). IsAnswered command other.value n words told failed status text) network answer)
+    subst (λ (n : Description). IsAnswered command n words told failed status text) (described_network bytes e d other described) answer
 
 -- ---- what is due for a told file
 
@@ -176,19 +175,23 @@ told_is (Some x) a b is same = let e : Some x ≡ Some a = is in cc
 too_many : (more few limit : ℕ) → limit < more → few ≤ limit → more ≡ few → ⊥
 too_many more few limit long short same = omega arith
 
+makes_no_file : (command : Mode) → modes.Make ≡ command → has_file command ≡ true → ⊥
+makes_no_file command is file = let none : false ≡ true = ap has_file is ∙ file in cc
+
 -- a fault, or the answer in the network that the told bytes describe
 fault_or_answer : (command : Mode) (words : List (List ℕ)) (told : List ℕ → Option (List ℕ)) (failed : List ℕ → Type 0) (bytes : List ℕ) (d : Description) (status : Status) (text : List ℕ)
-    → IsDue words told failed status text → command_of words ≡ Ok command → told (file_name words) ≡ Some bytes → (described : Describes bytes d)
-    → IsFault status ⊎ IsAnswered command described.value d words told failed status text
-fault_or_answer command words told failed bytes d status text (due.not_words refusal is status_is text_is) named at described =
+    → IsDue words told failed status text → command_of words ≡ Ok command → has_file command ≡ true → told (file_name words) ≡ Some bytes → Describes bytes d
+    → IsFault status ⊎ IsAnswered command d words told failed status text
+fault_or_answer command words told failed bytes d status text (due.not_words refusal is status_is text_is) named file at described =
     let same : Err refusal ≡ Ok command = sym is ∙ named in cc
-fault_or_answer command words told failed bytes d status text (due.no_memory status_is text_is) named at described = inl (inr (inr status_is))
-fault_or_answer command words told failed bytes d status text (due.not_read other is failure status_is text_is) named at described = inl (inl status_is)
-fault_or_answer command words told failed bytes d status text (due.too_big other more is same long status_is text_is) named at described =
+fault_or_answer command words told failed bytes d status text (due.of_number is answer) named file at described = absurd (makes_no_file command (same_command words modes.Make command is named) file)
+fault_or_answer command words told failed bytes d status text (due.no_memory status_is text_is) named file at described = inl (inr (inr status_is))
+fault_or_answer command words told failed bytes d status text (due.not_read other is has failure status_is text_is) named file at described = inl (inl status_is)
+fault_or_answer command words told failed bytes d status text (due.too_big other more is has same long status_is text_is) named file at described =
     let few = described.few in
     let all = ap length (told_is (told (file_name words)) bytes more at same) in
     absurd (too_many (length more) (length bytes) file_limit long few all)
-fault_or_answer command words told failed bytes d status text (due.of_bytes other these is same few answer) named at described =
+fault_or_answer command words told failed bytes d status text (due.of_bytes other these is has same few answer) named file at described =
     let by_command : IsDueForBytes command words told failed these status text = subst (λ (m : Mode). IsDueForBytes m words told failed these status text) (same_command words other command is named) answer in
     let by_bytes : IsDueForBytes command words told failed bytes status text = subst (λ (b : List ℕ). IsDueForBytes command words told failed b status text) (told_is (told (file_name words)) bytes these at same) by_command in
     inr (answer_for command words told failed bytes d status text by_bytes described)
@@ -204,51 +207,36 @@ traced d words e status text (traces.walked f is status_is text_is) packet = sta
 
 -- ---- `ask` decides its query
 
-yes_decides : (site : Site) (query : Query) (text : List ℕ) → IsReachable site query text → IsDecided site query ends.Yes
-yes_decides site query text x = record { yes = λ some. refl; no = λ few. absurd (few.none x.header x.first.inside x.first.through) }
+yes_decides : (d : Description) (query : Query) (text : List ℕ) → IsReachable d query text → IsDecided d query ends.Yes
+yes_decides d query text x = record { yes = λ some. refl; no = λ few. absurd (few.none x.header x.first.inside x.first.through) }
 
-no_decides : (site : Site) (query : Query) (text : List ℕ) → IsReported site query text → IsDecided site query ends.No
-no_decides site query text x = record {
-  yes = λ some. absurd (not_through (meaning_in site query) x.rows some.header x.report.report.are_true.word (x.report.report.holds_all some.header some.inside) (ap (ending_of (description_of site)) some.through));
+no_decides : (d : Description) (query : Query) (text : List ℕ) → IsReported d query text → IsDecided d query ends.No
+no_decides d query text x = record {
+  yes = λ some. absurd (not_through (meaning_in d query) x.rows some.header x.report.report.are_true.word (x.report.report.holds_all some.header some.inside) (ap (ending_of d) some.through));
   no = λ few. refl;
 }
 
-more_decides : (site : Site) (query : Query) (text : List ℕ) → IsReportedInPart site query text → IsDecided site query ends.More
-more_decides site query text x = record {
-  yes = λ some. absurd (x.report.none some.header some.inside (ap (ending_of (description_of site)) some.through));
-  no = λ few. absurd (too_few query.max x.cells few.cells x.report.many few.few (cells_are (description_of site) (box_of site query) few.cells x.cells few.cells_are x.report.cells_are));
+more_decides : (d : Description) (query : Query) (text : List ℕ) → IsReportedInPart d query text → IsDecided d query ends.More
+more_decides d query text x = record {
+  yes = λ some. absurd (x.report.none some.header some.inside (ap (ending_of d) some.through));
+  no = λ few. absurd (too_few query.max x.cells few.cells x.report.many few.few (cells_are d query.sides few.cells x.cells few.cells_are x.report.cells_are));
 }
   where
     too_few : (max cells few : ℕ) → max < cells → few ≤ max → few ≡ cells → ⊥
     too_few max cells few many at_most same = omega arith
 
-same_site : (found : Option Site) (s t : Site) → found ≡ Some s → found ≡ Some t → s ≡ t
-same_site found s t a b = let same : Some s ≡ Some t = sym a ∙ b in cc
+same_query : (d : Description) (words : List (List ℕ)) (x y : Query) → query_of d words ≡ Ok x → query_of d words ≡ Ok y → x ≡ y
+same_query d words x y a b = let same : Ok x ≡ Ok y = sym a ∙ b in cc
 
-same_query : (s t : Site) (words : List (List ℕ)) (x y : Query) → s ≡ t → query_of s.hosts words ≡ Some x → query_of t.hosts words ≡ Some y → x ≡ y
-same_query s t words x y site a b = let same : Some x ≡ Some y = sym a ∙ (ap (λ (u : Site). query_of u.hosts words) site ∙ b) in cc
+answer_decides : (d : Description) (query : Query) (status : Status) (text : List ℕ) → IsAnswerTo d query status text → IsDecided d query status
+answer_decides d query status text (asks.through status_is answer) = subst (IsDecided d query) (sym status_is) (yes_decides d query text answer)
+answer_decides d query status text (asks.blocked status_is answer) = subst (IsDecided d query) (sym status_is) (no_decides d query text answer)
+answer_decides d query status text (asks.more status_is answer) = subst (IsDecided d query) (sym status_is) (more_decides d query text answer)
 
-no_query : (s t : Site) (words : List (List ℕ)) (y : Query) → s ≡ t → query_of s.hosts words ≡ None → query_of t.hosts words ≡ Some y → ⊥
-no_query s t words y site a b = let same : None ≡ Some y = sym a ∙ (ap (λ (u : Site). query_of u.hosts words) site ∙ b) in cc
-
--- what is known of a query is known of the same one
-decided_here : (s t : Site) (x y : Query) (status end : Status) → s ≡ t → x ≡ y → status ≡ end → IsDecided s x end → IsDecided t y status
-decided_here s t x y status end site query status_is decided =
-    subst (λ (e : Status). IsDecided t y e) (sym status_is) (subst (λ (q : Query). IsDecided t q end) query (subst (λ (u : Site). IsDecided u x end) site decided))
-
-asked : (value : Data) (d : Description) (words : List (List ℕ)) (site : Site) (query : Query) (status : Status) (text : List ℕ)
-    → IsAsked value d words status text → form_of d value ≡ Some site → query_of site.hosts words ≡ Some query → IsDecided site query status
-asked value d words site query status text (asks.of_other_form none status_is text_is) form meant = let same : None ≡ Some site = sym none ∙ form in cc
-asked value d words site query status text (asks.refused s found none status_is text_is) form meant = absurd (no_query s site words query (same_site (form_of d value) s site found form) none meant)
-asked value d words site query status text (asks.through s x found read status_is answer) form meant =
-    let here = same_site (form_of d value) s site found form in
-    decided_here s site x query status ends.Yes here (same_query s site words x query here read meant) status_is (yes_decides s x text answer)
-asked value d words site query status text (asks.blocked s x found read status_is answer) form meant =
-    let here = same_site (form_of d value) s site found form in
-    decided_here s site x query status ends.No here (same_query s site words x query here read meant) status_is (no_decides s x text answer)
-asked value d words site query status text (asks.more s x found read status_is answer) form meant =
-    let here = same_site (form_of d value) s site found form in
-    decided_here s site x query status ends.More here (same_query s site words x query here read meant) status_is (more_decides s x text answer)
+asked : (d : Description) (words : List (List ℕ)) (query : Query) (status : Status) (text : List ℕ) → IsAsked d words status text → query_of d words ≡ Ok query → IsDecided d query status
+asked d words query status text (asks.refused refusal is status_is text_is) meant = let same : Err refusal ≡ Ok query = sym is ∙ meant in cc
+asked d words query status text (asks.answered x is answer) meant =
+    answer_decides d query status text (subst (λ (q : Query). IsAnswerTo d q status text) (same_query d words x query is meant) answer)
 
 -- ---- `replay` answers told events
 
@@ -269,6 +257,24 @@ replayed d words told failed text events status lines (replays.too_big bytes sam
 replayed d words told failed text events status lines (replays.of_bytes bytes same short answer) at few good =
     inr (replayed_from d bytes text events status lines answer (told_is (told (second_name words)) text bytes at same) good)
 
+-- ---- `make` answers its number
+
+made_of : (words : List (List ℕ)) (n : ℕ) (status : Status) (text : List ℕ) → IsMade words status text → made_count (word_at words 2) ≡ Some n → status ≡ ends.Yes
+made_of words n status text (makes.refused none status_is text_is) meant = let same : None ≡ Some n = sym none ∙ meant in cc
+made_of words n status text (makes.surveyed m is status_is survey) meant = status_is
+
+file_of_none : (words : List (List ℕ)) (other : Mode) → command_of words ≡ Ok other → has_file other ≡ true → command_of words ≡ Ok modes.Make → ⊥
+file_of_none words other is has named = makes_no_file other (same_command words modes.Make other named is) has
+
+made : (words : List (List ℕ)) (told : List ℕ → Option (List ℕ)) (failed : List ℕ → Type 0) (n : ℕ) (status : Status) (text : List ℕ)
+    → IsDue words told failed status text → command_of words ≡ Ok modes.Make → made_count (word_at words 2) ≡ Some n → IsFault status ⊎ (status ≡ ends.Yes)
+made words told failed n status text (due.not_words refusal is status_is text_is) named meant = let same : Err refusal ≡ Ok modes.Make = sym is ∙ named in cc
+made words told failed n status text (due.of_number is answer) named meant = inr (made_of words n status text answer meant)
+made words told failed n status text (due.no_memory status_is text_is) named meant = inl (inr (inr status_is))
+made words told failed n status text (due.not_read other is has failure status_is text_is) named meant = absurd (file_of_none words other is has named)
+made words told failed n status text (due.too_big other more is has same long status_is text_is) named meant = absurd (file_of_none words other is has named)
+made words told failed n status text (due.of_bytes other these is has same few answer) named meant = absurd (file_of_none words other is has named)
+
 -- ---- a pair that is due is complete
 
 or_known : {A B C : Type 0} → (B → C) → A ⊎ B → A ⊎ C
@@ -283,11 +289,12 @@ pub complete_if_due : (words : List (List ℕ)) (told : List ℕ → Option (Lis
     → IsDue words told failed status text → IsComplete words told status
 complete_if_due words told failed status text answer = record {
   trace = λ bytes network e named at described packet.
-      or_known (λ known. traced network words e status text known packet) (fault_or_answer modes.Trace words told failed bytes network status text answer named at described);
-  ask = λ bytes network site query named at described form meant.
-      or_known (λ known. asked described.value network words site query status text known form meant) (fault_or_answer modes.Ask words told failed bytes network status text answer named at described);
+      or_known (λ known. traced network words e status text known packet) (fault_or_answer modes.Trace words told failed bytes network status text answer named refl at described);
+  ask = λ bytes network query named at described meant.
+      or_known (λ known. asked network words query status text known meant) (fault_or_answer modes.Ask words told failed bytes network status text answer named refl at described);
   replay = λ bytes second network events named at described there few good.
-      or_either (λ known. replayed network words told failed second events status text known there few good) (fault_or_answer modes.Replay words told failed bytes network status text answer named at described);
+      or_either (λ known. replayed network words told failed second events status text known there few good) (fault_or_answer modes.Replay words told failed bytes network status text answer named refl at described);
+  make = λ n named meant. made words told failed n status text answer named meant;
 }
 
 -- ---- where reading failed
@@ -337,12 +344,18 @@ trace_is_none d words status text (traces.refused refusal is status_is text_is) 
 trace_is_none d words status text (traces.walked e is status_is text_is) h =
     no_device status (traced_status d e) status_is (walk_is_none (let walk = traces.walk_of_event d e in walk.outcome)) h
 
-ask_is_none : (value : Data) (d : Description) (words : List (List ℕ)) (status : Status) (text : List ℕ) → IsAsked value d words status text → IsOfDevice status → ⊥
-ask_is_none value d words status text (asks.of_other_form none status_is text_is) h = no_device status ends.Description status_is description_is_none h
-ask_is_none value d words status text (asks.refused s found none status_is text_is) h = no_device status ends.Query status_is query_is_none h
-ask_is_none value d words status text (asks.through s x found read status_is answer) h = no_device status ends.Yes status_is yes_is_none h
-ask_is_none value d words status text (asks.blocked s x found read status_is answer) h = no_device status ends.No status_is no_is_none h
-ask_is_none value d words status text (asks.more s x found read status_is answer) h = no_device status ends.More status_is more_is_none h
+answer_to_is_none : (d : Description) (query : Query) (status : Status) (text : List ℕ) → IsAnswerTo d query status text → IsOfDevice status → ⊥
+answer_to_is_none d query status text (asks.through status_is answer) h = no_device status ends.Yes status_is yes_is_none h
+answer_to_is_none d query status text (asks.blocked status_is answer) h = no_device status ends.No status_is no_is_none h
+answer_to_is_none d query status text (asks.more status_is answer) h = no_device status ends.More status_is more_is_none h
+
+ask_is_none : (d : Description) (words : List (List ℕ)) (status : Status) (text : List ℕ) → IsAsked d words status text → IsOfDevice status → ⊥
+ask_is_none d words status text (asks.refused refusal is status_is text_is) h = no_device status ends.Query status_is query_is_none h
+ask_is_none d words status text (asks.answered query is answer) h = answer_to_is_none d query status text answer h
+
+make_is_none : (words : List (List ℕ)) (status : Status) (text : List ℕ) → IsMade words status text → IsOfDevice status → ⊥
+make_is_none words status text (makes.refused none status_is text_is) h = no_device status ends.Query status_is query_is_none h
+make_is_none words status text (makes.surveyed n is status_is survey) h = no_device status ends.Yes status_is yes_is_none h
 
 -- of a device a replay tells where its second file failed
 replay_is_read : (d : Description) (words : List (List ℕ)) (told : List ℕ → Option (List ℕ)) (failed : List ℕ → Type 0) (status : Status) (text : List ℕ)
@@ -352,25 +365,27 @@ replay_is_read d words told failed status text (replays.too_big bytes same long 
 replay_is_read d words told failed status text (replays.of_bytes bytes same few (replays.bad_line number is status_is says)) h = absurd (no_device status ends.Query status_is query_is_none h)
 replay_is_read d words told failed status text (replays.of_bytes bytes same few (replays.replayed events is status_is says)) h = absurd (no_device status ends.Yes status_is yes_is_none h)
 
-answer_is_read : (command : Mode) (value : Data) (d : Description) (words : List (List ℕ)) (told : List ℕ → Option (List ℕ)) (failed : List ℕ → Type 0) (status : Status) (text : List ℕ)
-    → command_of words ≡ Ok command → IsAnswered command value d words told failed status text → IsOfDevice status → (status ≡ ends.Read) × ReadFailed words failed
-answer_is_read modes.Trace value d words told failed status text is answer h = absurd (trace_is_none d words status text answer h)
-answer_is_read modes.Ask value d words told failed status text is answer h = absurd (ask_is_none value d words status text answer h)
-answer_is_read modes.Replay value d words told failed status text is answer h = let read = replay_is_read d words told failed status text answer h in (read.0, inr (is, read.1))
+answer_is_read : (command : Mode) (d : Description) (words : List (List ℕ)) (told : List ℕ → Option (List ℕ)) (failed : List ℕ → Type 0) (status : Status) (text : List ℕ)
+    → command_of words ≡ Ok command → IsAnswered command d words told failed status text → IsOfDevice status → (status ≡ ends.Read) × ReadFailed words failed
+answer_is_read modes.Make d words told failed status text is answer h = absurd answer
+answer_is_read modes.Trace d words told failed status text is answer h = absurd (trace_is_none d words status text answer h)
+answer_is_read modes.Ask d words told failed status text is answer h = absurd (ask_is_none d words status text answer h)
+answer_is_read modes.Replay d words told failed status text is answer h = let read = replay_is_read d words told failed status text answer h in (read.0, due.second is read.1)
 
 bytes_are_read : (command : Mode) (words : List (List ℕ)) (told : List ℕ → Option (List ℕ)) (failed : List ℕ → Type 0) (bytes : List ℕ) (status : Status) (text : List ℕ)
     → command_of words ≡ Ok command → IsDueForBytes command words told failed bytes status text → IsOfDevice status → (status ≡ ends.Read) × ReadFailed words failed
 bytes_are_read command words told failed bytes status text named (due.refused cause is status_is text_is) h = absurd (no_device status ends.Description status_is description_is_none h)
-bytes_are_read command words told failed bytes status text named (due.answered d described answer) h = answer_is_read command described.value d words told failed status text named answer h
+bytes_are_read command words told failed bytes status text named (due.answered d described answer) h = answer_is_read command d words told failed status text named answer h
 
 -- a device is told of where reading failed, and of reading alone
 device_is_read : (words : List (List ℕ)) (told : List ℕ → Option (List ℕ)) (failed : List ℕ → Type 0) (status : Status) (text : List ℕ)
     → IsDue words told failed status text → IsOfDevice status → (status ≡ ends.Read) × ReadFailed words failed
 device_is_read words told failed status text (due.not_words refusal is status_is text_is) h = absurd (no_device status ends.Words status_is words_are_none h)
+device_is_read words told failed status text (due.of_number is answer) h = absurd (make_is_none words status text answer h)
 device_is_read words told failed status text (due.no_memory status_is text_is) h = absurd (no_device status ends.Memory status_is memory_is_none h)
-device_is_read words told failed status text (due.not_read command is failure status_is text_is) h = (status_is, inl failure)
-device_is_read words told failed status text (due.too_big command bytes is same long status_is text_is) h = absurd (no_device status ends.Description status_is description_is_none h)
-device_is_read words told failed status text (due.of_bytes command bytes is same few answer) h = bytes_are_read command words told failed bytes status text is answer h
+device_is_read words told failed status text (due.not_read command is has failure status_is text_is) h = (status_is, due.file command is has failure)
+device_is_read words told failed status text (due.too_big command bytes is has same long status_is text_is) h = absurd (no_device status ends.Description status_is description_is_none h)
+device_is_read words told failed status text (due.of_bytes command bytes is has same few answer) h = bytes_are_read command words told failed bytes status text is answer h
 
 -- an answer that tells of a failed read is due where a read failed
 pub failed_if_read : (words : List (List ℕ)) (told : List ℕ → Option (List ℕ)) (failed : List ℕ → Type 0) (status : Status) (text : List ℕ)

@@ -2,6 +2,6 @@ pub mod Lists
 pub mod AnswerLemmas
 pub mod CompleteLemmas
 pub mod ReachableLemmas
-pub mod RuleNames
 pub mod TraceLemmas
 pub mod ReplayLemmas
+pub mod MadeLemmas

@@ -1,11 +1,8 @@
 -- The walk of a packet, and what is told of it.
-use Rattle.std.proofs.Common.{◌≡◌, ◌≢◌, ◌∙◌, Err, IfOk, List, Ok, Result, [], ap, refl, subst, sym, true, ℕ}
+use Rattle.std.proofs.Common.{◌≡◌, ◌∙◌, Err, IfOk, List, Ok, Result, [], ap, subst, sym, true, ℕ}
 use Rattle.std.specs.List.{All, AllByRecursion}
 use Rattle.std.proofs.lemmas.List.Elements.{All-from_recursion}
 use Rattle.block_report.specs.Walks.{walk_text}
-use Rattle.query_words.specs.Refusal.{Answers}
-use Rattle.query_words.specs.declared.refusal.QueryRefusal.{QueryRefusal}
-use Rattle.query_words.specs.declared.refusal.QueryRefusal.TheVariants as refusals
 use Rattle.vpc_laws.proofs.Telling.{walks_are_sound}
 use Rattle.vpc_laws.specs.Sound.{EndsWell, IsSoundHop}
 use Rattle.vpc_laws.specs.Types.{Description, Event, Hop, Outcome, Place}

@@ -1,25 +1,25 @@
 -- The answers that are due: pairs of a status and a text.
-use Rattle.std.specs.Prelude.{ℕ, ◌≡◌, ◌<◌, ◌≤◌, ◌⊎◌, ◌++◌, List, Option, Some, Err, Ok, codes, decimal, length}
-use Rattle.serde_json.specs.Data.{Data}
+use Rattle.std.specs.Prelude.{ℕ, ◌≡◌, ◌<◌, ◌≤◌, ◌⊎◌, ◌++◌, List, Option, Some, Err, Ok, codes, decimal, length, true}
 use Rattle.vpc_io.specs.Sink.{with_text, AddsProperPrefix}
 use Rattle.vpc_io.specs.Told.{IfTold}
 use Rattle.block_report.specs.Refusals.{cause_text}
 use Rattle.block_report.specs.Words.{word}
 use Rattle.bundle.specs.Meaning.{IsCause}
 use Rattle.bundle.specs.declared.refusal.BundleRefusal.{BundleRefusal}
-use Rattle.one_subnet.specs.declared.site.Site.{Site}
 use Rattle.query_words.specs.Events.{events_of}
 use Rattle.query_words.specs.Packet.{packet_of}
-use Rattle.subnet_reach.specs.declared.query.Query.{Query}
+use Rattle.query_words.specs.Query.{query_of}
+use Rattle.query_words.specs.Words.{word_at}
+use Rattle.query_words.specs.declared.queries.Query.{Query}
 use Rattle.vpc_model.specs.declared.outcomes.Event.{Event}
 use Rattle.vpc_model.specs.declared.rows.Description.{Description}
-use Rattle.vpc_cli.specs.Asked.{IsAsked, IsDecided, form_of}
+use Rattle.vpc_cli.specs.Asked.{IsAsked, IsDecided}
 use Rattle.vpc_cli.specs.Described.{Describes, file_limit, refusal_line}
 use Rattle.vpc_cli.specs.Lines.{line}
-use Rattle.vpc_cli.specs.Query.{query_of}
+use Rattle.vpc_cli.specs.Made.{IsMade, made_count}
 use Rattle.vpc_cli.specs.Replayed.{IsReplayed}
 use Rattle.vpc_cli.specs.Traced.{IsTraced, traced_status}
-use Rattle.vpc_cli.specs.Words.{command_of, file_name, second_name}
+use Rattle.vpc_cli.specs.Words.{command_of, file_name, has_file, second_name}
 use Rattle.vpc_cli.specs.declared.status.Status.{Status}
 use Rattle.vpc_cli.specs.declared.status.Status.TheVariants as ends
 use Rattle.vpc_cli.specs.declared.words.Mode.{Mode}
@@ -39,27 +39,28 @@ memory_text = line (codes "want of memory")
 
 -- ---- what is due
 
--- what a command answers in a network that a bundle's value describes, by what the shelf tells of files and which of them failed in this call
-abbrev pub IsAnswered : Mode → Data → Description → List (List ℕ) → (List ℕ → Option (List ℕ)) → (List ℕ → Type 0) → Status → List ℕ → Type 0
-IsAnswered modes.Trace value d words told failed status text = IsTraced d words status text
-IsAnswered modes.Ask value d words told failed status text = IsAsked value d words status text
-IsAnswered modes.Replay value d words told failed status text = IsReplayed d words told failed status text
+-- what a command that has a file answers in the network that it describes, by what the shelf tells of files and which of them failed in this call
+abbrev pub IsAnswered : Mode → Description → List (List ℕ) → (List ℕ → Option (List ℕ)) → (List ℕ → Type 0) → Status → List ℕ → Type 0
+IsAnswered modes.Trace d words told failed status text = IsTraced d words status text
+IsAnswered modes.Ask d words told failed status text = IsAsked d words status text
+IsAnswered modes.Replay d words told failed status text = IsReplayed d words told failed status text
+IsAnswered modes.Make d words told failed status text = ⊥
 
 -- what is due for the bytes of a file: the first cause against them, or what the command answers in the network that they describe
 pub data IsDueForBytes (command : Mode) (words : List (List ℕ)) (told : List ℕ → Option (List ℕ)) (failed : List ℕ → Type 0) (bytes : List ℕ) (status : Status) (text : List ℕ) : Type 0 where
   refused : (cause : BundleRefusal) → IsCause bytes cause → status ≡ ends.Description → text ≡ refusal_line (cause_text cause) → IsDueForBytes command words told failed bytes status text
-  answered : (network : Description) (described : Describes bytes network) → IsAnswered command described.value network words told failed status text
-      → IsDueForBytes command words told failed bytes status text
+  answered : (network : Description) → Describes bytes network → IsAnswered command network words told failed status text → IsDueForBytes command words told failed bytes status text
 
 -- the pairs that are due for these words, by what the shelf tells of files and which of them failed in this call. Of a file of which nothing is told, the
 -- answer is that for some bytes.
 pub data IsDue (words : List (List ℕ)) (told : List ℕ → Option (List ℕ)) (failed : List ℕ → Type 0) (status : Status) (text : List ℕ) : Type 0 where
   not_words : (refusal : WordsRefusal) → command_of words ≡ Err refusal → status ≡ ends.Words → text ≡ words_text refusal → IsDue words told failed status text
+  of_number : command_of words ≡ Ok modes.Make → IsMade words status text → IsDue words told failed status text
   no_memory : status ≡ ends.Memory → text ≡ memory_text → IsDue words told failed status text
-  not_read : (command : Mode) → command_of words ≡ Ok command → failed (file_name words) → status ≡ ends.Read → text ≡ fault_text → IsDue words told failed status text
-  too_big : (command : Mode) (bytes : List ℕ) → command_of words ≡ Ok command → IfTold (told (file_name words)) (λ b. b ≡ bytes) → file_limit < length bytes
+  not_read : (command : Mode) → command_of words ≡ Ok command → has_file command ≡ true → failed (file_name words) → status ≡ ends.Read → text ≡ fault_text → IsDue words told failed status text
+  too_big : (command : Mode) (bytes : List ℕ) → command_of words ≡ Ok command → has_file command ≡ true → IfTold (told (file_name words)) (λ b. b ≡ bytes) → file_limit < length bytes
       → status ≡ ends.Description → text ≡ refusal_line (codes "TooBig") → IsDue words told failed status text
-  of_bytes : (command : Mode) (bytes : List ℕ) → command_of words ≡ Ok command → IfTold (told (file_name words)) (λ b. b ≡ bytes) → length bytes ≤ file_limit
+  of_bytes : (command : Mode) (bytes : List ℕ) → command_of words ≡ Ok command → has_file command ≡ true → IfTold (told (file_name words)) (λ b. b ≡ bytes) → length bytes ≤ file_limit
       → IsDueForBytes command words told failed bytes status text → IsDue words told failed status text
 
 -- the whole text of a due pair with this status was added, or writing failed after a proper prefix of a due text
@@ -73,21 +74,23 @@ pub data IsAnswer (due : Status → List ℕ → Type 0) (old new : Option (List
 abbrev pub IsFault : Status → Type 0
 IsFault status = (status ≡ ends.Read) ⊎ ((status ≡ ends.Write) ⊎ (status ≡ ends.Memory))
 
--- where the told bytes describe a network, `trace` ends as the walk of its packet does, `ask` decides its query in a network of the form that is followed,
--- and `replay` answers told events, unless a device or memory failed
+-- where the told bytes describe a network, `trace` ends as the walk of its packet does, `ask` decides its query, and `replay` answers told events, unless a
+-- device or memory failed; and so does `make` of a number that it takes
 pub record IsComplete (words : List (List ℕ)) (told : List ℕ → Option (List ℕ)) (status : Status) : Type 0 where
   pub trace : (bytes : List ℕ) (network : Description) (e : Event) → command_of words ≡ Ok modes.Trace → told (file_name words) ≡ Some bytes
       → Describes bytes network → packet_of network words ≡ Ok e
       → IsFault status ⊎ (status ≡ traced_status network e)
-  pub ask : (bytes : List ℕ) (network : Description) (site : Site) (query : Query) → command_of words ≡ Ok modes.Ask → told (file_name words) ≡ Some bytes
-      → (described : Describes bytes network) → form_of network described.value ≡ Some site → query_of site.hosts words ≡ Some query
-      → IsFault status ⊎ IsDecided site query status
+  pub ask : (bytes : List ℕ) (network : Description) (query : Query) → command_of words ≡ Ok modes.Ask → told (file_name words) ≡ Some bytes
+      → Describes bytes network → query_of network words ≡ Ok query
+      → IsFault status ⊎ IsDecided network query status
   pub replay : (bytes text : List ℕ) (network : Description) (events : List Event) → command_of words ≡ Ok modes.Replay → told (file_name words) ≡ Some bytes
       → Describes bytes network → told (second_name words) ≡ Some text → length text ≤ file_limit → events_of network text ≡ Ok events
       → IsFault status ⊎ (status ≡ ends.Yes)
+  pub make : (n : ℕ) → command_of words ≡ Ok modes.Make → made_count (word_at words 2) ≡ Some n → IsFault status ⊎ (status ≡ ends.Yes)
 
 -- ---- failed reads
 
--- the file failed in this call, or the second file of a command that has one
-abbrev pub ReadFailed : List (List ℕ) → (List ℕ → Type 0) → Type 0
-ReadFailed words failed = failed (file_name words) ⊎ ((command_of words ≡ Ok modes.Replay) × failed (second_name words))
+-- the file of a command that has one failed in this call, or the second file
+pub data ReadFailed (words : List (List ℕ)) (failed : List ℕ → Type 0) : Type 0 where
+  file : (command : Mode) → command_of words ≡ Ok command → has_file command ≡ true → failed (file_name words) → ReadFailed words failed
+  second : command_of words ≡ Ok modes.Replay → failed (second_name words) → ReadFailed words failed

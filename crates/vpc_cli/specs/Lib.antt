@@ -1,10 +1,10 @@
 pub mod Status
 pub mod Words
-pub mod Query
 pub mod Lines
 pub mod Reachable
 pub mod Described
 pub mod Traced
 pub mod Replayed
 pub mod Asked
+pub mod Made
 pub mod Due

@@ -1,5 +1,5 @@
 -- The words of a command.
-use Rattle.std.specs.Prelude.{ℕ, ◌+◌, ◌%◌, ◌==◌, ◌≡◌, ◌≤◌, ◌||◌, not, nat_lt, Bool, true, List, [], ◌∷◌, Option, Some, None, Result, Err, Ok, bytes_eq, codes, if◌then◌else◌, length, option_map, position}
+use Rattle.std.specs.Prelude.{ℕ, ◌+◌, ◌%◌, ◌==◌, ◌≡◌, ◌≤◌, ◌||◌, not, nat_lt, Bool, true, false, List, [], ◌∷◌, Option, Some, None, Result, Err, Ok, bytes_eq, codes, if◌then◌else◌, length, option_map, position}
 use Rattle.query_words.specs.Words.{word_at}
 use Rattle.vpc_cli.specs.declared.words.Mode.{Mode}
 use Rattle.vpc_cli.specs.declared.words.Mode.TheVariants as modes
@@ -23,7 +23,8 @@ abbrev pub mode_named : List ℕ → Option Mode
 mode_named name =
     if bytes_eq name (codes "trace") then Some modes.Trace
     else (if bytes_eq name (codes "ask") then Some modes.Ask
-    else (if bytes_eq name (codes "replay") then Some modes.Replay else None))
+    else (if bytes_eq name (codes "replay") then Some modes.Replay
+    else (if bytes_eq name (codes "make") then Some modes.Make else None)))
 
 -- the command that the first word names
 abbrev pub mode_of : List (List ℕ) → Option Mode
@@ -39,6 +40,10 @@ trace_count = 10
 -- how many words `replay` has
 abbrev pub replay_count : ℕ
 replay_count = 3
+
+-- how many words `make` has
+abbrev pub make_count : ℕ
+make_count = 2
 
 -- how many words `ask` has at least, and at most
 abbrev pub ask_least : ℕ
@@ -61,12 +66,14 @@ abbrev pub count_fault : Mode → ℕ → Option ℕ
 count_fault modes.Trace count = exact_count_fault trace_count count
 count_fault modes.Ask count = ask_count_fault count
 count_fault modes.Replay count = exact_count_fault replay_count count
+count_fault modes.Make count = exact_count_fault make_count count
 
 -- a command has so many words
 abbrev pub HasCount : Mode → ℕ → Type 0
 HasCount modes.Trace count = count ≡ trace_count
 HasCount modes.Ask count = ask_least ≤ count
 HasCount modes.Replay count = count ≡ replay_count
+HasCount modes.Make count = count ≡ make_count
 
 -- ---- the command of some words
 
@@ -91,6 +98,13 @@ unless_bad None words = named (mode_of words) (length words)
 -- the command that the words give, or the number, from 1, of the first word that is wrong
 abbrev pub command_of : List (List ℕ) → Result Mode WordsRefusal
 command_of words = unless_bad (bad_word words) words
+
+-- the command has a file
+abbrev pub has_file : Mode → Bool
+has_file modes.Trace = true
+has_file modes.Ask = true
+has_file modes.Replay = true
+has_file modes.Make = false
 
 -- the name of the file
 abbrev pub file_name : List (List ℕ) → List ℕ

@@ -1,13 +1,14 @@
 // The answer to a command: its status with its text.
-ghost use Rattle.std.specs.Prelude.{◌≡◌, ◌≤◌, IfOk, List, Ok, length, map, string_bytes, ℕ};
+ghost use Rattle.std.specs.Prelude.{◌≡◌, ◌≤◌, IfOk, IsTrue, List, Ok, length, map, string_bytes, ℕ};
 ghost use Rattle.serde_json.specs.View.{view};
 ghost use Rattle.bundle.specs.Json.{IsJson};
 ghost use Rattle.vpc_io.specs.Rose.{Rose};
 ghost use Rattle.vpc_cli.specs.Described.{file_limit};
 ghost use Rattle.vpc_cli.specs.Due.{IsAnswered, IsDue, IsDueForBytes};
-ghost use Rattle.vpc_cli.specs.Words.{HasCount, command_of};
+ghost use Rattle.vpc_cli.specs.Words.{HasCount, command_of, has_file};
 
 use crate::asks::ask;
+use crate::makes::make;
 use crate::refusals::{answer_line, refuse_bundle, refuse_description, refuse_words};
 use crate::replays::replay;
 use crate::status::{Answer, Status};
@@ -25,30 +26,26 @@ use vpc_io::{Shelf, ShelfFault};
 /// The most bytes of a file.
 pub const FILE_LIMIT: usize = 67_108_864;
 
-// What the command answers in a network and the bundle that describes it.
+// What the command answers in a network.
 fn answer_in<S: Shelf>(
     alloc: Global,
     mode: Mode,
     words: &[String],
-    bundle: &Value,
     network: Network,
     shelf: &mut S,
 ) -> Result<Answer, NoMemory>
-    requires { HasCount mode (length words.now) }
-    ensures { IfOk result (λ a. IsAnswered mode (view bundle.now) network
+    requires count { HasCount mode (length words.now) }
+    requires file { IsTrue (has_file mode) }
+    ensures { IfOk result (λ a. IsAnswered mode network
         (map string_bytes words.now) (S.told shelf.old)
         (λ n. Rose (S.faults shelf.old n) (S.faults shelf.new n)) a.status a.text.items) }
 {
     match mode {
         Mode::Trace => trace(alloc, network, words),
-        Mode::Ask => {
-            let answer = ask(alloc, bundle, &network, words);
-            // The process ends with its answer: giving back the many rows of a large network takes longer
-            // than finding one in it.
-            mem::forget(network);
-            answer
-        }
+        Mode::Ask => ask(alloc, network, words),
         Mode::Replay => replay(alloc, network, words, shelf),
+        // It has no file.
+        Mode::Make => unreachable!(),
     }
 }
 
@@ -60,13 +57,14 @@ fn answer_value<S: Shelf>(
     bundle: &Value,
     shelf: &mut S,
 ) -> Result<Answer, NoMemory>
-    requires { HasCount mode (length words.now) }
+    requires count { HasCount mode (length words.now) }
+    requires file { IsTrue (has_file mode) }
     ensures { (bytes : List ℕ) → length bytes ≤ file_limit → IsJson bytes (view bundle.now)
         → IfOk result (λ a. IsDueForBytes mode (map string_bytes words.now) (S.told shelf.old)
         (λ n. Rose (S.faults shelf.old n) (S.faults shelf.new n)) bytes a.status a.text.items) }
 {
     match network_of(alloc, bundle) {
-        Ok(network) => answer_in(alloc, mode, words, bundle, network, shelf),
+        Ok(network) => answer_in(alloc, mode, words, network, shelf),
         Err(cause) => refuse_bundle(alloc, &cause),
     }
 }
@@ -80,6 +78,7 @@ fn answer_bytes<S: Shelf>(
     shelf: &mut S,
 ) -> Result<Answer, NoMemory>
     requires count { HasCount mode (length words.now) }
+    requires file { IsTrue (has_file mode) }
     requires few { length bytes.now ≤ FILE_LIMIT }
     ensures { IfOk result (λ a. IsDueForBytes mode (map string_bytes words.now) (S.told shelf.old)
         (λ n. Rose (S.faults shelf.old n) (S.faults shelf.new n)) bytes.now a.status a.text.items) }
@@ -103,6 +102,7 @@ fn answer_file<S: Shelf>(
 ) -> Result<Answer, NoMemory>
     requires command { command_of (map string_bytes words.now) ≡ Ok mode }
     requires count { HasCount mode (length words.now) }
+    requires file { IsTrue (has_file mode) }
     ensures { IfOk result (λ a. IsDue (map string_bytes words.now) (S.told shelf.old)
         (λ n. Rose (S.faults shelf.old n) (S.faults shelf.new n)) a.status a.text.items) }
 {
@@ -124,6 +124,7 @@ pub fn answer_to<S: Shelf>(
         (λ n. Rose (S.faults shelf.old n) (S.faults shelf.new n)) a.status a.text.items) }
 {
     match read_words(words) {
+        Ok(Mode::Make) => make(alloc, words),
         Ok(mode) => answer_file(alloc, mode, words, shelf),
         Err(refusal) => refuse_words(alloc, refusal),
     }

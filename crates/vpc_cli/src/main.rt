@@ -5,12 +5,10 @@ mod answers;
 mod asks;
 mod commands;
 mod deciders;
-mod printing;
-mod queries;
+mod makes;
 mod reachable;
 mod refusals;
 mod replays;
-mod reports;
 mod status;
 #[cfg(test)]
 mod tests;

@@ -7,6 +7,8 @@ const TRACE_COUNT: usize = 10;
 
 const REPLAY_COUNT: usize = 3;
 
+const MAKE_COUNT: usize = 2;
+
 const ASK_LEAST: usize = 6;
 
 const ASK_MOST: usize = 18;
@@ -20,6 +22,8 @@ pub enum Mode {
     Ask,
     /// `replay`: the walks of packets that come one after another.
     Replay,
+    /// `make`: what is reached in a network that is generated from a number.
+    Make,
 }
 
 /// The number, from 1, of the first word that is wrong.
@@ -61,6 +65,8 @@ fn mode_named(name: &str) -> Option<Mode>
         Some(Mode::Ask)
     } else if name == "replay" {
         Some(Mode::Replay)
+    } else if name == "make" {
+        Some(Mode::Make)
     } else {
         None
     }
@@ -111,6 +117,7 @@ fn count_fault(mode: Mode, count: usize) -> Option<usize>
         Mode::Trace => exact_count_fault(TRACE_COUNT, count),
         Mode::Ask => ask_count_fault(count),
         Mode::Replay => exact_count_fault(REPLAY_COUNT, count),
+        Mode::Make => exact_count_fault(MAKE_COUNT, count),
     }
 }
 

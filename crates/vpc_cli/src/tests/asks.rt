@@ -1,4 +1,4 @@
-// Worked queries, on two hosts in one subnet.
+// Queries on two hosts in one subnet.
 use super::{Case, ONE_SUBNET, check, refused, shelf_of, sink_of, words_of};
 use crate::commands::run;
 use crate::status::Status;
@@ -269,35 +269,36 @@ fn refuses_words_of_ask(rt: HostRuntime) -> Result<(), Fail> {
 fn refuses_queries(rt: HostRuntime) -> Result<(), Fail> {
     let alloc = rt.alloc();
     let queries = [
-        "to eni-a from eni-b",
-        "from eni-a from eni-b",
-        "from internet to eni-b",
-        "from eni-a to internet",
-        "from eni-x to eni-b",
-        "from eni-a to eni-x",
-        "from eni-a to eni-b port 80-79",
-        "from eni-a to eni-b sport 2-1",
-        "from eni-a to eni-b port 80",
-        "from eni-a to eni-b port 080-81",
-        "from eni-a to eni-b port 80-65536",
-        "from eni-a to eni-b max 0",
-        "from eni-a to eni-b max 20001",
-        "from eni-a to eni-b max 4294967296",
-        "from eni-a to eni-b port 80-80 sport 1-2",
-        "from eni-a to eni-b max 2 port 80-80",
-        "from eni-a to eni-b port 80-80 port 80-80",
-        "from eni-a to eni-b proto tcp",
-        "from eni-a to eni-b src 10.0.1.10/32",
+        ("to eni-a from eni-b", "BadWord 3"),
+        ("from eni-a from eni-b", "BadWord 5"),
+        ("from internet to internet", "BothInternet"),
+        ("from eni-x to eni-b", "UnknownId 4"),
+        ("from eni-a to eni-x", "UnknownId 6"),
+        ("from eni-a to eni-b port 80-79", "EmptyRange 8"),
+        ("from eni-a to eni-b sport 2-1", "EmptyRange 8"),
+        ("from eni-a to eni-b port 80", "BadWord 8"),
+        ("from eni-a to eni-b port 080-81", "BadWord 8"),
+        ("from eni-a to eni-b port 80-65536", "BadWord 8"),
+        ("from eni-a to eni-b max 0", "MaxOutOfRange"),
+        ("from eni-a to eni-b max 20001", "MaxOutOfRange"),
+        ("from eni-a to eni-b max 4294967296", "MaxOutOfRange"),
+        ("from eni-a to eni-b port 80-80 sport 1-2", "BadWord 9"),
+        ("from eni-a to eni-b max 2 port 80-80", "BadWord 9"),
+        ("from eni-a to eni-b port 80-80 port 80-80", "BadWord 9"),
+        ("from eni-a to eni-b proto sctp", "BadWord 8"),
+        ("from eni-a to eni-b proto 50 port 80-80", "BadWord 9"),
+        ("from eni-a to eni-b src 10.0.1.10", "BadWord 8"),
     ];
-    for query in queries {
+    for (query, cause) in queries {
         let line = format!(in alloc; "ask o.json {query}")?;
+        let text = format!(in alloc; "refused query {cause}\n")?;
         answers(
             &rt,
             alloc,
             ONE_SUBNET,
             line.as_str(),
             Status::Query,
-            "refused query NotYet\n",
+            text.as_str(),
         )?;
     }
     Ok(())
@@ -305,11 +306,10 @@ fn refuses_queries(rt: HostRuntime) -> Result<(), Fail> {
 
 #[test]
 fn refuses_descriptions_before_queries(rt: HostRuntime) -> Result<(), Fail> {
-    let line = "ask o.json from internet to eni-b";
+    let line = "ask o.json from internet to internet";
     let cases = [
         ("", "refused description NotJson\n"),
         ("[1]", "refused description WrongShape $\n"),
-        ("{\"Vpcs\":[]}", "refused description NotYet\n"),
     ];
     for (file, text) in cases {
         answers(&rt, rt.alloc(), file, line, Status::Description, text)?;

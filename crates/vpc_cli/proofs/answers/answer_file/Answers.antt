@@ -11,7 +11,7 @@ returns-in-Ok g c =
     let words = map string_bytes c.args.words.now in
     let taken = rw c.word.ensures at c.in-Ok.ensures.whole in
     if_ok _ _ c.answer_bytes.result
-    (λ a answer. bytes_are_due c.args.mode words (g.S.Shelf.told c.args.shelf.now) _ c.in-Ok.bytes.items a.status a.text.items c.requires.command taken c.in-Ok.ensures.within
+    (λ a answer. bytes_are_due c.args.mode words (g.S.Shelf.told c.args.shelf.now) _ c.in-Ok.bytes.items a.status a.text.items c.requires.command c.requires.file taken c.in-Ok.ensures.within
     (due_before c.args.mode words _ _ _ _ c.in-Ok.bytes.items a.status a.text.items c.take.ensures.told_stays
     (λ n. rose_before _ _ _ (c.take.ensures.faults_never_fall n)) answer))
     (rw c.as_slice.ensures.value at c.answer_bytes.ensures)
@@ -19,12 +19,12 @@ returns-in-Ok g c =
 pub returns-in-Err-Failed : goal.returns-in-Err-Failed
 returns-in-Err-Failed g c =
     let failure = rw c.word.ensures at c.take.ensures.failed_only_where_faults_rose (rw c.in-Err-Failed.field-0-is at c.in-Err-Failed.is) in
-    if_ok _ _ c.answer_line.result (λ a h. due.not_read c.args.mode c.requires.command failure h.0 h.1) c.answer_line.ensures
+    if_ok _ _ c.answer_line.result (λ a h. due.not_read c.args.mode c.requires.command c.requires.file failure h.0 h.1) c.answer_line.ensures
 
 pub returns-in-Err-TooLong : goal.returns-in-Err-TooLong
 returns-in-Err-TooLong g c =
     let words = map string_bytes c.args.words.now in
     let long = rw c.word.ensures at c.take.ensures.too_long (rw c.in-Err-TooLong.field-0-is at c.in-Err-TooLong.is) in
     if_ok _ _ c.refuse_description.result
-    (λ a. too_big_is_due c.args.mode words (g.S.Shelf.told c.args.shelf.now) _ a.status a.text.items c.requires.command long)
+    (λ a. too_big_is_due c.args.mode words (g.S.Shelf.told c.args.shelf.now) _ a.status a.text.items c.requires.command c.requires.file long)
     c.refuse_description.ensures

@@ -1,12 +1,19 @@
-use Rattle.std.proofs.Common.{◌∙◌, sym}
-use Rattle.serde_json.specs.View.{view}
+use Rattle.std.proofs.Common.{map, string_bytes}
+use Rattle.query_words.proofs.EventLemmas.{refused_if_told}
+use Rattle.query_words.specs.Query.{query_of}
 use Rattle.vpc_cli.specs.Asked as asks
-use Rattle.vpc_cli.proofs.AnswerLemmas.{if_ok}
+use Rattle.vpc_cli.proofs.AnswerLemmas.{if_ok, if_ok_two}
 use Rattle.vpc_cli.proofs.asks.ask.Goals as goal
 
-pub returns-in-Some : goal.returns-in-Some
-returns-in-Some c = c.ask_in-answer.ensures (view c.args.bundle.now) c.args.network.now (sym c.in_ok-site.ensures ∙ c.in-Some.is)
+pub answer_query-requires : goal.answer_query-requires
+answer_query-requires c = record { start = c.in-Ok.ensures.described.start; goal = c.in-Ok.ensures.described.goal; sides = c.in-Ok.ensures.valid; some = c.in-Ok.ensures.max.0 }
 
-pub returns-in-None : goal.returns-in-None
-returns-in-None c =
-    if_ok _ _ c.refuse_description.result (λ a h. asks.of_other_form (sym c.in_ok-site.ensures ∙ c.in-None.is) h.0 h.1) c.refuse_description.ensures
+pub returns-in-Ok : goal.returns-in-Ok
+returns-in-Ok c = if_ok _ _ c.answer_query.result (λ a answer. asks.answered c.in-Ok.query c.in-Ok.ensures.answer answer) c.answer_query.ensures
+
+pub returns-in-Err : goal.returns-in-Err
+returns-in-Err c =
+    let meant = query_of c.args.network (map string_bytes c.args.words.now) in
+    if_ok_two _ _ _ c.refuse_query.result
+    (λ a h not. asks.refused c.in-Err.refusal (refused_if_told meant c.in-Err.refusal c.in-Err.ensures.answer not) h.0 h.1)
+    c.refuse_query.ensures.line c.refuse_query.ensures.cause

@@ -1,0 +1,37 @@
+-- What is answered to a query, in the words of the model.
+use Rattle.std.specs.Prelude.{◌≡◌, ◌≤◌, List, Option, length, true, ℕ}
+use Rattle.header_boxes.specs.Boxes.{IsValid}
+use Rattle.header_boxes.specs.Rows.{IsFirstThrough}
+use Rattle.block_report.specs.Reports.{HaveText, told_rows}
+use Rattle.query_words.specs.declared.queries.Query.{Query}
+use Rattle.vpc_laws.specs.Types.{Description, Header, Row, StopText}
+use Rattle.vpc_model.specs.Appliances.{appliances_of}
+use Rattle.vpc_model.specs.Report.{IsOrderedReport, IsPartReport, meaning_of}
+use Rattle.vpc_model.specs.Sound.{is_end}
+use Rattle.network_reach.specs.declared.reach.Reached.{Reached}
+use Rattle.network_reach.specs.declared.reach.Reached.TheVariants as answers
+
+-- the ends are described, no side is empty, and a report may have a row
+pub record IsQueryIn (d : Description) (query : Query) : Type 0 where
+  pub start : is_end d query.start ≡ true
+  pub goal : is_end d query.goal ≡ true
+  pub sides : IsValid query.sides
+  pub some : 1 ≤ query.max
+
+-- what stops each request of a query, or its reply, with the described appliances
+abbrev pub meaning_in : Description → Query → Header → Option StopText
+meaning_in d query = meaning_of d (appliances_of d) query.start query.goal
+
+-- an ordered true report of the query
+abbrev pub IsReportIn : Description → Query → List (Row StopText) → Type 0
+IsReportIn d query rows = IsOrderedReport d (appliances_of d) query.start query.goal query.sides rows
+
+-- max ordered true rows that leave headers out
+abbrev pub IsPartReportIn : Description → Query → List (Row StopText) → Header → ℕ → Type 0
+IsPartReportIn d query rows next cells = IsPartReport d (appliances_of d) query.start query.goal query.sides query.max rows next cells
+
+-- the first header that gets through; or an ordered true report of at most max rows; or max rows that leave headers out
+abbrev pub IsReached : Description → Query → Reached → Type 0
+IsReached d query (answers.Through h) = IsFirstThrough (meaning_in d query) query.sides h
+IsReached d query (answers.Blocked rows) = HaveText d rows.items × (IsReportIn d query (told_rows d rows.items) × (length rows.items ≤ query.max))
+IsReached d query (answers.More rows next cells) = HaveText d rows.items × IsPartReportIn d query (told_rows d rows.items) next cells

@@ -1,6 +1,0 @@
-use Rattle.std.proofs.Common.{sym, ◌∙◌, bytes_eq, not, ap}
-use Rattle.one_subnet.proofs.Maps.{list_any-map}
-use Rattle.one_subnet.proofs.distinct.IdSet.add.Goals as goal
-
-pub returns-clause-fresh : goal.returns-clause-fresh
-returns-clause-fresh c = rw (← c.self.view_is) (c.in_ok-insert.ensures.added ∙ ap not (sym (list_any-map (λ k. k.items) (bytes_eq c.args.id.items) _)))

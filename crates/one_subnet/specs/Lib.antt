@@ -1,5 +1,0 @@
-pub mod Differ
-pub mod Site
-pub mod Form
-pub mod Formed
-pub mod Lookup

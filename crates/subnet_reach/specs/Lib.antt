@@ -1,3 +1,0 @@
-pub mod Query
-pub mod Ports
-pub mod Probe

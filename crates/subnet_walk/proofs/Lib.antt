@@ -1,4 +1,0 @@
-pub mod WalkLemmas
-pub mod VerdictLemmas
-pub mod ReplyLemmas
-pub mod BarrierLemmas

@@ -1,4 +1,0 @@
-pub mod Trace
-pub mod Known
-pub mod Reach
-pub mod Laws
