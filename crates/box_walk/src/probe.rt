@@ -19,7 +19,7 @@ use fabric::Fabric;
 use header_boxes::Box5;
 use ordered_cover::Probe;
 use std::cell::RefCell;
-use vpc_model::{End, Phase, Stop, start_place};
+use vpc_model::{End, Phase, Stop, same_stop, start_place};
 
 /// What stops requests from one end to another, or their replies. A part that is answered is one for which
 /// all requests pass the same places, and so do their replies.
@@ -105,6 +105,10 @@ impl<'a> Probe for RoundProbe<'a> {
     ghost near = { λ p h. near_cuts p.fabric.now (appliances_of p.fabric.now) p.start p.goal h };
 
     ghost near_among = { λ p h. near_cuts_are_among_all p.fabric.now (appliances_of p.fabric.now) p.start p.goal h };
+
+    fn is_same(one: (Phase, Stop), other: (Phase, Stop)) -> bool {
+        one.0 == other.0 && same_stop(&one.1, &other.1)
+    }
 
     fn probe(&self, sides: &Box5) -> (Box5, Option<(Phase, Stop)>) {
         match self.followed.try_borrow_mut() {

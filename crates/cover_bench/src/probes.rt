@@ -70,6 +70,10 @@ impl Probe for Grid {
 
     ghost near_among = { λ g h. record { proto = λ c k. k; addr = λ c k. k; p = λ c k. k; q = λ c k. k } };
 
+    fn is_same(one: Place, other: Place) -> bool {
+        one == other
+    }
+
     fn probe(&self, sides: &Box5) -> (Box5, Option<Place>) {
         count(&self.asked);
         let part = Box5 {
@@ -105,6 +109,10 @@ impl Probe for Stairs {
 
     ghost near_among = { λ s h. record { proto = λ c k. k; addr = λ c k. k; p = λ c k. k; q = λ c k. k } };
 
+    fn is_same(one: u16, other: u16) -> bool {
+        one == other
+    }
+
     fn probe(&self, sides: &Box5) -> (Box5, Option<u16>) {
         count(&self.asked);
         let (p, q) = (sides.p.0, sides.q.0);
@@ -130,6 +138,10 @@ impl Probe for Uniform {
     ghost near = { λ u h. no_cuts };
 
     ghost near_among = { λ u h. record { proto = λ c k. k; addr = λ c k. k; p = λ c k. k; q = λ c k. k } };
+
+    fn is_same(one: u16, other: u16) -> bool {
+        one == other
+    }
 
     fn probe(&self, sides: &Box5) -> (Box5, Option<u16>) {
         count(&self.asked);

@@ -4,3 +4,4 @@ pub mod Boxes
 pub mod Rests
 pub mod Cells
 pub mod Splits
+pub mod Joined

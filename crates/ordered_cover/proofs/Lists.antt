@@ -1,7 +1,8 @@
 -- Counting the elements of a list that pass a test.
-use Rattle.std.proofs.Common.{◌≡◌, ◌≢◌, All, ℕ, ◌≤◌, ◌<◌, ◌+◌, Bool, true, false, List, [], ◌∷◌, ◌++◌, length, get_or, take, suc, zero, refl, arith, append_assoc, subst, ◌||◌, ap, sym, ◌∙◌, sum_by}
+use Rattle.std.proofs.Common.{◌≡◌, ◌≢◌, All, ℕ, ◌≤◌, ◌<◌, ◌+◌, ◌-◌, Bool, set, true, false, List, [], ◌∷◌, ◌++◌, length, get_or, take, suc, zero, refl, arith, append_assoc, subst, ◌||◌, ap, sym, ◌∙◌, sum_by}
 use Rattle.std.proofs.lemmas.List.Sums.{sum_by-cons}
-use Rattle.std.proofs.lemmas.List.{take_more}
+use Rattle.std.proofs.lemmas.List.{take_more, take_more_set, length-set}
+use Rattle.std.proofs.Math.Seq.{take-length}
 use Rattle.std.proofs.lemmas.List.Elements.{All-head, All-tail}
 use Rattle.std.proofs.lemmas.List.Sorted.{Contains-permutation, length_permutation, IsPermutation-push_more}
 use Rattle.std.specs.List.{list_any}
@@ -66,3 +67,21 @@ module _ {X : Type 0} (p : X → Bool) where
       let z = zero_for (p x) (All-head (λ x. p x ≢ true) x xs h) in
       let r = zero_from_all xs (All-tail (λ x. p x ≢ true) x xs h) in
       omega (arith, s, z, r)
+
+-- ---- the last element
+
+module _ {X : Type 0} where
+  pub with_last : (xs : List X) (n : ℕ) (y : X) → n ≡ length xs → 0 < n → y ≡ get_or xs (n - 1) y → xs ≡ take (n - 1) xs ++ y ∷ []
+  with_last xs n y count some last =
+      let m : length xs ≡ n - 1 + 1 = omega (arith, count, some) in
+      sym (take-length xs) ∙ (ap (λ k. take k xs) m ∙ (take_more xs (n - 1) y (omega (arith, count, some)) ∙ ap (λ v. take (n - 1) xs ++ v ∷ []) (sym last)))
+
+  pub last_replaced : (xs : List X) (n : ℕ) (y : X) → n ≡ length xs → 0 < n → set xs (n - 1) y ≡ take (n - 1) xs ++ y ∷ []
+  last_replaced xs n y count some =
+      let l = length-set xs (n - 1) y in
+      let m : length (set xs (n - 1) y) ≡ n - 1 + 1 = omega (arith, count, some, l) in
+      sym (take-length (set xs (n - 1) y)) ∙ (ap (λ k. take k (set xs (n - 1) y)) m ∙ take_more_set xs (n - 1) y (omega (arith, count, some)))
+
+  -- the last element put in its own place
+  pub last_put_back : (xs : List X) (n : ℕ) (y : X) → n ≡ length xs → 0 < n → y ≡ get_or xs (n - 1) y → set xs (n - 1) y ≡ xs
+  last_put_back xs n y count some last = last_replaced xs n y count some ∙ sym (with_last xs n y count some last)

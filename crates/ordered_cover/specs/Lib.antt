@@ -1,3 +1,4 @@
 pub mod Cover
 pub mod Corner
 pub mod Open
+pub mod Kept

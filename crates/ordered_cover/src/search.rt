@@ -1,10 +1,11 @@
 //! The search for the first header that gets through. Boxes that are still open are asked in the order of
 //! their low corners, so what is known always reaches from the least header of the sides up to the least
 //! open low corner.
-ghost use Rattle.std.specs.Prelude.{◌≡◌, ◌≤◌, ◌++◌, ◌∷◌, List, [], Option, All, IfOk, OnOk, IfNone, IfSome};
+ghost use Rattle.std.specs.Prelude.{◌≡◌, ◌≤◌, List, [], Option, All, IfOk, OnOk, IfNone, IfSome, IsTrue};
 ghost use Rattle.header_boxes.specs.Boxes.{IsValid};
 ghost use Rattle.header_boxes.specs.Rows.{IsFirst};
 ghost use Rattle.ordered_cover.specs.Cover.{IsCover};
+ghost use Rattle.ordered_cover.specs.Kept.{GoesOn, IsKept};
 ghost use Rattle.ordered_cover.specs.Open.{IsAsked};
 
 use crate::open::OpenBoxes;
@@ -46,16 +47,34 @@ pub fn first<P: Probe>(alloc: Global, p: &P, sides: Box5) -> Result<Option<Heade
     Ok(None)
 }
 
-// One more row.
-fn keep<W: Copy>(rows: &mut Vec<Row<W>>, part: Box5, word: W) -> Result<(), AllocError>
-    ensures { OnOk result (rows.new.items ≡ rows.old.items ++ record { part = part; word = word } ∷ []) }
+// Whether a part has the sides of another one, but that it begins one past the other's last port.
+fn goes_on(part: &Box5, other: &Box5) -> bool
+    ensures { IsTrue result → GoesOn other.now part.now }
 {
+    other.proto == part.proto
+        && other.src == part.src
+        && other.dst == part.dst
+        && other.p == part.p
+        && u32::from(other.q.1) + 1 == u32::from(part.q.0)
+}
+
+// One more row, or the last row as far as the part where they have one word and the part goes on from it.
+fn keep<P: Probe>(rows: &mut Vec<Row<P::Word>>, part: Box5, word: P::Word) -> Result<(), AllocError>
+    ensures { OnOk result (IsKept rows.old.items (record { part = part; word = word }) rows.new.items) }
+{
+    if let Some(last) = rows.last_mut() {
+        if goes_on(&part, &last.part) && P::is_same(last.word, word) {
+            last.part.q.1 = part.q.1;
+            return Ok(());
+        }
+    }
     rows.push(Row { part, word })?;
     Ok(())
 }
 
 /// What the probe says of all headers of the sides, in at most `max` rows: the first header that gets through,
-/// or rows that hold all headers, or as many rows as are allowed and the first header outside them.
+/// or rows that hold all headers, or as many rows as are allowed and the first header outside them. Parts that
+/// follow each other with one word, and differ in q alone, are one row.
 pub fn cover<P: Probe>(
     alloc: Global,
     p: &P,
@@ -74,7 +93,7 @@ pub fn cover<P: Probe>(
         };
         match word {
             None => return Ok(Cover::Found(part.low())),
-            Some(word) => keep(&mut rows, part, word)?,
+            Some(word) => keep::<P>(&mut rows, part, word)?,
         }
     }
     match boxes.take_first() {

@@ -2,7 +2,7 @@
 ghost use Rattle.std.specs.Prelude.{◌≡◌, Some, [], ◌∷◌, true, false, nat_lt, if◌then◌else◌};
 ghost use Rattle.std.specs.List.{Contains};
 ghost use Rattle.std.proofs.Common.{arith};
-ghost use Rattle.ordered_cover.specs.declared.tests.Why.TheVariants.{Ports, Target};
+ghost use Rattle.ordered_cover.specs.declared.tests.Why.TheVariants.{Target};
 
 use crate::search::{cover, first};
 use crate::{Cover, Probe, Row};
@@ -16,25 +16,30 @@ enum Why {
     Target,
 }
 
-// Of the headers with a low p those with a low q are stopped for one reason, the others for another. What
-// becomes of the rest is given.
+// Of the headers with a low p those with a low q are stopped for one reason, the others for another, which may
+// be the same. What becomes of the rest is given.
 #[derive(Drop)]
 struct Screen {
     p: u16,
     q: u16,
+    low: Why,
     rest: Option<Why>,
 }
 
 impl Probe for Screen {
     type Word = Why;
 
-    ghost meaning = { λ s h. if nat_lt h.p s.p then (if nat_lt h.q s.q then Some Ports else Some Target) else s.rest };
+    ghost meaning = { λ s h. if nat_lt h.p s.p then (if nat_lt h.q s.q then Some s.low else Some Target) else s.rest };
 
     ghost cuts = { λ s. record { proto = []; addr = []; p = s.p ∷ []; q = s.q ∷ [] } };
 
     ghost near = { λ s h. record { proto = []; addr = []; p = s.p ∷ []; q = (if nat_lt h.p s.p then s.q ∷ [] else []) } };
 
     ghost near_among = { λ s h. record { proto = λ c k. k; addr = λ c k. k; p = λ c k. k; q = λ c. elim (nat_lt h.p s.p) as (λ b. Contains (if b then s.q ∷ [] else []) c → Contains (s.q ∷ []) c) [ true ↦ λ k. k | false ↦ λ k. absurd (Prim.omega (arith, k.1)) ] } };
+
+    fn is_same(one: Why, other: Why) -> bool {
+        one == other
+    }
 
     fn probe(&self, sides: &Box5) -> (Box5, Option<Why>) {
         let mut part = *sides;
@@ -46,7 +51,7 @@ impl Probe for Screen {
             return (part, Some(Why::Target));
         }
         part.q.1 = part.q.1.min(self.q - 1);
-        (part, Some(Why::Ports))
+        (part, Some(self.low))
     }
 }
 
@@ -100,6 +105,7 @@ fn screen_with(rest: Option<Why>) -> Screen {
     Screen {
         p: 1024,
         q: 443,
+        low: Why::Ports,
         rest,
     }
 }
@@ -134,5 +140,29 @@ fn covers_of_all_headers(rt: HostRuntime) -> Result<(), Fail> {
     assert!(rt;
         matches!(cover(rt.alloc(), &screen_with(None), EVERY_HEADER, 3)?, Cover::Found(h) if h == at(1024, 0))
     );
+    Ok(())
+}
+
+#[test]
+fn joins_rows_of_one_word(rt: HostRuntime) -> Result<(), Fail> {
+    let shut = Screen {
+        low: Why::Target,
+        ..screen_with(Some(Why::Target))
+    };
+    let every_low = Row {
+        part: Box5 {
+            p: (0, 1023),
+            ..EVERY_HEADER
+        },
+        word: Why::Target,
+    };
+    let found = match cover(rt.alloc(), &shut, EVERY_HEADER, 2)? {
+        Cover::Blocked(found) => found,
+        Cover::Found(h) => panic!(rt; "found {h:?}"),
+        Cover::More(_found, after) => panic!(rt; "more from {after:?}"),
+    };
+    // Rows of one word that differ in p stay apart.
+    let rows = [every_low, OTHERS];
+    assert_eq!(rt; found.as_slice(), rows.as_slice());
     Ok(())
 }

@@ -1,9 +1,9 @@
 use Rattle.std.proofs.Common.{◌≡◌, length, arith}
-use Rattle.std.proofs.lemmas.Grind.{common_steps}
 use Rattle.std.proofs.lemmas.List.Elements.{All-head}
 use Rattle.std.proofs.lemmas.List.Sorted.{All-permutation}
 use Rattle.header_boxes.specs.Boxes.{IsValid}
-use Rattle.ordered_cover.proofs.Splits.{split_at_start, found_from_asked, split_after, valid_from_split, blocked_from_split, more_from_split}
+use Rattle.ordered_cover.proofs.Joined.{kept_few, split_kept}
+use Rattle.ordered_cover.proofs.Splits.{split_at_start, found_from_asked, split_after, valid_from_split, blocked_from_split, more_from_split, volume_falls}
 use Rattle.ordered_cover.proofs.search.cover.Goals as goal
 
 pub kept-init : goal.kept-init
@@ -23,13 +23,16 @@ returns-in-None g c =
     let asked = rw c.in-Some.is at c.in_ok-part.ensures.asked in
     rw c.low.ensures.value (found_from_asked c.kept.invariant.split (rw c.in-None.is at asked))
 
+pub kept-smaller : goal.kept-smaller
+kept-smaller g c = volume_falls (rw c.in-Some.is at c.in_ok-part.ensures.asked)
+
 pub kept-preserved : goal.kept-preserved
 kept-preserved g c =
     let asked = rw c.in-Some.is at c.in_ok-part.ensures.asked in
-    let kept = split_after c.in-Some-word.word c.kept.invariant.split (rw c.in-Some-word.is at asked) in
+    let after = split_after c.in-Some-word.word c.kept.invariant.split (rw c.in-Some-word.is at asked) in
     record {
-      split = rw c.in_ok-keep-in-Some-word.ensures kept;
-      few = rw c.in_ok-keep-in-Some-word.ensures (grind (arith, common_steps));
+      split = split_kept _ _ _ c.in_ok-keep-in-Some-word.ensures after;
+      few = let more = kept_few _ _ _ c.in_ok-keep-in-Some-word.ensures in omega (arith, more, c.kept-test.true, c.len.ensures);
     }
 
 pub returns-in-None-take_first : goal.returns-in-None-take_first

@@ -1,4 +1,5 @@
-use Rattle.std.proofs.Common.{◌≤◌, ◌-◌, length}
+use Rattle.std.proofs.Common.{◌≤◌, length, sum_by}
+use Rattle.header_boxes.specs.Boxes.{volume_of}
 use Rattle.ordered_cover.specs.Open.{AreSplit}
 use Rattle.ordered_cover.proofs.search.cover.Given as goal
 
@@ -9,4 +10,4 @@ invariant-kept g l = record {
 }
 
 abbrev pub decreases-kept : goal.decreases-kept
-decreases-kept g l = l.max - length l.rows.items
+decreases-kept g l = sum_by volume_of l.boxes
