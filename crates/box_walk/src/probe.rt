@@ -106,7 +106,9 @@ impl<'a> Probe for RoundProbe<'a> {
 
     ghost near_among = { λ p h. near_cuts_are_among_all p.fabric.now (appliances_of p.fabric.now) p.start p.goal h };
 
-    fn is_same(one: (Phase, Stop), other: (Phase, Stop)) -> bool {
+    fn is_same(one: (Phase, Stop), other: (Phase, Stop)) -> bool
+        ensures { IsTrue result → one ≡ other }
+    {
         one.0 == other.0 && same_stop(&one.1, &other.1)
     }
 

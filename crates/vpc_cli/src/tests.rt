@@ -1,6 +1,7 @@
 // Worked commands, on a network of two hosts in one subnet.
 mod asks;
 mod bundles;
+mod makes;
 mod reaching;
 mod replays;
 mod walks;
