@@ -116,7 +116,7 @@ CASES = [
     ("an account, in one VPC", accounts.account, 10_000, f"from {of_account(1)} to {of_account(2)}", 0),
     ("an account, over a transit gateway", accounts.account, 10_000, f"from {of_account(1)} to {of_account(2, 2)}", 1),
     ("an account, to the internet", accounts.account, 10_000, f"from {of_account(1)} to internet dst 198.51.100.0/24", 0),
-    ("routes of a table", routes, 100_000, BETWEEN, 0),
+    ("routes of a table", routes, 99_990, BETWEEN, 0),
     ("rules that name 95,000 members", references, 1_000, "from eni-0 to eni-9", 1),
 ]
 
@@ -128,7 +128,7 @@ def rows_of(words):
 
 
 def main():
-    print("| network | file | ask | json.load | ratio | rows | a row beyond one | peak |")
+    print("| network | file | ask | json.load | ratio | rows | a row beyond a few | peak |")
     print("|---|---:|---:|---:|---:|---:|---:|---:|")
     for name, made, count, query, code in CASES:
         path = written(f"ask-{made.__name__.strip('<>')}-{count}.json", made, count)
@@ -140,7 +140,9 @@ def main():
         theirs, _ = loaded(path)
         each = f"{(ours - once) / rows * 1e6:.1f} µs" if rows > 1 else "-"
         size = os.path.getsize(path) / 2**20
-        print(f"| {name}: {count:,} | {size:.1f} MiB | {ours * 1e3:.1f} ms | {theirs * 1e3:.1f} ms | {ours / theirs:.2f} | {max(rows, 0):,} | {each} | {peak:.0f} MiB |")
+        # What python3 takes to start is left out of its time, and is more than a small file takes.
+        beside = f"{theirs * 1e3:.1f} ms | {ours / theirs:.2f}" if size > 0.1 else "- | -"
+        print(f"| {name}: {count:,} | {size:.1f} MiB | {ours * 1e3:.1f} ms | {beside} | {max(rows, 0):,} | {each} | {peak:.0f} MiB |")
     took, peak = measured([program(), "make", "50"])
     print(f"\n`make 50`: {took * 1e3:.1f} ms, {peak:.0f} MiB")
 
