@@ -115,15 +115,20 @@ among_cuts d =
     (all_among own_cuts_of_table (cuts_of_table d) lists (λ t. all_among own_cuts_of_route (cuts_of_route d) lists (λ r. among_reach d r.reach) t.routes) d.tables)
     (all_among own_cuts_of_group (cuts_of_group d) lists (λ g. all_among own_cuts_of_permission (cuts_of_permission d) lists (among_permission d) (all_permissions g)) d.groups)))
 
+-- four lists, each with the members of its side
+pub HasCuts-from_members : (meant sides cuts : CutLists) → sides ≡ meant
+    → ((x : ℕ) → Contains cuts.proto x ↔ Contains sides.proto x) → ((x : ℕ) → Contains cuts.addr x ↔ Contains sides.addr x)
+    → ((x : ℕ) → Contains cuts.p x ↔ Contains sides.p x) → ((x : ℕ) → Contains cuts.q x ↔ Contains sides.q x)
+    → HasCuts meant cuts
+HasCuts-from_members meant sides cuts is proto addr p q =
+    subst (λ (s : CutLists). HasCuts s cuts) is (record {
+      no_others = record { proto = λ x. (proto x).0; addr = λ x. (addr x).0; p = λ x. (p x).0; q = λ x. (q x).0 };
+      all = record { proto = λ x. (proto x).1; addr = λ x. (addr x).1; p = λ x. (p x).1; q = λ x. (q x).1 };
+    })
+
 -- lists with the members of what was gathered
-pub HasCuts-from_gathered : (d : Description) (gathered cuts : CutLists) → gathered ≡ on_sides (own_cuts d)
-    → ((x : ℕ) → Contains cuts.proto x ↔ Contains gathered.proto x) → ((x : ℕ) → Contains cuts.addr x ↔ Contains gathered.addr x)
-    → ((x : ℕ) → Contains cuts.p x ↔ Contains gathered.p x) → ((x : ℕ) → Contains cuts.q x ↔ Contains gathered.q x)
-    → HasCuts (cuts_of d) cuts
-HasCuts-from_gathered d gathered cuts is proto addr p q =
-    let down : AreAmong cuts gathered = record { proto = λ x. (proto x).0; addr = λ x. (addr x).0; p = λ x. (p x).0; q = λ x. (q x).0 } in
-    let up : AreAmong gathered cuts = record { proto = λ x. (proto x).1; addr = λ x. (addr x).1; p = λ x. (p x).1; q = λ x. (q x).1 } in
-    record {
-      no_others = among_through cuts (on_sides (own_cuts d)) (cuts_of d) (subst (AreAmong cuts) is down) (among_cuts d);
-      all = among_through (cuts_of d) (on_sides (own_cuts d)) cuts (cuts_among d) (subst (λ (g : CutLists). AreAmong g cuts) is up);
-    }
+pub HasCuts-from_gathered : (d : Description) (gathered cuts : CutLists) → gathered ≡ on_sides (own_cuts d) → HasCuts gathered cuts → HasCuts (cuts_of d) cuts
+HasCuts-from_gathered d gathered cuts is has = record {
+  no_others = among_through cuts (on_sides (own_cuts d)) (cuts_of d) (subst (AreAmong cuts) is has.no_others) (among_cuts d);
+  all = among_through (cuts_of d) (on_sides (own_cuts d)) cuts (cuts_among d) (subst (λ (g : CutLists). AreAmong g cuts) is has.all);
+}

@@ -1,2 +1,4 @@
 pub mod Among
 pub mod Additions
+pub mod Increasing
+pub mod Dividing

@@ -1,3 +1,4 @@
 pub mod Types
 pub mod Gathered
 pub mod Cuts
+pub mod Dividing

@@ -1,9 +1,11 @@
 // Cuts while they are gathered.
-ghost use Rattle.std.specs.Prelude.{◌≡◌, ◌+◌, ◌-◌, ◌∷◌, ◌++◌, [], nat_le, filter, map, OnOk};
+ghost use Rattle.std.specs.Prelude.{◌≡◌, ◌+◌, ◌-◌, ◌∷◌, ◌++◌, ◌||◌, [], nat_le, filter, map, OnOk};
 ghost use Rattle.vpc_base.specs.Cuts.{no_cuts};
 ghost use Rattle.vpc_model.specs.Cuts.{cuts_of_blocks, cuts_of_rule, edges, proto_cuts, shifted_edges};
+ghost use Rattle.cut_points.specs.Dividing.{divides, dividing};
 ghost use Rattle.cut_points.specs.Gathered.{gathered_with};
 
+use header_boxes::Box5;
 use std::alloc::{AllocError, Global};
 use std::marker::Model;
 
@@ -100,6 +102,41 @@ fn push_shifted_ranges(side: &mut Vec<u32>, a: (u16, u16), b: (u16, u16)) -> Res
     push_shifted_range(side, b)
 }
 
+// Whether a cut divides a range: the range has a number below the cut, and one that is not below it.
+fn is_divided(range: (u32, u32), cut: u32) -> bool
+    ensures { result ≡ divides range cut }
+{
+    range.0 < cut && cut <= range.1
+}
+
+// Keeps the cuts that divide a range.
+fn keep_dividing(cuts: &mut Vec<u32>, range: (u32, u32))
+    ensures { cuts.new.items ≡ filter (divides range) cuts.old.items }
+{
+    cuts.retain(|cut| is_divided(range, *cut));
+}
+
+// Keeps the cuts that divide one of two ranges.
+fn keep_dividing_either(cuts: &mut Vec<u32>, a: (u32, u32), b: (u32, u32))
+    ensures { cuts.new.items ≡ filter (λ c. divides a c || divides b c) cuts.old.items }
+{
+    cuts.retain(|cut| is_divided(a, *cut) || is_divided(b, *cut));
+}
+
+// Keeps the cuts that divide a range of protocols.
+fn keep_dividing8(cuts: &mut Vec<u32>, range: (u8, u8))
+    ensures { cuts.new.items ≡ filter (divides range) cuts.old.items }
+{
+    keep_dividing(cuts, (u32::from(range.0), u32::from(range.1)));
+}
+
+// Keeps the cuts that divide a range of ports.
+fn keep_dividing16(cuts: &mut Vec<u32>, range: (u16, u16))
+    ensures { cuts.new.items ≡ filter (divides range) cuts.old.items }
+{
+    keep_dividing(cuts, (u32::from(range.0), u32::from(range.1)));
+}
+
 impl Gathered {
     /// No cuts.
     pub fn new(alloc: Global) -> Gathered
@@ -186,5 +223,16 @@ impl Gathered {
     {
         push_within(&mut self.p, FIRST_NAT_PORT, LAST_PORT)?;
         push_both(&mut self.q, ECHO_REQUEST, ECHO_REQUEST + 1, LAST_PORT)
+    }
+
+    /// Keeps the cuts that divide a side of the box, of addresses those that divide its sources or its
+    /// destinations.
+    pub fn keep_dividing_sides(&mut self, b: &Box5)
+        ensures { self.new ≡ dividing self.old b.now }
+    {
+        keep_dividing8(&mut self.proto, b.proto);
+        keep_dividing_either(&mut self.addr, b.src, b.dst);
+        keep_dividing16(&mut self.p, b.p);
+        keep_dividing16(&mut self.q, b.q);
     }
 }

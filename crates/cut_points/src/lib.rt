@@ -8,4 +8,4 @@ mod rows;
 #[cfg(test)]
 mod tests;
 
-pub use cuts::cuts_of;
+pub use cuts::{cells_in, cuts_of};

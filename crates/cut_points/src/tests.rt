@@ -1,5 +1,8 @@
 // What no clause says: with memory there is an answer. The cuts of a small network, worked out by hand.
-use crate::cuts_of;
+ghost use Rattle.header_boxes.specs.Boxes.{IsValid};
+
+use crate::{cells_in, cuts_of};
+use header_boxes::Box5;
 use prefix_text::Prefix;
 use std::alloc::Global;
 use std::test::Fail;
@@ -46,12 +49,16 @@ fn network(alloc: Global, acls: OwnList<Acl>, appliances: OwnList<Appliance>) ->
     }
 }
 
+fn one_rule(alloc: Global) -> Result<Description, Fail> {
+    let id = Id::of(alloc, b"acl-1")?.ok_or("no id")?;
+    let acls = OwnList::of(vec![in alloc; acl(alloc, id)?]?);
+    Ok(network(alloc, acls, none(alloc)))
+}
+
 #[test]
 fn cuts_of_one_rule(rt: HostRuntime) -> Result<(), Fail> {
     let alloc = rt.alloc();
-    let id = Id::of(alloc, b"acl-1")?.ok_or("no id")?;
-    let acls = OwnList::of(vec![in alloc; acl(alloc, id)?]?);
-    let cuts = cuts_of(alloc, &network(alloc, acls, none(alloc)))?;
+    let cuts = cuts_of(alloc, &one_rule(alloc)?)?;
     assert_eq!(rt; cuts.proto.as_slice(), [1, 2, 6, 7, 17, 18, 255].as_slice());
     assert_eq!(rt; cuts.p.as_slice(), [80, 1024, 64512].as_slice());
     assert_eq!(rt; cuts.q.as_slice(), [80, 2048, 2049].as_slice());
@@ -87,5 +94,51 @@ fn cuts_of_appliances(rt: HostRuntime) -> Result<(), Fail> {
         2886729728, 2887778304, 3221225984, 3221226240, 3232235520, 3232301056, 3758096384,
     ];
     assert_eq!(rt; cuts.addr.as_slice(), addresses.as_slice());
+    Ok(())
+}
+
+// How many cells the cuts of the one rule make of a box.
+fn cells_of_rule(alloc: Global, sides: &Box5) -> Result<u128, Fail>
+    requires { IsValid sides.now }
+{
+    Ok(cells_in(alloc, &one_rule(alloc)?, sides)?)
+}
+
+#[test]
+fn cells_of_boxes(rt: HostRuntime) -> Result<(), Fail> {
+    let alloc = rt.alloc();
+    // Each side begins at a cut and ends before the next one.
+    let undivided = Box5 {
+        proto: (2, 5),
+        src: (0x0A00_0000, 0x0A00_FFFF),
+        dst: (0x0A01_0000, 0x0AFF_FFFF),
+        p: (1024, 64511),
+        q: (80, 2047),
+    };
+    assert_eq!(rt; cells_of_rule(alloc, &undivided)?, 1);
+    // Each side ends at a cut, the destination at the second of two.
+    let ends_at_cuts = Box5 {
+        proto: (2, 6),
+        src: (0x0A00_0000, 0x0A01_0000),
+        dst: (0x0A00_FFFF, 0x0B00_0000),
+        p: (79, 80),
+        q: (2048, 2049),
+    };
+    assert_eq!(rt; cells_of_rule(alloc, &ends_at_cuts)?, 48);
+    // Only the destination is divided.
+    let towards = Box5 {
+        dst: (0x0A00_FFFF, 0x0B00_0000),
+        ..undivided
+    };
+    assert_eq!(rt; cells_of_rule(alloc, &towards)?, 3);
+    // Everything: 8 pieces of protocols, 14 of sources and of destinations, 4 of p and of q.
+    let whole = Box5 {
+        proto: (0, 255),
+        src: (0, 0xFFFF_FFFF),
+        dst: (0, 0xFFFF_FFFF),
+        p: (0, 65535),
+        q: (0, 65535),
+    };
+    assert_eq!(rt; cells_of_rule(alloc, &whole)?, 25088);
     Ok(())
 }

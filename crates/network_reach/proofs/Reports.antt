@@ -3,15 +3,12 @@ use Rattle.std.proofs.Common.{◌≡◌, ◌∙◌, ◌<◌, Err, IfOk, List, No
 use Rattle.std.specs.Global.{Vec}
 use Rattle.std.specs.Prelude.{option_map, slice_index_or}
 use Rattle.std.proofs.lemmas.List.{length-map}
-use Rattle.vpc_base.specs.Cuts.{CutLists}
 use Rattle.header_boxes.proofs.Held.{holds_low, valid_if_within}
 use Rattle.header_boxes.specs.Boxes.{low_of}
-use Rattle.header_boxes.specs.Cells.{AreAscending, cells_of}
 use Rattle.header_boxes.specs.Rows.{AreTrueRows, IsFirst, IsFirstThrough, NoneThrough}
 use Rattle.header_boxes.specs.declared.rows.Row.{Row}
 use Rattle.block_report.specs.Reports.{HaveText, told_row, told_rows}
 use Rattle.box_walk.specs.Asking.{asked, stop_of, word_of}
-use Rattle.cut_points.specs.Cuts.{HasCuts}
 use Rattle.ordered_cover.specs.Cover.{IsBlocked, IsMore}
 use Rattle.query_words.specs.declared.queries.Query.{Query}
 use Rattle.vpc_laws.proofs.Telling.{verdicts_are_told}
@@ -20,7 +17,7 @@ use Rattle.vpc_laws.specs.Types.{Description, Header, Phase, Stop, StopText, Ver
 use Rattle.vpc_model.specs.Accepted.{IsAccepted}
 use Rattle.vpc_model.specs.Appliances.{appliances_of}
 use Rattle.vpc_model.specs.Cuts.{cuts_of}
-use Rattle.vpc_model.specs.Report.{ending_of}
+use Rattle.vpc_model.specs.Report.{IsCellCount, ending_of}
 use Rattle.vpc_model.specs.Sound.{has_text}
 use Rattle.vpc_model.specs.Told.{told_stop}
 use Rattle.vpc_model.specs.Verdict.{verdict_of}
@@ -86,24 +83,22 @@ pub blocked_is : (d : Description) (query : Query) (rows : Vec (Row (Phase × St
     → IsBlocked (stops_of d query) (cuts_of d) query.sides query.max rows.items → IsReached d query (answers.Blocked rows)
 blocked_is d query rows accepted asked is = (have-text d query rows.items accepted asked is.are_true, (report d query rows.items is, is.few))
 
-part-report : (d : Description) (query : Query) (cuts : CutLists) (rows : List (Row (Phase × Stop))) (next : Header) (n : ℕ)
-    → HasCuts (cuts_of d) cuts → AreAscending cuts → n ≡ cells_of cuts query.sides
-    → IsMore (stops_of d query) (cuts_of d) query.sides query.max rows next → NoneThrough (stops_of d query) query.sides
+part-report : (d : Description) (query : Query) (rows : List (Row (Phase × Stop))) (next : Header) (n : ℕ)
+    → IsCellCount d query.sides n → IsMore (stops_of d query) (cuts_of d) query.sides query.max rows next → NoneThrough (stops_of d query) query.sides
     → IsPartReportIn d query (told_rows d rows) next n
-part-report d query cuts rows next n has ascending count is none = record {
+part-report d query rows next n cells is none = record {
   are_true = true_told (tell d) (stops_of d query) (meaning_in d query) query.sides rows (tells d query) is.are_true;
   ordered = ordered_told (tell d) query.sides (cuts_of d) rows is.ordered;
   count = length-map rows (told_row d) ∙ is.count;
   next_is = outside_told (tell d) query.sides rows next is.outside;
   begun = begun_told (tell d) next rows is.begun;
   none = none_through_told (tell d) (stops_of d query) (meaning_in d query) query.sides (tells d query) none;
-  cells_are = record { cuts = cuts; ascending = ascending; no_others = has.no_others; all = has.all; count = count };
-  many = subst (λ (m : ℕ). query.max < m) (sym count) (is.cells cuts has.all);
+  cells_are = cells;
+  many = subst (λ (m : ℕ). query.max < m) (sym cells.count) (is.cells cells.cuts cells.all);
 }
 
-pub more_is : (d : Description) (query : Query) (cuts : CutLists) (rows : Vec (Row (Phase × Stop))) (next : Header) (n : ℕ) → IsAccepted d → IsQueryIn d query
-    → HasCuts (cuts_of d) cuts → AreAscending cuts → n ≡ cells_of cuts query.sides
-    → IsMore (stops_of d query) (cuts_of d) query.sides query.max rows.items next → NoneThrough (stops_of d query) query.sides
+pub more_is : (d : Description) (query : Query) (rows : Vec (Row (Phase × Stop))) (next : Header) (n : ℕ) → IsAccepted d → IsQueryIn d query
+    → IsCellCount d query.sides n → IsMore (stops_of d query) (cuts_of d) query.sides query.max rows.items next → NoneThrough (stops_of d query) query.sides
     → IsReached d query (answers.More rows next n)
-more_is d query cuts rows next n accepted asked has ascending count is none =
-    (have-text d query rows.items accepted asked is.are_true, part-report d query cuts rows.items next n has ascending count is none)
+more_is d query rows next n accepted asked cells is none =
+    (have-text d query rows.items accepted asked is.are_true, part-report d query rows.items next n cells is none)

@@ -6,9 +6,9 @@ ghost use Rattle.network_reach.specs.Reached.{IsQueryIn, IsReached, meaning_in};
 
 use appliances::Deciders;
 use box_walk::RoundProbe;
-use cut_points::cuts_of;
+use cut_points::cells_in;
 use fabric::Fabric;
-use header_boxes::{Row, cells};
+use header_boxes::Row;
 use ordered_cover::Cover;
 use ordered_cover::search::{cover, first};
 use query_words::Query;
@@ -33,7 +33,8 @@ pub enum Reached {
 /// through.
 ///
 /// Each part that is asked is as large as the rows on its two walks let it be. Only where rows are left out are
-/// the cuts of the description worked out. Fails for want of memory alone.
+/// the cuts of the description gathered, and those that divide a side of the query sorted. Fails for want of
+/// memory alone.
 pub fn reach(
     alloc: Global,
     f: &Fabric,
@@ -52,8 +53,8 @@ pub fn reach(
         Cover::More(rows, next) => match first(alloc, &probe, query.sides)? {
             Some(h) => Ok(Reached::Through(h)),
             None => {
-                let cuts = cuts_of(alloc, d)?;
-                Ok(Reached::More(rows, next, cells(&cuts, &query.sides)))
+                let cells = cells_in(alloc, d, &query.sides)?;
+                Ok(Reached::More(rows, next, cells))
             }
         },
     }
