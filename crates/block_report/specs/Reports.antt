@@ -8,6 +8,7 @@ use Rattle.vpc_base.specs.Header.{reply_of}
 use Rattle.vpc_model.specs.Appliances.{Appliances}
 use Rattle.block_report.specs.Walks.{told_text, walk_text}
 use Rattle.block_report.specs.Words.{header_text, line_end, word}
+use Rattle.vpc_model.specs.Id.{is_id}
 use Rattle.vpc_model.specs.Sound.{has_text}
 use Rattle.vpc_model.specs.Told.{end_id, told_stop}
 use Rattle.vpc_model.specs.Verdict.{reply_walk, request_walk}
@@ -103,3 +104,13 @@ told_rows d rows = map (told_row d) rows
 -- the stop of each row has a text
 abbrev pub HaveText : Description → List (Row (Phase × Stop)) → Type 0
 HaveText d rows = All (λ row. has_text d row.word.1 ≡ true) rows
+
+-- the component and the rule of a row are ids
+abbrev pub HasIds : Row StopText → Type 0
+HasIds row = (is_id row.word.id ≡ true) × (is_id row.word.rule ≡ true)
+
+-- what is named in a report is named by ids
+pub record AreIds (d : Description) (from to : End) (told : List (Row StopText)) : Type 0 where
+  pub start : is_id (end_id d from) ≡ true
+  pub goal : is_id (end_id d to) ≡ true
+  pub rows : All HasIds told

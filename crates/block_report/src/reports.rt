@@ -1,6 +1,6 @@
 // Reports: a query with its rows.
-ghost use Rattle.std.specs.Prelude.{◌≡◌, ◌++◌, IfOk, IsTrue, OnOk};
-ghost use Rattle.block_report.specs.Reports.{HaveText, addresses_text, box_line, box_text, ends_line, more_of, more_text, query_text, report_of, report_text, row_line, row_lines_from, told_row, told_rows};
+ghost use Rattle.std.specs.Prelude.{◌≡◌, ◌++◌, All, IfOk, IsTrue, OnOk};
+ghost use Rattle.block_report.specs.Reports.{AreIds, HasIds, HaveText, addresses_text, box_line, box_text, ends_line, more_of, more_text, query_text, report_of, report_text, row_line, row_lines_from, told_row, told_rows};
 ghost use Rattle.block_report.specs.Walks.{phase_text, told_text};
 ghost use Rattle.block_report.specs.Words.{word};
 ghost use Rattle.prefix_text.specs.Range.{range_text};
@@ -196,7 +196,8 @@ pub fn put_more(
 
 fn tell_row(alloc: Global, n: &Network, row: &Row<(Phase, Stop)>) -> Result<Row<StopText>, NoMemory>
     requires { IsTrue (has_text n.now row.now.word.1) }
-    ensures { IfOk result (λ told. told ≡ told_row n.now row.now) }
+    ensures told { IfOk result (λ told. told ≡ told_row n.now row.now) }
+    ensures ids { IfOk result HasIds }
 {
     Ok(Row {
         part: row.part,
@@ -211,7 +212,8 @@ fn tell_rows(
     rows: &[Row<(Phase, Stop)>],
 ) -> Result<Vec<Row<StopText>>, NoMemory>
     requires { HaveText n.now rows.now }
-    ensures { IfOk result (λ told. told.items ≡ told_rows n.now rows.now) }
+    ensures told { IfOk result (λ told. told.items ≡ told_rows n.now rows.now) }
+    ensures ids { IfOk result (λ told. All HasIds told.items) }
 {
     let mut told = Vec::new(alloc);
     for row in rows {
@@ -233,7 +235,8 @@ pub fn print_report(
     requires start { IsTrue (is_end n.now start) }
     requires goal { IsTrue (is_end n.now goal) }
     requires rows { HaveText n.now rows.now }
-    ensures { IfOk result (λ text. text.items ≡ report_text n.now start goal sides.now (told_rows n.now rows.now)) }
+    ensures text { IfOk result (λ text. text.items ≡ report_text n.now start goal sides.now (told_rows n.now rows.now)) }
+    ensures ids { IfOk result (λ text. AreIds n.now start goal (told_rows n.now rows.now)) }
 {
     let rows = tell_rows(alloc, n, rows)?;
     let mut out = Vec::new(alloc);

@@ -278,7 +278,10 @@ fn rule_id(alloc: Global, n: &Network, s: &Stop) -> Result<Id, NoMemory>
 /// What is told of a stop in a phase.
 pub fn stop_text(alloc: Global, n: &Network, phase: Phase, s: &Stop) -> Result<StopText, NoMemory>
     requires { IsTrue (has_text n.now s.now) }
-    ensures { IfOk result (λ t. t ≡ told_stop n.now phase s.now) }
+    ensures told { IfOk result (λ t. t ≡ told_stop n.now phase s.now) }
+    // Both are ids, as those of the network and the texts of numbers and blocks are.
+    ensures id { IfOk result (λ t. IsTrue (is_id t.id)) }
+    ensures rule { IfOk result (λ t. IsTrue (is_id t.rule)) }
 {
     Ok(StopText {
         phase,
