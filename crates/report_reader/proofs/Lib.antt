@@ -1,10 +1,14 @@
+pub mod AskedEnds
 pub mod Found
+pub mod Lengths
 pub mod Printed
+pub mod Printing
 pub mod ReadEnds
 pub mod ReadLines
 pub mod ReadReports
 pub mod ReadWords
 pub mod RowLemmas
+pub mod RowsOf
 pub mod Spelling
 pub mod Within
 pub mod WordLemmas

@@ -8,7 +8,6 @@ use Rattle.vpc_laws.proofs.Numbering.{accepted_numbers_are_own, bytes_self, row-
 use Rattle.vpc_laws.specs.Types.{Description, End, EniNo, Interface}
 use Rattle.vpc_model.specs.declared.places.End.TheVariants as ends
 use Rattle.vpc_model.specs.Accepted.{IsAccepted}
-use Rattle.vpc_model.specs.Id.{is_id}
 use Rattle.vpc_model.specs.Lookup.{eni_no, has_interface, interface_at, no_interface}
 use Rattle.vpc_model.specs.Step.Crossing.{is_gateway}
 use Rattle.vpc_model.specs.Told.{end_id}
@@ -16,7 +15,7 @@ use Rattle.query_words.specs.Ends.{end_at}
 use Rattle.query_words.specs.declared.refusal.QueryRefusal.{QueryRefusal}
 use Rattle.report_reader.specs.Boxes.{◌>>=◌}
 use Rattle.report_reader.specs.Lines.{end_named, ends_named, is_internet}
-use Rattle.report_reader.specs.ReadsBack.{CanBeNamed, IsNamed}
+use Rattle.report_reader.specs.ReadsBack.{AreNamed, CanBeNamed, IsNamed}
 
 -- the id of an interface is there
 has_own : (d : Description) (i : EniNo) → CanBeNamed d i → (let e = interface_at d i in has_interface d e.id ≡ true)
@@ -36,10 +35,6 @@ end_named-end_id d (ends.Interface i) accepted h =
     host_named d i e.id h.other (has_own d i h) ((accepted_numbers_are_own d accepted).interface i h.described) h.host
 end_named-end_id d ends.Internet accepted h = refl
 
-pub is_id-end_id : (d : Description) (end : End) → IsNamed d end → is_id (end_id d end) ≡ true
-is_id-end_id d (ends.Interface i) h = h.visible
-is_id-end_id d ends.Internet h = refl
-
 -- ---- both
 
 abbrev ends_read : Option End → Option End → Option (End × End)
@@ -51,8 +46,7 @@ ends_read start goal = do
 ends_from : (start goal : Option End) (a b : End) → start ≡ Some a → goal ≡ Some b → (is_internet a && is_internet b) ≡ false → ends_read start goal ≡ Some (a, b)
 ends_from start goal a b first second other = rw (first, second) (cond-false _ _ _ other)
 
-pub ends_named-end_ids : (d : Description) (start goal : End) → IsAccepted d → IsNamed d start → IsNamed d goal → (is_internet start && is_internet goal) ≡ false
-    → ends_named d (end_id d start) (end_id d goal) ≡ Some (start, goal)
-ends_named-end_ids d start goal accepted first second other =
+pub ends_named-end_ids : (d : Description) (start goal : End) → IsAccepted d → AreNamed d start goal → ends_named d (end_id d start) (end_id d goal) ≡ Some (start, goal)
+ends_named-end_ids d start goal accepted named =
     ends_from (end_named d (end_id d start)) (end_named d (end_id d goal)) start goal
-    (end_named-end_id d start accepted first) (end_named-end_id d goal accepted second) other
+    (end_named-end_id d start accepted named.start) (end_named-end_id d goal accepted named.goal) named.apart

@@ -12,9 +12,10 @@ use Rattle.block_report.specs.Reports.{addresses_text, box_line, box_text, row_l
 use Rattle.block_report.specs.Walks.{name_text, phase_text}
 use Rattle.report_reader.specs.Boxes.{◌>>=◌, box_at, is_inside}
 use Rattle.report_reader.specs.Lines.{part_of, row_in, row_of, sides_of, told_in}
-use Rattle.report_reader.specs.ReadsBack.{Fits, IsRowOf}
+use Rattle.report_reader.specs.ReadsBack.{Fits}
 use Rattle.report_reader.specs.Reports.{next_row, row_or_end}
 use Rattle.report_reader.proofs.Printed.{AreWords, IsWord, IsWord-addresses_text, IsWord-decimal, IsWord-id, IsWord-range_text, joined, words_of-joined}
+use Rattle.report_reader.proofs.RowsOf.{IsRowOf}
 use Rattle.report_reader.proofs.ReadWords.{box_of-texts, fits-within, is_inside-within, told_of-texts, valid-within}
 
 -- ---- boxes
@@ -90,7 +91,7 @@ pub row_of-words : (whole : Box5) (n : ℕ) (row : Row StopText) → Fits whole 
 row_of-words whole n row fits h = cond-true _ _ _ (bytes_self (decimal n)) ∙ row_in-words whole n row fits h
 
 -- names and phases are words
-visible_name : (name : StopName) → is_id (name_text name) ≡ true
+pub visible_name : (name : StopName) → is_id (name_text name) ≡ true
 visible_name names.Detached = refl
 visible_name names.SourceCheck = refl
 visible_name names.DestCheck = refl
@@ -127,7 +128,7 @@ visible_name names.WrongPlace = refl
 visible_name names.WrongReturn = refl
 visible_name names.NoReply = refl
 
-visible_phase : (phase : Phase) → is_id (phase_text phase) ≡ true
+pub visible_phase : (phase : Phase) → is_id (phase_text phase) ≡ true
 visible_phase phases.Request = refl
 visible_phase phases.Reply = refl
 

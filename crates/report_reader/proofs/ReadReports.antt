@@ -13,10 +13,11 @@ use Rattle.report_reader.specs.declared.report.Report.{Report}
 use Rattle.report_reader.specs.declared.report.ReportFault.{ReportFault}
 use Rattle.report_reader.specs.declared.report.ReportFault.TheVariants as faults
 use Rattle.report_reader.specs.Lines.{query_of, sides_of, version_of}
-use Rattle.report_reader.specs.ReadsBack.{Fits, IsPrintable, IsRowOf}
+use Rattle.report_reader.specs.ReadsBack.{Fits, IsPrintable}
 use Rattle.report_reader.specs.Reports.{◌>>=◌, is_ended, line_as, lines_of, pieces_of, report_in, report_of_pieces, report_of_text, row_before, rows_from}
 use Rattle.report_reader.proofs.Printed.{AreWords, IsWord-decimal, IsWord-id, joined, pieces_of-line, words_of-joined}
-use Rattle.report_reader.proofs.ReadEnds.{ends_named-end_ids, is_id-end_id}
+use Rattle.report_reader.proofs.ReadEnds.{ends_named-end_ids}
+use Rattle.report_reader.proofs.RowsOf.{IsRowOf, rows_of}
 use Rattle.report_reader.proofs.ReadLines.{AreWords-box, AreWords-row, IsWord-row, box_line-joined, box_words, next_row-end, next_row-row, row_line-joined, row_words, sides_of-words}
 
 -- ---- rows
@@ -148,20 +149,20 @@ report_in-lines d r accepted h =
     let from_id = end_id d r.start in
     let to_id = end_id d r.goal in
     let lines = head_lines from_id to_id r.sides (row_texts 0 r.rows ++ end_text (length r.rows) ∷ []) in
-    let from_word = is_id-end_id d r.start h.start in
-    let to_word = is_id-end_id d r.goal h.goal in
+    let from_word = h.ids.start in
+    let to_word = h.ids.goal in
     report_from (line_as version_of lines 1) (line_as (query_of d) lines 2) (line_as sides_of lines 3) (λ sides. rows_from sides true 0 (drop 3 lines)) r
     (line-read version_of (codes "vpc-report 1") 1 (codes "vpc-report" ∷ codes "1" ∷ []) tt (words_of-joined (codes "vpc-report") (codes "1" ∷ []) (IsWord-id _ refl) (IsWord-id _ refl, tt)) refl)
     (line-read (query_of d) (joined (codes "query") (query_words from_id to_id)) 2 (codes "query" ∷ query_words from_id to_id) (r.start, r.goal) (words_of-joined (codes "query") (query_words from_id to_id) (IsWord-id _ refl) (query_are_words from_id to_id from_word to_word))
-    (ends_named-end_ids d r.start r.goal accepted h.start h.goal h.inside))
+    (ends_named-end_ids d r.start r.goal accepted h.ends))
     (line-read sides_of (joined (codes "box") (box_words r.sides)) 3 (codes "box" ∷ box_words r.sides) r.sides (words_of-joined (codes "box") (box_words r.sides) (IsWord-id _ refl) (AreWords-box r.sides h.valid h.fits))
     (sides_of-words r.sides h.valid h.fits))
-    (rows_from-texts r.sides 0 (length r.rows) r.rows (omega arith) h.few h.fits h.rows)
+    (rows_from-texts r.sides 0 (length r.rows) r.rows (omega arith) h.few h.fits (rows_of d r h))
 
 pub printed_reports_read_back : (d : Description) (r : Report) → IsAccepted d → IsPrintable d r → report_of_text d (report_text d r.start r.goal r.sides r.rows) ≡ Ok r
 printed_reports_read_back d r accepted h =
     let from_id = end_id d r.start in
     let to_id = end_id d r.goal in
     let lines = head_lines from_id to_id r.sides (row_texts 0 r.rows ++ end_text (length r.rows) ∷ []) in
-    ap (report_of_pieces d) (pieces_of-report from_id to_id r.sides r.rows (is_id-end_id d r.start h.start) (is_id-end_id d r.goal h.goal) h.valid h.fits h.few h.rows)
+    ap (report_of_pieces d) (pieces_of-report from_id to_id r.sides r.rows h.ids.start h.ids.goal h.valid h.fits h.few (rows_of d r h))
     ∙ (report_of_lines d lines ∙ report_in-lines d r accepted h)

@@ -1,14 +1,13 @@
--- A printed report reads as what was printed.
-use Rattle.std.specs.Prelude.{◌≡◌, ◌≤◌, ◌<◌, ◌^◌, ◌&&◌, All, Ok, bytes_eq, codes, false, length, true}
-use Rattle.vpc_laws.specs.Types.{Box5, Description, End, EniNo, Row, StopText}
+-- A printed report reads as what was printed, and is short enough to be read as a file.
+use Rattle.std.specs.Prelude.{◌≡◌, ◌≤◌, ◌<◌, ◌^◌, ◌&&◌, All, Ok, bytes_eq, codes, false, length, true, ℕ}
+use Rattle.vpc_laws.specs.Types.{Box5, Description, End, EniNo}
 use Rattle.header_boxes.specs.Boxes.{IsValid, IsWithin}
 use Rattle.vpc_model.specs.declared.places.End.TheVariants as ends
 use Rattle.vpc_model.specs.Accepted.{IsAccepted}
-use Rattle.vpc_model.specs.Id.{is_id}
 use Rattle.vpc_model.specs.Lookup.{interface_at}
 use Rattle.vpc_model.specs.Sound.{is_eni}
 use Rattle.vpc_model.specs.Step.Crossing.{is_gateway}
-use Rattle.block_report.specs.Reports.{report_text}
+use Rattle.block_report.specs.Reports.{AreIds, report_text}
 use Rattle.report_reader.specs.declared.report.Report.{Report}
 use Rattle.report_reader.specs.Lines.{is_internet}
 use Rattle.report_reader.specs.Reports.{report_of_text, row_limit}
@@ -18,12 +17,17 @@ pub record CanBeNamed (d : Description) (i : EniNo) : Type 0 where
   pub described : is_eni d i ≡ true
   pub host : let e = interface_at d i in is_gateway e.kind ≡ false
   pub other : let e = interface_at d i in bytes_eq e.id (codes "internet") ≡ false
-  pub visible : let e = interface_at d i in is_id e.id ≡ true
 
--- an end that a report can name by its id
+-- an end that a query can name
 abbrev pub IsNamed : Description → End → Type 0
 IsNamed d (ends.Interface i) = CanBeNamed d i
 IsNamed d ends.Internet = Unit {0}
+
+-- two such ends, not both of them the internet
+pub record AreNamed (d : Description) (from to : End) : Type 0 where
+  pub start : IsNamed d from
+  pub goal : IsNamed d to
+  pub apart : (is_internet from && is_internet to) ≡ false
 
 -- the ranges hold numbers of their fields
 pub record Fits (b : Box5) : Type 0 where
@@ -33,24 +37,27 @@ pub record Fits (b : Box5) : Type 0 where
   pub p : b.p.1 < 2 ^ 16
   pub q : b.q.1 < 2 ^ 16
 
--- a row of a report about this box
-pub record IsRowOf (whole : Box5) (row : Row StopText) : Type 0 where
-  pub within : IsWithin row.part whole
-  pub id : is_id row.word.id ≡ true
-  pub rule : is_id row.word.rule ≡ true
-
 -- a report that can be printed and read
 pub record IsPrintable (d : Description) (r : Report) : Type 0 where
-  pub start : IsNamed d r.start
-  pub goal : IsNamed d r.goal
-  pub inside : (is_internet r.start && is_internet r.goal) ≡ false
+  pub ends : AreNamed d r.start r.goal
   pub valid : IsValid r.sides
   pub fits : Fits r.sides
   pub few : length r.rows ≤ row_limit
-  pub rows : All (IsRowOf r.sides) r.rows
+  pub within : All (λ row. IsWithin row.part r.sides) r.rows
+  pub ids : AreIds d r.start r.goal r.rows
 
 -- it reads as itself
 abbrev pub PrintedReportsReadBack : Type 0
 PrintedReportsReadBack =
     (d : Description) (r : Report) → IsAccepted d → IsPrintable d r
     → report_of_text d (report_text d r.start r.goal r.sides r.rows) ≡ Ok r
+
+-- the most bytes of a file that is read
+abbrev pub length_limit : ℕ
+length_limit = 67108864
+
+-- it is short enough to be read as a file
+abbrev pub PrintedReportsFit : Type 0
+PrintedReportsFit =
+    (d : Description) (r : Report) → IsAccepted d → IsPrintable d r
+    → length (report_text d r.start r.goal r.sides r.rows) ≤ length_limit

@@ -8,6 +8,7 @@ mod boxes;
 mod laws;
 mod lines;
 mod names;
+mod readable;
 mod reading;
 mod report;
 mod row_lines;
@@ -17,6 +18,7 @@ mod told;
 mod words;
 
 pub use laws::report_laws;
+pub use readable::print_readable;
 pub use reading::read_report;
 pub use report::{Report, ReportFault};
 pub use stops::same_text;

@@ -1,0 +1,30 @@
+-- What is printed about a query is read again.
+use Rattle.std.proofs.Common.{◌≡◌, ◌≤◌, Err, List, Ok, Result, length, refl, subst, sym, true, ℕ}
+use Rattle.std.specs.Prelude.{IfOk}
+use Rattle.vpc_laws.specs.Types.{Description, End}
+use Rattle.vpc_model.specs.declared.places.End.TheVariants as ends
+use Rattle.vpc_model.specs.Accepted.{IsAccepted}
+use Rattle.vpc_model.specs.Sound.{is_end}
+use Rattle.block_report.specs.Reports.{report_text}
+use Rattle.report_reader.specs.declared.report.Report.{Report}
+use Rattle.report_reader.specs.ReadsBack.{IsNamed, IsPrintable, length_limit}
+use Rattle.report_reader.specs.Reports.{report_of_text}
+use Rattle.report_reader.proofs.Lengths.{printed_reports_fit}
+use Rattle.report_reader.proofs.ReadReports.{printed_reports_read_back}
+
+-- an end that is named is described
+pub named_is_described : (d : Description) (end : End) → IsNamed d end → is_end d end ≡ true
+named_is_described d (ends.Interface i) named = named.described
+named_is_described d ends.Internet named = refl
+
+-- a text that was printed reads as its report
+pub reads_if_printed : (d : Description) (r : Report) (text : List ℕ) → IsAccepted d → IsPrintable d r → text ≡ report_text d r.start r.goal r.sides r.rows → report_of_text d text ≡ Ok r
+reads_if_printed d r text accepted printable is = subst (λ (t : List ℕ). report_of_text d t ≡ Ok r) (sym is) (printed_reports_read_back d r accepted printable)
+
+-- and is short
+pub short_if_printed : (d : Description) (r : Report) (text : List ℕ) → IsAccepted d → IsPrintable d r → text ≡ report_text d r.start r.goal r.sides r.rows → length text ≤ length_limit
+short_if_printed d r text accepted printable is = subst (λ (t : List ℕ). length t ≤ length_limit) (sym is) (printed_reports_fit d r accepted printable)
+
+pub if_ok_two : {A E : Type 0} (P R Q : A → Type 0) (r : Result A E) → ((a : A) → P a → R a → Q a) → IfOk r P → IfOk r R → IfOk r Q
+if_ok_two P R Q (Ok a) follows p r = follows a p r
+if_ok_two P R Q (Err e) follows p r = tt
