@@ -1,0 +1,11 @@
+pub mod Order
+pub mod Meeting
+pub mod Numbers
+pub mod Listed
+pub mod Kept
+pub mod Found
+pub mod Cut
+pub mod Ends
+pub mod Fullest
+pub mod Within
+pub mod Answer

@@ -1,0 +1,54 @@
+-- What is found of boxes in the cells that were looked at.
+use Rattle.std.specs.Prelude.{◌≡◌, ◌<◌, ◌≤◌, ◌⊎◌, IfSome, IsSome, IsSomeAnd, List, false, true, ℕ}
+use Rattle.vpc_base.specs.Header.{IsBefore}
+use Rattle.vpc_base.specs.declared.headers.Header.{Header}
+use Rattle.std.specs.List.{list_any}
+use Rattle.header_boxes.specs.Boxes.{holds}
+use Rattle.header_boxes.specs.declared.boxes.Box5.{Box5}
+use Rattle.box_survey.specs.Survey.{HoldsAt, ShareAt}
+use Rattle.box_survey.specs.declared.findings.Findings.{Findings}
+
+-- a header of the whole in none of the boxes
+pub record IsUncovered (whole : Box5) (boxes : List Box5) (h : Header) : Type 0 where
+  pub inside : holds h whole ≡ true
+  pub outside : list_any (holds h) boxes ≡ false
+
+-- the box of this number shares a header with that of a greater number
+pub record OverlapsLater (boxes : List Box5) (i : ℕ) : Type 0 where
+  pub later : ℕ
+  pub after : i < later
+  pub share : ShareAt boxes i later
+
+-- what is found is there
+pub record AreThere (whole : Box5) (boxes : List Box5) (found : Findings) : Type 0 where
+  pub least : IfSome found.least (OverlapsLater boxes)
+  pub outside : IfSome found.outside (IsUncovered whole boxes)
+
+-- no number and no header that was found has become a greater one
+pub record AreNoGreater (old new : Findings) : Type 0 where
+  pub least : IfSome old.least (λ i. IsSomeAnd new.least (λ k. k ≤ i))
+  pub outside : IfSome old.outside (λ h. IsSomeAnd new.outside (λ k. ¬ IsBefore h k))
+
+-- of the overlaps at headers of the cell none has a lesser number; and if none is found, no uncovered header of the
+-- cell comes before that which is found
+pub record AreLeast (whole : Box5) (boxes : List Box5) (cell : Box5) (found : Findings) : Type 0 where
+  pub overlaps : (h : Header) (a b : ℕ) → holds h cell ≡ true → a < b → HoldsAt boxes a h → HoldsAt boxes b h → IsSomeAnd found.least (λ k. k ≤ a)
+  pub uncovered : (h : Header) → holds h cell ≡ true → IsUncovered whole boxes h → IsSome found.least ⊎ IsSomeAnd found.outside (λ k. ¬ IsBefore h k)
+
+-- what a look at a cell adds to what was found
+pub record IsSurveyed (whole : Box5) (boxes : List Box5) (cell : Box5) (old new : Findings) : Type 0 where
+  pub there : AreThere whole boxes new
+  pub kept : AreNoGreater old new
+  pub least : AreLeast whole boxes cell new
+
+-- what is found of all headers
+pub record AreFindings (whole : Box5) (boxes : List Box5) (found : Findings) : Type 0 where
+  pub there : AreThere whole boxes found
+  pub overlaps : (a b : ℕ) → a < b → ShareAt boxes a b → IsSomeAnd found.least (λ k. k ≤ a)
+  pub uncovered : (h : Header) → IsUncovered whole boxes h → IsSome found.least ⊎ IsSomeAnd found.outside (λ k. ¬ IsBefore h k)
+
+-- the first number after i whose box shares a header with that of i
+pub record IsNextSharing (boxes : List Box5) (i j : ℕ) : Type 0 where
+  pub after : i < j
+  pub share : ShareAt boxes i j
+  pub first : (k : ℕ) → i < k → ShareAt boxes i k → j ≤ k

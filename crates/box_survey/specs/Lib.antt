@@ -1,0 +1,4 @@
+pub mod Survey
+pub mod Cells
+pub mod Cuts
+pub mod Findings

@@ -1,0 +1,90 @@
+// What is found in a cell.
+ghost use Rattle.std.specs.Prelude.{◌≡◌, true, [], IfOk, MatchOption, OnOk, filter};
+ghost use Rattle.box_survey.specs.Cells.{AreCandidates, AreMeeting, meets_at};
+ghost use Rattle.box_survey.specs.Cuts.{IsCutOf};
+ghost use Rattle.box_survey.specs.Findings.{AreThere, IsSurveyed};
+
+use crate::cuts::cut_of;
+use crate::findings::Findings;
+use crate::numbered::meets_at;
+use crate::sides::{Cut, halves};
+use header_boxes::Box5;
+use std::alloc::{AllocError, Global};
+
+// The candidates whose boxes share a header with the cell.
+fn meeting(
+    alloc: Global,
+    boxes: &[Box5],
+    cell: &Box5,
+    candidates: &[u32],
+) -> Result<Vec<u32>, AllocError>
+    ensures { IfOk result (λ v. v.items ≡ filter (meets_at boxes.now cell.now) candidates.now) }
+{
+    candidates
+        .iter()
+        .copied()
+        .filter(|i| meets_at(boxes, cell, *i))
+        .collect(alloc)
+}
+
+// What is found of a cell in no box.
+fn find_gap(whole: &Box5, boxes: &[Box5], cell: &Box5, found: &mut Findings)
+    requires numbers { AreMeeting boxes.now cell.now [] }
+    requires there { AreThere whole.now boxes.now found.old }
+    ensures { IsSurveyed whole.now boxes.now cell.now found.old found.new }
+{
+    if let Some(gap) = whole.meet(cell) {
+        found.add_uncovered(gap.low());
+    }
+}
+
+// What is found of a cell that needs no cut; of another one the cut.
+fn settle(
+    alloc: Global,
+    whole: &Box5,
+    boxes: &[Box5],
+    cell: &Box5,
+    numbers: &[u32],
+    found: &mut Findings,
+) -> Result<Option<Cut>, AllocError>
+    requires numbers { AreMeeting boxes.now cell.now numbers.now }
+    requires there { AreThere whole.now boxes.now found.old }
+    ensures { IfOk result (λ c. MatchOption c (IsSurveyed whole.now boxes.now cell.now found.old found.new)
+        (λ cut. IsCutOf cell.now cut × (found.new ≡ found.old))) }
+{
+    let Some(first) = numbers.first() else {
+        find_gap(whole, boxes, cell, found);
+        return Ok(None);
+    };
+    if found.has_up_to(*first) {
+        return Ok(None);
+    }
+    let cut = cut_of(alloc, boxes, cell, numbers)?;
+    if cut.is_none() && numbers.len() > 1 {
+        found.least = Some(*first);
+    }
+    Ok(cut)
+}
+
+/// Looks at all headers of a cell. A cell whose first box has a number that isn't below that of an overlap found
+/// before is left at once, since the first uncovered header no longer matters then.
+pub fn survey_cell(
+    alloc: Global,
+    whole: &Box5,
+    boxes: &[Box5],
+    cell: &Box5,
+    candidates: &[u32],
+    found: &mut Findings,
+) -> Result<(), AllocError>
+    requires candidates { AreCandidates boxes.now cell.now candidates.now }
+    requires there { AreThere whole.now boxes.now found.old }
+    ensures { OnOk result (IsSurveyed whole.now boxes.now cell.now found.old found.new) }
+{
+    let numbers = meeting(alloc, boxes, cell, candidates)?;
+    let Some(cut) = settle(alloc, whole, boxes, cell, numbers.as_slice(), found)? else {
+        return Ok(());
+    };
+    let (low, high) = halves(cell, cut);
+    survey_cell(alloc, whole, boxes, &low, numbers.as_slice(), found)?;
+    survey_cell(alloc, whole, boxes, &high, numbers.as_slice(), found)
+}

@@ -1,0 +1,14 @@
+//! Where boxes overlap, and what of a whole they leave out.
+#![tactic(auto)]
+
+mod cells;
+mod cuts;
+mod findings;
+mod hull;
+mod numbered;
+mod sides;
+mod survey;
+#[cfg(test)]
+mod tests;
+
+pub use survey::{Survey, surveyed};
