@@ -1,0 +1,4 @@
+pub mod Told
+pub mod TrueRows
+pub mod Boxes
+pub mod Truth

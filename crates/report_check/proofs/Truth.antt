@@ -1,0 +1,70 @@
+-- A report gets a yes exactly where it is true.
+use Rattle.std.proofs.Common.{◌-◌, ◌<◌, ◌≡◌, ◌∙◌, List, None, Option, Some, ap, refl, subst, sym, true, ℕ}
+use Rattle.std.specs.Prelude.{IsSomeAnd, option_map, slice_get}
+use Rattle.std.proofs.lemmas.Option.{get_or_from_slice_get, slice_get-map, slice_get_within}
+use Rattle.box_survey.specs.Survey.{HoldsAt, IsLeastOverlap}
+use Rattle.header_boxes.specs.Boxes.{holds}
+use Rattle.header_boxes.specs.Rows.{HasWord, IsFirstOutside, AreWhole}
+use Rattle.report_reader.specs.Reports.{IsSoundReport}
+use Rattle.report_reader.specs.declared.report.Report.{Report}
+use Rattle.vpc_laws.proofs.Telling.{verdicts_are_told}
+use Rattle.vpc_laws.specs.Sound.{IsTold}
+use Rattle.vpc_laws.specs.Types.{Box5, Description, Header, Row, StopText, Verdict}
+use Rattle.vpc_model.specs.Accepted.{IsAccepted}
+use Rattle.vpc_model.specs.Appliances.{appliances_of}
+use Rattle.vpc_model.specs.Report.{ending_of}
+use Rattle.report_check.specs.Checked.{AreApart, AreTrue, IsChecked, IsLeastUntrue, IsReportTrue, YesIsTruth, boxes_of, meaning_in}
+use Rattle.report_check.specs.declared.checked.Checked.{Checked}
+use Rattle.report_check.specs.declared.checked.Checked.TheVariants as found
+
+-- ---- rows apart share no header
+
+row-at : (rows : List (Row StopText)) (i : ℕ) (h : Header) → HoldsAt (boxes_of rows) i h → IsSomeAnd (slice_get rows i) (λ (row : Row StopText). holds h row.part ≡ true)
+row-at rows i h at =
+    at-row (slice_get rows i) (subst (λ (o : Option Box5). IsSomeAnd o (λ (b : Box5). holds h b ≡ true)) (slice_get-map (λ (row : Row StopText). row.part) rows i) at)
+  where
+    at-row : (o : Option (Row StopText)) → IsSomeAnd (option_map (λ (row : Row StopText). row.part) o) (λ (b : Box5). holds h b ≡ true)
+        → IsSomeAnd o (λ (row : Row StopText). holds h row.part ≡ true)
+    at-row None at = at
+    at-row (Some row) at = at
+
+shared : (rows : List (Row StopText)) (i j : ℕ) (h : Header) (a b : Option (Row StopText)) → AreApart rows → i < j
+    → slice_get rows i ≡ a → slice_get rows j ≡ b
+    → IsSomeAnd a (λ (row : Row StopText). holds h row.part ≡ true) → IsSomeAnd b (λ (row : Row StopText). holds h row.part ≡ true) → ⊥
+shared rows i j h None b apart before first second at other = at
+shared rows i j h (Some a) None apart before first second at other = other
+shared rows i j h (Some a) (Some b) apart before first second at other =
+    apart i j a before (slice_get_within rows j b second) h
+    (subst (λ (row : Row StopText). holds h row.part ≡ true) (sym (get_or_from_slice_get rows i a a first)) at)
+    (subst (λ (row : Row StopText). holds h row.part ≡ true) (sym (get_or_from_slice_get rows j b a second)) other)
+
+no_overlap : (rows : List (Row StopText)) (i j : ℕ) → AreApart rows → IsLeastOverlap (boxes_of rows) i j → ⊥
+no_overlap rows i j apart is =
+    shared rows i j is.share.header (slice_get rows i) (slice_get rows j) apart is.below refl refl
+    (row-at rows i is.share.header is.share.first) (row-at rows j is.share.header is.share.second)
+
+-- ---- the other answers
+
+none_outside : (whole : Box5) (rows : List (Row StopText)) (h : Header) → AreWhole whole rows → IsFirstOutside whole rows h → ⊥
+none_outside box rows h whole is = absurd (cc (whole h is.inside, is.outside))
+
+none_untrue : (d : Description) (r : Report) (i : ℕ) (h : Header) (v : Verdict) → AreTrue d r r.rows → IsLeastUntrue d r i h v → ⊥
+none_untrue d r i h v are is =
+    let stands : HasWord (meaning_in d r) is.row = subst (HasWord (meaning_in d r)) (get_or_from_slice_get r.rows (i - 1) is.row is.row is.stands)
+    (are (i - 1) is.row (slice_get_within r.rows (i - 1) is.row is.stands)) in
+    is.untrue.other (ap (ending_of d) is.untrue.verdict ∙ stands h is.untrue.inside)
+
+pub yes_if_true : (d : Description) (r : Report) (c : Checked) → IsChecked d r c → IsReportTrue d r → c ≡ found.Yes
+yes_if_true d r found.Yes checked are = refl
+yes_if_true d r (found.Overlap i j) checked are = absurd (no_overlap r.rows (i - 1) (j - 1) are.are_true.disjoint checked.least)
+yes_if_true d r (found.Uncovered h) checked are = absurd (none_outside r.sides r.rows h are.holds_all checked.1)
+yes_if_true d r (found.Untrue i h v) checked are = absurd (none_untrue d r i h v are.are_true.word checked.1.1)
+
+pub yes_is_truth : YesIsTruth
+yes_is_truth d r c checked = (λ is. subst (IsChecked d r) is checked, yes_if_true d r c checked)
+
+-- ---- what becomes of a header has a text
+
+pub told_if_least : (d : Description) (r : Report) (i : ℕ) (h : Header) (v : Verdict) → IsAccepted d → IsSoundReport d r → IsLeastUntrue d r i h v → IsTold d v
+told_if_least d r i h v accepted sound is =
+    subst (IsTold d) (sym is.untrue.verdict) (verdicts_are_told d (appliances_of d) r.start r.goal h accepted sound.start sound.goal)

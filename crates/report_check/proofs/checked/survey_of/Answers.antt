@@ -1,0 +1,19 @@
+use Rattle.std.proofs.Common.{◌∙◌, IfOk, List, ap, subst, sym}
+use Rattle.std.specs.Prelude.{All}
+use Rattle.box_survey.specs.Survey.{IsSurvey}
+use Rattle.header_boxes.specs.Boxes.{IsValid}
+use Rattle.vpc_laws.specs.Types.{Box5}
+use Rattle.report_check.proofs.Boxes.{valid_boxes}
+use Rattle.report_check.specs.Checked.{boxes_of}
+use Rattle.report_check.proofs.checked.survey_of.Goals as goal
+
+pub surveyed-requires-clause-boxes : goal.surveyed-requires-clause-boxes
+surveyed-requires-clause-boxes c =
+    let r = c.args.report.now in
+    let copied = c.as_slice-2.ensures.value ∙ (c.in_ok-boxes.ensures ∙ ap boxes_of c.as_slice.ensures) in
+    subst (All IsValid) (sym copied) (valid_boxes r.sides r.rows c.requires.within)
+
+pub returns : goal.returns
+returns c =
+    let copied = c.as_slice-2.ensures.value ∙ (c.in_ok-boxes.ensures ∙ ap boxes_of c.as_slice.ensures) in
+    subst (λ (boxes : List Box5). IfOk c.surveyed.result (IsSurvey c.args.report.now.sides boxes)) copied c.surveyed.ensures

@@ -1,0 +1,4 @@
+pub mod Checked
+pub mod Agreement
+pub mod Rows
+pub mod Texts

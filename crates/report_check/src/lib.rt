@@ -1,0 +1,12 @@
+//! Whether a report about a query is true, whoever wrote it.
+#![tactic(auto)]
+
+mod checked;
+mod laws;
+mod probe;
+mod rows;
+mod texts;
+
+pub use checked::{Checked, check};
+pub use laws::check_laws;
+pub use texts::put_checked;
