@@ -153,22 +153,34 @@ fn reads_piece_by_piece(rt: HostRuntime) {
 
 const PATH: &str = "vpc_io_test";
 
+// A text of 2 MiB, no two lines alike.
+fn long_text(alloc: Global) -> Result<String, AllocError> {
+    let mut text = String::new(alloc);
+    for line in 1_000_000..1_262_144u32 {
+        write!(text, "{line}\n")?;
+    }
+    Ok(text)
+}
+
 #[test]
 fn takes_and_writes_files(rt: HostRuntime) -> Result<(), Fail> {
-    let mut sink = WriteSink::of(fs::create(&rt, PATH)?);
-    assert_eq!(rt; put_all(&mut sink, b"01234567"), Ok(()));
-    let mut shelf = FileShelf::of(&rt);
-    for (name, max, expected) in [
-        (PATH, 8, Ok("01234567")),
-        (PATH, 7, TOO_LONG),
-        ("vpc_io_no_such_file", 8, FAILED),
-        // A directory can be opened, and not read.
-        (".", 8, FAILED),
-    ] {
-        assert!(rt;
-            is_taken(shelf.take(rt.alloc(), name, max), expected),
-            "{name} {max}"
-        );
+    let long = long_text(rt.alloc())?;
+    for (text, length) in [("01234567", 8), (long.as_str(), 2_097_152)] {
+        let mut sink = WriteSink::of(fs::create(&rt, PATH)?);
+        assert_eq!(rt; put_all(&mut sink, text.as_bytes()), Ok(()));
+        let mut shelf = FileShelf::of(&rt);
+        for (name, max, expected) in [
+            (PATH, length, Ok(text)),
+            (PATH, length - 1, TOO_LONG),
+            ("vpc_io_no_such_file", length, FAILED),
+            // A directory can be opened, and not read.
+            (".", length, FAILED),
+        ] {
+            assert!(rt;
+                is_taken(shelf.take(rt.alloc(), name, max), expected),
+                "{name} {max}"
+            );
+        }
     }
     fs::remove_file(&rt, PATH)?;
     let mut full = WriteSink::of(fs::create(&rt, "/dev/full")?);
