@@ -10,9 +10,11 @@ use Rattle.bundle.proofs.MeaningLemmas.{cause_if_told}
 use Rattle.vpc_cli.specs.Described.{file_limit, refusal_line}
 use Rattle.vpc_cli.specs.Due.{IsAnswered, IsDue, IsDueForBytes}
 use Rattle.vpc_cli.specs.Due as due
-use Rattle.vpc_cli.specs.Replayed.{IsReplayed, IsReplayedFrom, events_refusal_line}
-use Rattle.vpc_cli.specs.Replayed as replays
+use Rattle.vpc_cli.specs.Second.{IsAnsweredBy, IsAnsweredTo, second_refusal_line}
+use Rattle.vpc_cli.specs.Second as files
 use Rattle.vpc_cli.specs.Words.{HasCount, command_of, file_name, has_file, second_name}
+use Rattle.vpc_cli.specs.declared.second.Second.{Second}
+use Rattle.vpc_cli.specs.declared.second.Second.TheVariants as seconds
 use Rattle.vpc_cli.specs.declared.status.Status.{Status}
 use Rattle.vpc_cli.specs.declared.status.Status.TheVariants as ends
 use Rattle.vpc_cli.specs.declared.words.Mode.{Mode}
@@ -32,6 +34,7 @@ if_ok_two P R Q (Err e) follows h k = tt
 pub names_a_file : (mode : Mode) (count : ℕ) → HasCount mode count → 2 ≤ count
 names_a_file modes.Trace count has = omega arith
 names_a_file modes.Ask count has = omega arith
+names_a_file modes.Check count has = omega arith
 names_a_file modes.Replay count has = omega arith
 names_a_file modes.Make count has = omega arith
 
@@ -81,14 +84,14 @@ rose_before before after now le (inl less) = inl (omega arith)
 rose_before before after now le (inr last) = inr last
 
 -- what is answered by a shelf is answered by one that tells the same, and of which as many files failed
-replayed_by : (d : Description) (words : List (List ℕ)) (told before : List ℕ → Option (List ℕ)) (failed sooner : List ℕ → Type 0) (status : Status) (text : List ℕ)
+second_by : (second : Second) (d : Description) (words : List (List ℕ)) (told before : List ℕ → Option (List ℕ)) (failed sooner : List ℕ → Type 0) (status : Status) (text : List ℕ)
     → ((n : List ℕ) → told n ≡ before n) → ((n : List ℕ) → failed n → sooner n)
-    → IsReplayed d words told failed status text → IsReplayed d words before sooner status text
-replayed_by d words told before failed sooner status text same follows (replays.not_read failure ends_so says) = replays.not_read (follows (second_name words) failure) ends_so says
-replayed_by d words told before failed sooner status text same follows (replays.too_big bytes is long ends_so says) =
-    replays.too_big bytes (subst (λ (o : Option (List ℕ)). IfTold o (λ b. b ≡ bytes)) (same (second_name words)) is) long ends_so says
-replayed_by d words told before failed sooner status text same follows (replays.of_bytes bytes is few answer) =
-    replays.of_bytes bytes (subst (λ (o : Option (List ℕ)). IfTold o (λ b. b ≡ bytes)) (same (second_name words)) is) few answer
+    → IsAnsweredBy second d words told failed status text → IsAnsweredBy second d words before sooner status text
+second_by second d words told before failed sooner status text same follows (files.not_read failure ends_so says) = files.not_read (follows (second_name words) failure) ends_so says
+second_by second d words told before failed sooner status text same follows (files.too_big bytes is long ends_so says) =
+    files.too_big bytes (subst (λ (o : Option (List ℕ)). IfTold o (λ b. b ≡ bytes)) (same (second_name words)) is) long ends_so says
+second_by second d words told before failed sooner status text same follows (files.of_bytes bytes is few answer) =
+    files.of_bytes bytes (subst (λ (o : Option (List ℕ)). IfTold o (λ b. b ≡ bytes)) (same (second_name words)) is) few answer
 
 answered_by : (command : Mode) (d : Description) (words : List (List ℕ)) (told before : List ℕ → Option (List ℕ)) (failed sooner : List ℕ → Type 0) (status : Status) (text : List ℕ)
     → ((n : List ℕ) → told n ≡ before n) → ((n : List ℕ) → failed n → sooner n)
@@ -96,7 +99,8 @@ answered_by : (command : Mode) (d : Description) (words : List (List ℕ)) (told
 answered_by modes.Trace d words told before failed sooner status text same follows answer = answer
 answered_by modes.Ask d words told before failed sooner status text same follows answer = answer
 answered_by modes.Make d words told before failed sooner status text same follows answer = answer
-answered_by modes.Replay d words told before failed sooner status text same follows answer = replayed_by d words told before failed sooner status text same follows answer
+answered_by modes.Check d words told before failed sooner status text same follows answer = second_by seconds.Report d words told before failed sooner status text same follows answer
+answered_by modes.Replay d words told before failed sooner status text same follows answer = second_by seconds.Events d words told before failed sooner status text same follows answer
 
 pub due_before : (command : Mode) (words : List (List ℕ)) (told before : List ℕ → Option (List ℕ)) (failed sooner : List ℕ → Type 0) (bytes : List ℕ) (status : Status) (text : List ℕ)
     → ((n : List ℕ) → told n ≡ before n) → ((n : List ℕ) → failed n → sooner n)
@@ -108,14 +112,14 @@ due_before command words told before failed sooner bytes status text same follow
 -- ---- the second file
 
 -- what is answered to the bytes that were read is answered to the second file
-pub events_are_answered : (d : Description) (words : List (List ℕ)) (told : List ℕ → Option (List ℕ)) (failed : List ℕ → Type 0) (bytes : List ℕ) (status : Status) (text : List ℕ)
+pub second_is_answered : (second : Second) (d : Description) (words : List (List ℕ)) (told : List ℕ → Option (List ℕ)) (failed : List ℕ → Type 0) (bytes : List ℕ) (status : Status) (text : List ℕ)
     → IfTold (told (second_name words)) (λ b. bytes ≡ b) → length bytes ≤ file_limit
-    → IsReplayedFrom d bytes status text → IsReplayed d words told failed status text
-events_are_answered d words told failed bytes status text taken few answer = replays.of_bytes bytes (told_bytes (told (second_name words)) bytes taken) few answer
+    → IsAnsweredTo second d bytes status text → IsAnsweredBy second d words told failed status text
+second_is_answered second d words told failed bytes status text taken few answer = files.of_bytes bytes (told_bytes (told (second_name words)) bytes taken) few answer
 
-pub events_are_too_big : (d : Description) (words : List (List ℕ)) (told : List ℕ → Option (List ℕ)) (failed : List ℕ → Type 0) (status : Status) (text : List ℕ)
+pub second_is_too_big : (second : Second) (d : Description) (words : List (List ℕ)) (told : List ℕ → Option (List ℕ)) (failed : List ℕ → Type 0) (status : Status) (text : List ℕ)
     → IfTold (told (second_name words)) (λ bytes. file_limit < length bytes)
-    → (status ≡ ends.Query) × (text ≡ events_refusal_line (codes "TooBig")) → IsReplayed d words told failed status text
-events_are_too_big d words told failed status text long h =
+    → (status ≡ ends.Query) × (text ≡ second_refusal_line second (codes "TooBig")) → IsAnsweredBy second d words told failed status text
+second_is_too_big second d words told failed status text long h =
     let found = some_long (told (second_name words)) file_limit long in
-    replays.too_big found.0 found.1 found.2 h.0 h.1
+    files.too_big found.0 found.1 found.2 h.0 h.1

@@ -1,7 +1,6 @@
 -- What is due is complete, and reads and writes fail in their own cases alone.
-use Rattle.std.proofs.Common.{◌≡◌, ◌<◌, ◌≤◌, ◌⊎◌, ◌∷◌, ◌||◌, ℕ, Bool, true, false, zero, suc, List, [], Option, Some, None, Err, Ok, inl, inr, refl, sym, ap, subst, ◌∙◌, arith, length}
-use Rattle.std.specs.List.{All, AllPairs, Contains}
-use Rattle.std.proofs.lemmas.List.Kept.{AllPairs-from_increasing}
+use Rattle.std.proofs.Common.{◌≡◌, ◌<◌, ◌≤◌, ◌⊎◌, ◌∷◌, ◌||◌, ℕ, Bool, true, false, suc, List, [], Option, Some, None, Err, Ok, inl, inr, refl, sym, ap, subst, ◌∙◌, arith, length}
+use Rattle.std.specs.List.{All}
 use Rattle.serde_json.specs.Data.{Data}
 use Rattle.serde_json.specs.Read.{read}
 use Rattle.vpc_base.specs.Cuts.{CutLists}
@@ -26,15 +25,30 @@ use Rattle.query_words.specs.Packet.{packet_of}
 use Rattle.query_words.specs.Query.{query_of}
 use Rattle.query_words.specs.Words.{word_at}
 use Rattle.query_words.specs.declared.queries.Query.{Query}
+use Rattle.cut_points.proofs.Increasing.{same_list}
 use Rattle.network_reach.specs.Reached.{meaning_in}
-use Rattle.vpc_cli.specs.Asked.{IsAnswerTo, IsAsked, IsDecided, IsReachable, IsReported, IsReportedInPart}
+use Rattle.vpc_cli.specs.Asked.{IsAnswerTo, IsAsked, IsDecided, IsReachable, IsReported, IsReportedInPart, report_about}
 use Rattle.vpc_cli.specs.Asked as asks
 use Rattle.vpc_cli.specs.Described.{Describes, file_limit}
 use Rattle.vpc_cli.specs.Due.{IsAnswered, IsComplete, IsDue, IsDueForBytes, IsFault, ReadFailed}
 use Rattle.vpc_cli.specs.Due as due
 use Rattle.vpc_cli.specs.Made.{IsMade, made_count}
 use Rattle.vpc_cli.specs.Made as makes
-use Rattle.vpc_cli.specs.Replayed.{IsReplayed, IsReplayedFrom}
+use Rattle.report_check.proofs.Truth.{yes_if_true}
+use Rattle.report_check.specs.Checked.{IsChecked, IsReportTrue}
+use Rattle.report_check.specs.declared.checked.Checked.{Checked}
+use Rattle.report_check.specs.declared.checked.Checked.TheVariants as found
+use Rattle.report_reader.specs.Reports.{report_of_text}
+use Rattle.report_reader.specs.declared.report.Report.{Report}
+use Rattle.report_reader.specs.declared.report.ReportFault.{ReportFault}
+use Rattle.report_reader.specs.declared.report.ReportFault.TheVariants as faults
+use Rattle.vpc_cli.specs.Certified.{IsCheckedFrom, IsReportDecided, checked_status}
+use Rattle.vpc_cli.specs.Certified as checks
+use Rattle.vpc_cli.specs.Second.{IsAnsweredBy, IsAnsweredTo}
+use Rattle.vpc_cli.specs.Second as files
+use Rattle.vpc_cli.specs.declared.second.Second.{Second}
+use Rattle.vpc_cli.specs.declared.second.Second.TheVariants as seconds
+use Rattle.vpc_cli.specs.Replayed.{IsReplayedFrom}
 use Rattle.vpc_cli.specs.Replayed as replays
 use Rattle.vpc_cli.specs.Traced.{IsTraced, status_of, traced_status}
 use Rattle.vpc_cli.specs.Traced as traces
@@ -44,64 +58,17 @@ use Rattle.vpc_cli.specs.declared.status.Status.TheVariants as ends
 use Rattle.vpc_cli.specs.declared.words.Mode.{Mode}
 use Rattle.vpc_cli.specs.declared.words.Mode.TheVariants as modes
 
--- ---- cuts are told by their members
+-- ---- a box has one number of cells
 
--- each number is below all later ones
-abbrev Rises : List ℕ → Type 0
-Rises [] = Unit {0}
-Rises (x ∷ xs) = ((c : ℕ) → Contains xs c → x < c) × Rises xs
-
-rises : (xs : List ℕ) → AllPairs (λ x y. x < y) xs → Rises xs
-rises [] pairs = tt
-rises (x ∷ xs) pairs = (
-  (λ c within. subst (λ (n : ℕ). x < n) within.2 (pairs 0 (suc within.0) c (omega arith) (omega arith))),
-  rises xs (λ i j d lt below. pairs (suc i) (suc j) d (omega arith) (omega arith)),
-)
-
-abbrev Within : List ℕ → List ℕ → Type 0
-Within xs ys = (c : ℕ) → Contains xs c → Contains ys c
-
-first_or_later : (x c : ℕ) (xs : List ℕ) → Contains (x ∷ xs) c → (x ≡ c) ⊎ Contains xs c
-first_or_later x c xs (zero, below, e) = inl e
-first_or_later x c xs (suc k, below, e) = inr (k, omega arith, e)
-
-here : (x : ℕ) (xs : List ℕ) → Contains (x ∷ xs) x
-here x xs = (0, omega arith, refl)
-
-later : (x c : ℕ) (xs : List ℕ) → Contains xs c → Contains (x ∷ xs) c
-later x c xs (k, below, e) = (suc k, omega arith, e)
-
-same_first : (x y : ℕ) (xs ys : List ℕ) → Rises (x ∷ xs) → Rises (y ∷ ys) → (y ≡ x) ⊎ Contains ys x → (x ≡ y) ⊎ Contains xs y → x ≡ y
-same_first x y xs ys rx ry (inl e) b = sym e
-same_first x y xs ys rx ry (inr a) (inl e) = e
-same_first x y xs ys rx ry (inr a) (inr b) = let below = rx.0 y b in let above = ry.0 x a in absurd (omega arith)
-
-not_first : (x y c : ℕ) (ys : List ℕ) → x ≡ y → x < c → (y ≡ c) ⊎ Contains ys c → Contains ys c
-not_first x y c ys same below (inl e) = absurd (omega arith)
-not_first x y c ys same below (inr within) = within
-
--- lists that rise and have the same members are the same
-same_list : (xs ys : List ℕ) → Rises xs → Rises ys → Within xs ys → Within ys xs → xs ≡ ys
-same_list [] [] rx ry a b = refl
-same_list [] (y ∷ ys) rx ry a b = let none = b y (here y ys) in let below = none.1 in absurd (omega arith)
-same_list (x ∷ xs) [] rx ry a b = let none = a x (here x xs) in let below = none.1 in absurd (omega arith)
-same_list (x ∷ xs) (y ∷ ys) rx ry a b =
-    let e : x ≡ y = same_first x y xs ys rx ry (first_or_later y x ys (a x (here x xs))) (first_or_later x y xs (b y (here y ys))) in
-    let rest = same_list xs ys rx.1 ry.1
-    (λ c within. not_first x y c ys e (rx.0 c within) (first_or_later y c ys (a c (later x c xs within))))
-    (λ c within. not_first y x c xs (sym e) (ry.0 c within) (first_or_later x c xs (b c (later y c ys within)))) in
-    ap (λ (n : ℕ). n ∷ xs) e ∙ ap (λ (l : List ℕ). y ∷ l) rest
-
--- a box has one number of cells
 cells_are : (d : Description) (whole : Box5) (m n : ℕ) → IsCellCount d whole m → IsCellCount d whole n → m ≡ n
 cells_are d whole m n a b =
-    let proto = same_list a.cuts.proto b.cuts.proto (rises a.cuts.proto (AllPairs-from_increasing a.cuts.proto a.ascending.proto)) (rises b.cuts.proto (AllPairs-from_increasing b.cuts.proto b.ascending.proto))
+    let proto = same_list a.cuts.proto b.cuts.proto a.ascending.proto b.ascending.proto
     (λ c h. b.all.proto c (a.no_others.proto c h)) (λ c h. a.all.proto c (b.no_others.proto c h)) in
-    let addr = same_list a.cuts.addr b.cuts.addr (rises a.cuts.addr (AllPairs-from_increasing a.cuts.addr a.ascending.addr)) (rises b.cuts.addr (AllPairs-from_increasing b.cuts.addr b.ascending.addr))
+    let addr = same_list a.cuts.addr b.cuts.addr a.ascending.addr b.ascending.addr
     (λ c h. b.all.addr c (a.no_others.addr c h)) (λ c h. a.all.addr c (b.no_others.addr c h)) in
-    let p = same_list a.cuts.p b.cuts.p (rises a.cuts.p (AllPairs-from_increasing a.cuts.p a.ascending.p)) (rises b.cuts.p (AllPairs-from_increasing b.cuts.p b.ascending.p))
+    let p = same_list a.cuts.p b.cuts.p a.ascending.p b.ascending.p
     (λ c h. b.all.p c (a.no_others.p c h)) (λ c h. a.all.p c (b.no_others.p c h)) in
-    let q = same_list a.cuts.q b.cuts.q (rises a.cuts.q (AllPairs-from_increasing a.cuts.q a.ascending.q)) (rises b.cuts.q (AllPairs-from_increasing b.cuts.q b.ascending.q))
+    let q = same_list a.cuts.q b.cuts.q a.ascending.q b.ascending.q
     (λ c h. b.all.q c (a.no_others.q c h)) (λ c h. a.all.q c (b.no_others.q c h)) in
     a.count ∙ (same_cells a.cuts b.cuts proto addr p q ∙ sym b.count)
   where
@@ -203,7 +170,7 @@ same_event d words e f a b = let same : Ok e ≡ Ok f = sym a ∙ b in cc
 
 traced : (d : Description) (words : List (List ℕ)) (e : Event) (status : Status) (text : List ℕ) → IsTraced d words status text → packet_of d words ≡ Ok e → status ≡ traced_status d e
 traced d words e status text (traces.refused refusal is status_is text_is) packet = let same : Err refusal ≡ Ok e = sym is ∙ packet in cc
-traced d words e status text (traces.walked f is status_is text_is) packet = status_is ∙ ap (traced_status d) (same_event d words f e is packet)
+traced d words e status text (traces.walked f is walked) packet = walked.status_is ∙ ap (traced_status d) (same_event d words f e is packet)
 
 -- ---- `ask` decides its query
 
@@ -246,22 +213,51 @@ same_events d bytes text number events same bad good = let wrong : Err number �
 replayed_from : (d : Description) (bytes text : List ℕ) (events : List Event) (status : Status) (lines : List ℕ)
     → IsReplayedFrom d bytes status lines → bytes ≡ text → events_of d text ≡ Ok events → status ≡ ends.Yes
 replayed_from d bytes text events status lines (replays.bad_line number bad status_is says) same good = absurd (same_events d bytes text number events same bad good)
-replayed_from d bytes text events status lines (replays.replayed found is status_is says) same good = status_is
+replayed_from d bytes text events status lines (replays.replayed found is played) same good = played.status_is
 
-replayed : (d : Description) (words : List (List ℕ)) (told : List ℕ → Option (List ℕ)) (failed : List ℕ → Type 0) (text : List ℕ) (events : List Event) (status : Status) (lines : List ℕ)
-    → IsReplayed d words told failed status lines → told (second_name words) ≡ Some text → length text ≤ file_limit → events_of d text ≡ Ok events
-    → IsFault status ⊎ (status ≡ ends.Yes)
-replayed d words told failed text events status lines (replays.not_read failure status_is says) at few good = inl (inl status_is)
-replayed d words told failed text events status lines (replays.too_big bytes same long status_is says) at few good =
+-- ---- `check` decides a told report
+
+same_report : (d : Description) (bytes text : List ℕ) (fault : ReportFault) (r : Report) → bytes ≡ text → report_of_text d bytes ≡ Err fault → report_of_text d text ≡ Ok r → ⊥
+same_report d bytes text fault r same bad good = let wrong : Err fault ≡ Ok r = sym bad ∙ (ap (report_of_text d) same ∙ good) in cc
+
+one_report : (d : Description) (bytes text : List ℕ) (r s : Report) → bytes ≡ text → report_of_text d bytes ≡ Ok r → report_of_text d text ≡ Ok s → r ≡ s
+one_report d bytes text r s same a b = let e : Ok r ≡ Ok s = sym a ∙ (ap (report_of_text d) same ∙ b) in cc
+
+-- a true report gets a yes, and every other a no
+not_found : (d : Description) (r : Report) (c : Checked) (status : Status) → ((c ≡ found.Yes) → ⊥) → IsChecked d r c → status ≡ ends.No → IsReportDecided d r status
+not_found d r c status other is status_is = record { yes = λ truth. absurd (other (yes_if_true d r c is truth)); no = λ untrue. status_is }
+
+found_decides : (d : Description) (r : Report) (c : Checked) → IsChecked d r c → IsReportDecided d r (checked_status c)
+found_decides d r found.Yes is = record { yes = λ truth. refl; no = λ untrue. absurd (untrue is) }
+found_decides d r (found.Overlap i j) is = not_found d r (found.Overlap i j) ends.No (λ same. cc) is refl
+found_decides d r (found.Uncovered h) is = not_found d r (found.Uncovered h) ends.No (λ same. cc) is refl
+found_decides d r (found.Untrue i h v) is = not_found d r (found.Untrue i h v) ends.No (λ same. cc) is refl
+
+checked_from : (d : Description) (bytes text : List ℕ) (r : Report) (status : Status) (lines : List ℕ)
+    → IsCheckedFrom d bytes status lines → bytes ≡ text → report_of_text d text ≡ Ok r → IsReportDecided d r status
+checked_from d bytes text r status lines (checks.bad_line number bad status_is says) same good = absurd (same_report d bytes text (faults.BadLine number) r same bad good)
+checked_from d bytes text r status lines (checks.too_many number bad status_is says) same good = absurd (same_report d bytes text (faults.TooManyBoxes number) r same bad good)
+checked_from d bytes text r status lines (checks.told x is verdict) same good =
+    subst (λ (y : Report). IsReportDecided d y status) (one_report d bytes text x r same is good)
+    (subst (IsReportDecided d x) (sym verdict.status_is) (found_decides d x verdict.found verdict.checked))
+
+-- ---- a told second file
+
+-- a fault, or what is answered to its bytes
+by_second : (second : Second) (d : Description) (words : List (List ℕ)) (told : List ℕ → Option (List ℕ)) (failed : List ℕ → Type 0) (text : List ℕ) (status : Status) (lines : List ℕ)
+    → IsAnsweredBy second d words told failed status lines → told (second_name words) ≡ Some text → length text ≤ file_limit
+    → IsFault status ⊎ IsAnsweredTo second d text status lines
+by_second second d words told failed text status lines (files.not_read failure status_is says) at few = inl (inl status_is)
+by_second second d words told failed text status lines (files.too_big bytes same long status_is says) at few =
     absurd (too_many (length bytes) (length text) file_limit long few (ap length (told_is (told (second_name words)) text bytes at same)))
-replayed d words told failed text events status lines (replays.of_bytes bytes same short answer) at few good =
-    inr (replayed_from d bytes text events status lines answer (told_is (told (second_name words)) text bytes at same) good)
+by_second second d words told failed text status lines (files.of_bytes bytes same short answer) at few =
+    inr (subst (λ (b : List ℕ). IsAnsweredTo second d b status lines) (told_is (told (second_name words)) text bytes at same) answer)
 
 -- ---- `make` answers its number
 
 made_of : (words : List (List ℕ)) (n : ℕ) (status : Status) (text : List ℕ) → IsMade words status text → made_count (word_at words 2) ≡ Some n → status ≡ ends.Yes
 made_of words n status text (makes.refused none status_is text_is) meant = let same : None ≡ Some n = sym none ∙ meant in cc
-made_of words n status text (makes.surveyed m is status_is survey) meant = status_is
+made_of words n status text (makes.surveyed m is survey) meant = survey.status_is
 
 file_of_none : (words : List (List ℕ)) (other : Mode) → command_of words ≡ Ok other → has_file other ≡ true → command_of words ≡ Ok modes.Make → ⊥
 file_of_none words other is has named = makes_no_file other (same_command words modes.Make other named is) has
@@ -285,6 +281,33 @@ or_either : {A B C : Type 0} → (B → A ⊎ C) → A ⊎ B → A ⊎ C
 or_either follows (inl a) = inl a
 or_either follows (inr b) = follows b
 
+-- `check` decides a told report
+checks_report : (words : List (List ℕ)) (told : List ℕ → Option (List ℕ)) (failed : List ℕ → Type 0) (bytes second : List ℕ) (d : Description) (report : Report) (status : Status) (text : List ℕ)
+    → IsDue words told failed status text → command_of words ≡ Ok modes.Check → told (file_name words) ≡ Some bytes → Describes bytes d
+    → told (second_name words) ≡ Some second → length second ≤ file_limit → report_of_text d second ≡ Ok report
+    → IsFault status ⊎ IsReportDecided d report status
+checks_report words told failed bytes second d report status text answer named at described there few good =
+    or_known (λ known. checked_from d second second report status text known refl good)
+    (or_either (λ known. by_second seconds.Report d words told failed second status text known there few) (fault_or_answer modes.Check words told failed bytes d status text answer named refl at described))
+
+-- a text that is read as a true report
+record IsTrueText (d : Description) (text : List ℕ) : Type 0 where
+  pub report : Report
+  pub reads : report_of_text d text ≡ Ok report
+  pub short : length text ≤ file_limit
+  pub true_of : IsReportTrue d report
+
+answer_is_true : (d : Description) (query : Query) (text : List ℕ) → IsAnswerTo d query ends.No text → IsTrueText d text
+answer_is_true d query text (asks.through status_is answer) = absurd (cc)
+answer_is_true d query text (asks.blocked status_is answer) =
+    record { report = report_about query answer.rows; reads = answer.reads; short = answer.short; true_of = answer.report.report }
+answer_is_true d query text (asks.more status_is answer) = absurd (cc)
+
+-- so is every report that `ask` answers
+reported_is_true : (d : Description) (asked : List (List ℕ)) (text : List ℕ) → IsAsked d asked ends.No text → IsTrueText d text
+reported_is_true d asked text (asks.refused refusal is status_is text_is) = absurd (cc)
+reported_is_true d asked text (asks.answered query is answer) = answer_is_true d query text answer
+
 pub complete_if_due : (words : List (List ℕ)) (told : List ℕ → Option (List ℕ)) (failed : List ℕ → Type 0) (status : Status) (text : List ℕ)
     → IsDue words told failed status text → IsComplete words told status
 complete_if_due words told failed status text answer = record {
@@ -292,8 +315,13 @@ complete_if_due words told failed status text answer = record {
       or_known (λ known. traced network words e status text known packet) (fault_or_answer modes.Trace words told failed bytes network status text answer named refl at described);
   ask = λ bytes network query named at described meant.
       or_known (λ known. asked network words query status text known meant) (fault_or_answer modes.Ask words told failed bytes network status text answer named refl at described);
+  check = λ bytes second network report named at described there few good. checks_report words told failed bytes second network report status text answer named at described there few good;
+  certified = λ bytes second network asked named at described there reported.
+      let of_ask = reported_is_true network asked second reported in
+      or_known (λ decided. decided.yes of_ask.true_of) (checks_report words told failed bytes second network of_ask.report status text answer named at described there of_ask.short of_ask.reads);
   replay = λ bytes second network events named at described there few good.
-      or_either (λ known. replayed network words told failed second events status text known there few good) (fault_or_answer modes.Replay words told failed bytes network status text answer named refl at described);
+      or_known (λ known. replayed_from network second second events status text known refl good)
+      (or_either (λ known. by_second seconds.Events network words told failed second status text known there few) (fault_or_answer modes.Replay words told failed bytes network status text answer named refl at described));
   make = λ n named meant. made words told failed n status text answer named meant;
 }
 
@@ -341,8 +369,8 @@ walk_is_none (outcome.Stopped s) is = no_is_none is
 
 trace_is_none : (d : Description) (words : List (List ℕ)) (status : Status) (text : List ℕ) → IsTraced d words status text → IsOfDevice status → ⊥
 trace_is_none d words status text (traces.refused refusal is status_is text_is) h = no_device status ends.Query status_is query_is_none h
-trace_is_none d words status text (traces.walked e is status_is text_is) h =
-    no_device status (traced_status d e) status_is (walk_is_none (let walk = traces.walk_of_event d e in walk.outcome)) h
+trace_is_none d words status text (traces.walked e is walked) h =
+    no_device status (traced_status d e) walked.status_is (walk_is_none (let walk = traces.walk_of_event d e in walk.outcome)) h
 
 answer_to_is_none : (d : Description) (query : Query) (status : Status) (text : List ℕ) → IsAnswerTo d query status text → IsOfDevice status → ⊥
 answer_to_is_none d query status text (asks.through status_is answer) h = no_device status ends.Yes status_is yes_is_none h
@@ -355,22 +383,37 @@ ask_is_none d words status text (asks.answered query is answer) h = answer_to_is
 
 make_is_none : (words : List (List ℕ)) (status : Status) (text : List ℕ) → IsMade words status text → IsOfDevice status → ⊥
 make_is_none words status text (makes.refused none status_is text_is) h = no_device status ends.Query status_is query_is_none h
-make_is_none words status text (makes.surveyed n is status_is survey) h = no_device status ends.Yes status_is yes_is_none h
+make_is_none words status text (makes.surveyed n is survey) h = no_device status ends.Yes survey.status_is yes_is_none h
 
--- of a device a replay tells where its second file failed
-replay_is_read : (d : Description) (words : List (List ℕ)) (told : List ℕ → Option (List ℕ)) (failed : List ℕ → Type 0) (status : Status) (text : List ℕ)
-    → IsReplayed d words told failed status text → IsOfDevice status → (status ≡ ends.Read) × failed (second_name words)
-replay_is_read d words told failed status text (replays.not_read failure status_is says) h = (status_is, failure)
-replay_is_read d words told failed status text (replays.too_big bytes same long status_is says) h = absurd (no_device status ends.Query status_is query_is_none h)
-replay_is_read d words told failed status text (replays.of_bytes bytes same few (replays.bad_line number is status_is says)) h = absurd (no_device status ends.Query status_is query_is_none h)
-replay_is_read d words told failed status text (replays.of_bytes bytes same few (replays.replayed events is status_is says)) h = absurd (no_device status ends.Yes status_is yes_is_none h)
+checked_is_none : (c : Checked) → IsOfDevice (checked_status c) → ⊥
+checked_is_none found.Yes is = yes_is_none is
+checked_is_none (found.Overlap i j) is = no_is_none is
+checked_is_none (found.Uncovered h) is = no_is_none is
+checked_is_none (found.Untrue i h v) is = no_is_none is
+
+bytes_are_none : (second : Second) (d : Description) (bytes : List ℕ) (status : Status) (text : List ℕ) → IsAnsweredTo second d bytes status text → IsOfDevice status → ⊥
+bytes_are_none seconds.Events d bytes status text (replays.bad_line number is status_is says) h = no_device status ends.Query status_is query_is_none h
+bytes_are_none seconds.Events d bytes status text (replays.replayed events is played) h = no_device status ends.Yes played.status_is yes_is_none h
+bytes_are_none seconds.Report d bytes status text (checks.bad_line number is status_is says) h = no_device status ends.Query status_is query_is_none h
+bytes_are_none seconds.Report d bytes status text (checks.too_many number is status_is says) h = no_device status ends.Query status_is query_is_none h
+bytes_are_none seconds.Report d bytes status text (checks.told r is verdict) h = no_device status (checked_status verdict.found) verdict.status_is (checked_is_none verdict.found) h
+
+-- of a device is told where the second file failed
+second_is_read : (second : Second) (d : Description) (words : List (List ℕ)) (told : List ℕ → Option (List ℕ)) (failed : List ℕ → Type 0) (status : Status) (text : List ℕ)
+    → IsAnsweredBy second d words told failed status text → IsOfDevice status → (status ≡ ends.Read) × failed (second_name words)
+second_is_read second d words told failed status text (files.not_read failure status_is says) h = (status_is, failure)
+second_is_read second d words told failed status text (files.too_big bytes same long status_is says) h = absurd (no_device status ends.Query status_is query_is_none h)
+second_is_read second d words told failed status text (files.of_bytes bytes same few answer) h = absurd (bytes_are_none second d bytes status text answer h)
 
 answer_is_read : (command : Mode) (d : Description) (words : List (List ℕ)) (told : List ℕ → Option (List ℕ)) (failed : List ℕ → Type 0) (status : Status) (text : List ℕ)
     → command_of words ≡ Ok command → IsAnswered command d words told failed status text → IsOfDevice status → (status ≡ ends.Read) × ReadFailed words failed
 answer_is_read modes.Make d words told failed status text is answer h = absurd answer
 answer_is_read modes.Trace d words told failed status text is answer h = absurd (trace_is_none d words status text answer h)
 answer_is_read modes.Ask d words told failed status text is answer h = absurd (ask_is_none d words status text answer h)
-answer_is_read modes.Replay d words told failed status text is answer h = let read = replay_is_read d words told failed status text answer h in (read.0, due.second is read.1)
+answer_is_read modes.Check d words told failed status text is answer h =
+    let read = second_is_read seconds.Report d words told failed status text answer h in (read.0, due.second modes.Check is refl read.1)
+answer_is_read modes.Replay d words told failed status text is answer h =
+    let read = second_is_read seconds.Events d words told failed status text answer h in (read.0, due.second modes.Replay is refl read.1)
 
 bytes_are_read : (command : Mode) (words : List (List ℕ)) (told : List ℕ → Option (List ℕ)) (failed : List ℕ → Type 0) (bytes : List ℕ) (status : Status) (text : List ℕ)
     → command_of words ≡ Ok command → IsDueForBytes command words told failed bytes status text → IsOfDevice status → (status ≡ ends.Read) × ReadFailed words failed

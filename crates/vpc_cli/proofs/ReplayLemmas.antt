@@ -4,7 +4,8 @@ use Rattle.block_report.specs.Replays.{replay_text}
 use Rattle.vpc_laws.specs.Types.{Description, Event, Outcome}
 use Rattle.vpc_model.specs.Appliances.{Appliances, appliances_of}
 use Rattle.vpc_model.specs.Replay.{replay_of}
-use Rattle.vpc_cli.specs.Replayed.{replayed_text}
+use Rattle.vpc_cli.specs.Replayed.{ArePlayed, replayed_text}
+use Rattle.vpc_cli.specs.declared.status.Status.TheVariants as ends
 use Rattle.vpc_cli.specs.declared.status.Answer.{Answer}
 
 replay_text-outcomes : (d n : Description) (events : List Event) (appliances : Appliances) (outcomes printed : List Outcome)
@@ -15,9 +16,10 @@ replay_text-outcomes d n events appliances outcomes printed same with ends shown
     ∙ (ap (replay_text d) (shown ∙ ends)
     ∙ ap (λ (x : Appliances). replay_text d (replay_of d x events)) with)
 
--- outcomes with the described appliances are printed so
-pub prints_replay : {E : Type 0} (r : Result Answer E) (d n : Description) (events : List Event) (appliances : Appliances) (outcomes printed : List Outcome)
+-- what is answered to outcomes with the described appliances
+pub answers_events : {E : Type 0} (r : Result Answer E) (d n : Description) (events : List Event) (appliances : Appliances) (outcomes printed : List Outcome)
     → n ≡ d → appliances ≡ appliances_of d → outcomes ≡ replay_of d appliances events → printed ≡ outcomes
-    → IfOk r (λ a. a.text.items ≡ replay_text n printed) → IfOk r (λ a. a.text.items ≡ replayed_text d events)
-prints_replay (Ok a) d n events appliances outcomes printed same with ends shown says = says ∙ replay_text-outcomes d n events appliances outcomes printed same with ends shown
-prints_replay (Err e) d n events appliances outcomes printed same with ends shown says = tt
+    → IfOk r (λ a. a.status ≡ ends.Yes) → IfOk r (λ a. a.text.items ≡ replay_text n printed) → IfOk r (λ a. ArePlayed d events a.status a.text.items)
+answers_events (Ok a) d n events appliances outcomes printed same with ends_so shown status_is says =
+    record { status_is = status_is; text_is = says ∙ replay_text-outcomes d n events appliances outcomes printed same with ends_so shown }
+answers_events (Err e) d n events appliances outcomes printed same with ends_so shown status_is says = tt

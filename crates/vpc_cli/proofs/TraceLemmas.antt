@@ -1,5 +1,5 @@
 -- The walk of a packet, and what is told of it.
-use Rattle.std.proofs.Common.{◌≡◌, ◌∙◌, Err, IfOk, List, Ok, Result, [], ap, subst, sym, true, ℕ}
+use Rattle.std.proofs.Common.{◌≡◌, ◌∙◌, Err, IfOk, List, Ok, Result, [], ap, subst, sym, true}
 use Rattle.std.specs.List.{All, AllByRecursion}
 use Rattle.std.proofs.lemmas.List.Elements.{All-from_recursion}
 use Rattle.block_report.specs.Walks.{walk_text}
@@ -13,11 +13,8 @@ use Rattle.vpc_model.specs.Nat.{Translation}
 use Rattle.vpc_model.specs.Place.{start_of}
 use Rattle.vpc_model.specs.Sound.{is_sound}
 use Rattle.vpc_model.specs.Walk.{Walk, walk_of}
-use Rattle.query_words.specs.Packet.{packet_of}
-use Rattle.vpc_cli.specs.Traced.{IsTraced, status_of, traced_status, traced_text, walk_of_event}
-use Rattle.vpc_cli.specs.Traced as traces
+use Rattle.vpc_cli.specs.Traced.{IsWalked, status_of, traced_status, traced_text, walk_of_event}
 use Rattle.vpc_cli.specs.declared.status.Answer.{Answer}
-use Rattle.vpc_cli.specs.declared.status.Status.{Status}
 
 -- a walk with the described appliances and nothing remembered is that of the packet
 pub walk_of-event : (d : Description) (e : Event) (appliances : Appliances) (place : Place) (conns : List Connection) (nats : List Translation)
@@ -59,33 +56,12 @@ walk_text-event d n e walk hops outcome is same are ends =
     ∙ (ap (λ (o : Outcome). walk_text d walk.hops o) ends
     ∙ ap (λ (w : Walk). walk_text d w.hops w.outcome) is))
 
-same_status : {E : Type 0} (r : Result Answer E) (s t : Status) → s ≡ t → IfOk r (λ a. a.status ≡ s) → IfOk r (λ a. a.status ≡ t)
-same_status (Ok a) s t e h = h ∙ e
-same_status (Err x) s t e h = tt
-
-same_text : {E : Type 0} (r : Result Answer E) (s t : List ℕ) → s ≡ t → IfOk r (λ a. a.text.items ≡ s) → IfOk r (λ a. a.text.items ≡ t)
-same_text (Ok a) s t e h = h ∙ e
-same_text (Err x) s t e h = tt
-
-pub ends_as_event : {E : Type 0} (r : Result Answer E) (d : Description) (e : Event) (walk : Walk) (outcome : Outcome)
-    → walk ≡ walk_of_event d e → outcome ≡ walk.outcome → IfOk r (λ a. a.status ≡ status_of outcome) → IfOk r (λ a. a.status ≡ traced_status d e)
-ends_as_event r d e walk outcome is ends h = same_status r (status_of outcome) (traced_status d e) (status_of-event d e walk outcome is ends) h
-
-pub prints_event : {E : Type 0} (r : Result Answer E) (d n : Description) (e : Event) (walk : Walk) (hops : List Hop) (outcome : Outcome)
+-- what is answered to its packet
+pub answers_event : {E : Type 0} (r : Result Answer E) (d n : Description) (e : Event) (walk : Walk) (hops : List Hop) (outcome : Outcome)
     → walk ≡ walk_of_event d e → n ≡ d → hops ≡ walk.hops → outcome ≡ walk.outcome
-    → IfOk r (λ a. a.text.items ≡ walk_text n hops outcome) → IfOk r (λ a. a.text.items ≡ traced_text d e)
-prints_event r d n e walk hops outcome is same are ends h =
-    same_text r (walk_text n hops outcome) (traced_text d e) (walk_text-event d n e walk hops outcome is same are ends) h
-
--- the same in a description that is this one
-pub status_in : {E : Type 0} (r : Result Answer E) (d n : Description) (e : Event) → d ≡ n → IfOk r (λ a. a.status ≡ traced_status d e) → IfOk r (λ a. a.status ≡ traced_status n e)
-status_in r d n e same h = subst (λ (x : Description). IfOk r (λ a. a.status ≡ traced_status x e)) same h
-
-pub text_in : {E : Type 0} (r : Result Answer E) (d n : Description) (e : Event) → d ≡ n → IfOk r (λ a. a.text.items ≡ traced_text d e) → IfOk r (λ a. a.text.items ≡ traced_text n e)
-text_in r d n e same h = subst (λ (x : Description). IfOk r (λ a. a.text.items ≡ traced_text x e)) same h
-
--- what `trace` answers to a packet
-pub traced_if_walked : {E : Type 0} (r : Result Answer E) (d : Description) (words : List (List ℕ)) (e : Event) → packet_of d words ≡ Ok e
-    → IfOk r (λ a. a.status ≡ traced_status d e) → IfOk r (λ a. a.text.items ≡ traced_text d e) → IfOk r (λ a. IsTraced d words a.status a.text.items)
-traced_if_walked (Ok a) d words e packet ends text_is = traces.walked e packet ends text_is
-traced_if_walked (Err x) d words e packet ends text_is = tt
+    → IfOk r (λ a. a.status ≡ status_of outcome) → IfOk r (λ a. a.text.items ≡ walk_text n hops outcome) → IfOk r (λ a. IsWalked d e a.status a.text.items)
+answers_event (Ok a) d n e walk hops outcome is same are ends status_is text_is = record {
+  status_is = status_is ∙ status_of-event d e walk outcome is ends;
+  text_is = text_is ∙ walk_text-event d n e walk hops outcome is same are ends;
+}
+answers_event (Err x) d n e walk hops outcome is same are ends status_is text_is = tt

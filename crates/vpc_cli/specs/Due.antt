@@ -11,15 +11,19 @@ use Rattle.query_words.specs.Packet.{packet_of}
 use Rattle.query_words.specs.Query.{query_of}
 use Rattle.query_words.specs.Words.{word_at}
 use Rattle.query_words.specs.declared.queries.Query.{Query}
+use Rattle.report_reader.specs.Reports.{report_of_text}
+use Rattle.report_reader.specs.declared.report.Report.{Report}
 use Rattle.vpc_model.specs.declared.outcomes.Event.{Event}
 use Rattle.vpc_model.specs.declared.rows.Description.{Description}
 use Rattle.vpc_cli.specs.Asked.{IsAsked, IsDecided}
+use Rattle.vpc_cli.specs.Certified.{IsReportDecided}
 use Rattle.vpc_cli.specs.Described.{Describes, file_limit, refusal_line}
 use Rattle.vpc_cli.specs.Lines.{line}
 use Rattle.vpc_cli.specs.Made.{IsMade, made_count}
-use Rattle.vpc_cli.specs.Replayed.{IsReplayed}
+use Rattle.vpc_cli.specs.Second.{IsAnsweredBy}
 use Rattle.vpc_cli.specs.Traced.{IsTraced, traced_status}
-use Rattle.vpc_cli.specs.Words.{command_of, file_name, has_file, second_name}
+use Rattle.vpc_cli.specs.Words.{command_of, file_name, has_file, has_second, second_name}
+use Rattle.vpc_cli.specs.declared.second.Second.TheVariants as seconds
 use Rattle.vpc_cli.specs.declared.status.Status.{Status}
 use Rattle.vpc_cli.specs.declared.status.Status.TheVariants as ends
 use Rattle.vpc_cli.specs.declared.words.Mode.{Mode}
@@ -43,7 +47,8 @@ memory_text = line (codes "want of memory")
 abbrev pub IsAnswered : Mode → Description → List (List ℕ) → (List ℕ → Option (List ℕ)) → (List ℕ → Type 0) → Status → List ℕ → Type 0
 IsAnswered modes.Trace d words told failed status text = IsTraced d words status text
 IsAnswered modes.Ask d words told failed status text = IsAsked d words status text
-IsAnswered modes.Replay d words told failed status text = IsReplayed d words told failed status text
+IsAnswered modes.Check d words told failed status text = IsAnsweredBy seconds.Report d words told failed status text
+IsAnswered modes.Replay d words told failed status text = IsAnsweredBy seconds.Events d words told failed status text
 IsAnswered modes.Make d words told failed status text = ⊥
 
 -- what is due for the bytes of a file: the first cause against them, or what the command answers in the network that they describe
@@ -74,8 +79,9 @@ pub data IsAnswer (due : Status → List ℕ → Type 0) (old new : Option (List
 abbrev pub IsFault : Status → Type 0
 IsFault status = (status ≡ ends.Read) ⊎ ((status ≡ ends.Write) ⊎ (status ≡ ends.Memory))
 
--- where the told bytes describe a network, `trace` ends as the walk of its packet does, `ask` decides its query, and `replay` answers told events, unless a
--- device or memory failed; and so does `make` of a number that it takes
+-- where the told bytes describe a network, `trace` ends as the walk of its packet does, `ask` decides its query, `check` decides a told report and says yes
+-- to every report that `ask` answers in that network, and `replay` answers told events, unless a device or memory failed; and so does `make` of a number
+-- that it takes
 pub record IsComplete (words : List (List ℕ)) (told : List ℕ → Option (List ℕ)) (status : Status) : Type 0 where
   pub trace : (bytes : List ℕ) (network : Description) (e : Event) → command_of words ≡ Ok modes.Trace → told (file_name words) ≡ Some bytes
       → Describes bytes network → packet_of network words ≡ Ok e
@@ -83,6 +89,12 @@ pub record IsComplete (words : List (List ℕ)) (told : List ℕ → Option (Lis
   pub ask : (bytes : List ℕ) (network : Description) (query : Query) → command_of words ≡ Ok modes.Ask → told (file_name words) ≡ Some bytes
       → Describes bytes network → query_of network words ≡ Ok query
       → IsFault status ⊎ IsDecided network query status
+  pub check : (bytes text : List ℕ) (network : Description) (report : Report) → command_of words ≡ Ok modes.Check → told (file_name words) ≡ Some bytes
+      → Describes bytes network → told (second_name words) ≡ Some text → length text ≤ file_limit → report_of_text network text ≡ Ok report
+      → IsFault status ⊎ IsReportDecided network report status
+  pub certified : (bytes text : List ℕ) (network : Description) (asked : List (List ℕ)) → command_of words ≡ Ok modes.Check → told (file_name words) ≡ Some bytes
+      → Describes bytes network → told (second_name words) ≡ Some text → IsAsked network asked ends.No text
+      → IsFault status ⊎ (status ≡ ends.Yes)
   pub replay : (bytes text : List ℕ) (network : Description) (events : List Event) → command_of words ≡ Ok modes.Replay → told (file_name words) ≡ Some bytes
       → Describes bytes network → told (second_name words) ≡ Some text → length text ≤ file_limit → events_of network text ≡ Ok events
       → IsFault status ⊎ (status ≡ ends.Yes)
@@ -90,7 +102,7 @@ pub record IsComplete (words : List (List ℕ)) (told : List ℕ → Option (Lis
 
 -- ---- failed reads
 
--- the file of a command that has one failed in this call, or the second file
+-- the file of a command that has one failed in this call, or the second file of one that has two
 pub data ReadFailed (words : List (List ℕ)) (failed : List ℕ → Type 0) : Type 0 where
   file : (command : Mode) → command_of words ≡ Ok command → has_file command ≡ true → failed (file_name words) → ReadFailed words failed
-  second : command_of words ≡ Ok modes.Replay → failed (second_name words) → ReadFailed words failed
+  second : (command : Mode) → command_of words ≡ Ok command → has_second command ≡ true → failed (second_name words) → ReadFailed words failed

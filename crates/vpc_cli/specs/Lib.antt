@@ -5,6 +5,8 @@ pub mod Reachable
 pub mod Described
 pub mod Traced
 pub mod Replayed
+pub mod Certified
+pub mod Second
 pub mod Asked
 pub mod Made
 pub mod Due

@@ -1,6 +1,6 @@
 -- What `make` answers: what the first host of a generated network reaches.
 use Rattle.std.specs.List.{range_with_len}
-use Rattle.std.specs.Prelude.{◌++◌, ◌-◌, ◌∷◌, ◌≡◌, [], List, None, Option, Some, codes, decimal, if◌then◌else◌, nat_le, option_and_then, ℕ}
+use Rattle.std.specs.Prelude.{◌++◌, ◌-◌, ◌∷◌, ◌≡◌, ◌≤◌, [], List, None, Option, Some, codes, decimal, if◌then◌else◌, nat_le, option_and_then, ℕ}
 use Rattle.block_report.specs.Words.{header_text, line_end, word}
 use Rattle.header_boxes.specs.Rows.{IsFirst}
 use Rattle.made_network.specs.Made.{host_address, interface_id, made}
@@ -71,7 +71,18 @@ pub record IsSurvey (n : ℕ) (text : List ℕ) : Type 0 where
   pub last : IsPair (made n) to_internet (codes "internet") internet
   pub text_is : text ≡ line (codes "make" ++ word (decimal n)) ++ hosts ++ internet
 
+-- the network of the number
+pub record IsMadeOf (n : ℕ) (d : Description) : Type 0 where
+  pub made_is : d ≡ made n
+  pub least : 1 ≤ n
+  pub most : n ≤ 50
+
+-- what is answered to the number
+pub record IsSurveyed (n : ℕ) (status : Status) (text : List ℕ) : Type 0 where
+  pub status_is : status ≡ ends.Yes
+  pub survey : IsSurvey n text
+
 -- that the second word is no such number, or the survey of the network of the number
 pub data IsMade (words : List (List ℕ)) (status : Status) (text : List ℕ) : Type 0 where
   refused : made_count (word_at words 2) ≡ None → status ≡ ends.Query → text ≡ line (codes "refused number 2") → IsMade words status text
-  surveyed : (n : ℕ) → made_count (word_at words 2) ≡ Some n → status ≡ ends.Yes → IsSurvey n text → IsMade words status text
+  surveyed : (n : ℕ) → made_count (word_at words 2) ≡ Some n → IsSurveyed n status text → IsMade words status text

@@ -35,7 +35,12 @@ traced_status d e = let walk = walk_of_event d e in status_of walk.outcome
 abbrev pub traced_text : Description → Event → List ℕ
 traced_text d e = let walk = walk_of_event d e in walk_text d walk.hops walk.outcome
 
+-- what is answered to a packet
+pub record IsWalked (d : Description) (e : Event) (status : Status) (text : List ℕ) : Type 0 where
+  pub status_is : status ≡ traced_status d e
+  pub text_is : text ≡ traced_text d e
+
 -- what `trace` answers to its words: why they give no packet, or the walk of the packet
 pub data IsTraced (d : Description) (words : List (List ℕ)) (status : Status) (text : List ℕ) : Type 0 where
   refused : (refusal : QueryRefusal) → packet_of d words ≡ Err refusal → status ≡ ends.Query → text ≡ packet_refusal_line refusal → IsTraced d words status text
-  walked : (e : Event) → packet_of d words ≡ Ok e → status ≡ traced_status d e → text ≡ traced_text d e → IsTraced d words status text
+  walked : (e : Event) → packet_of d words ≡ Ok e → IsWalked d e status text → IsTraced d words status text

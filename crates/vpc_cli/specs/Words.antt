@@ -23,8 +23,9 @@ abbrev pub mode_named : List ℕ → Option Mode
 mode_named name =
     if bytes_eq name (codes "trace") then Some modes.Trace
     else (if bytes_eq name (codes "ask") then Some modes.Ask
+    else (if bytes_eq name (codes "check") then Some modes.Check
     else (if bytes_eq name (codes "replay") then Some modes.Replay
-    else (if bytes_eq name (codes "make") then Some modes.Make else None)))
+    else (if bytes_eq name (codes "make") then Some modes.Make else None))))
 
 -- the command that the first word names
 abbrev pub mode_of : List (List ℕ) → Option Mode
@@ -36,6 +37,10 @@ mode_of (w ∷ words) = mode_named w
 -- how many words `trace` has
 abbrev pub trace_count : ℕ
 trace_count = 10
+
+-- how many words `check` has
+abbrev pub check_count : ℕ
+check_count = 3
 
 -- how many words `replay` has
 abbrev pub replay_count : ℕ
@@ -65,6 +70,7 @@ ask_count_fault count =
 abbrev pub count_fault : Mode → ℕ → Option ℕ
 count_fault modes.Trace count = exact_count_fault trace_count count
 count_fault modes.Ask count = ask_count_fault count
+count_fault modes.Check count = exact_count_fault check_count count
 count_fault modes.Replay count = exact_count_fault replay_count count
 count_fault modes.Make count = exact_count_fault make_count count
 
@@ -72,6 +78,7 @@ count_fault modes.Make count = exact_count_fault make_count count
 abbrev pub HasCount : Mode → ℕ → Type 0
 HasCount modes.Trace count = count ≡ trace_count
 HasCount modes.Ask count = ask_least ≤ count
+HasCount modes.Check count = count ≡ check_count
 HasCount modes.Replay count = count ≡ replay_count
 HasCount modes.Make count = count ≡ make_count
 
@@ -103,8 +110,17 @@ command_of words = unless_bad (bad_word words) words
 abbrev pub has_file : Mode → Bool
 has_file modes.Trace = true
 has_file modes.Ask = true
+has_file modes.Check = true
 has_file modes.Replay = true
 has_file modes.Make = false
+
+-- the command has a second file
+abbrev pub has_second : Mode → Bool
+has_second modes.Trace = false
+has_second modes.Ask = false
+has_second modes.Check = true
+has_second modes.Replay = true
+has_second modes.Make = false
 
 -- the name of the file
 abbrev pub file_name : List (List ℕ) → List ℕ

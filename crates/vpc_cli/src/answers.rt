@@ -10,7 +10,7 @@ ghost use Rattle.vpc_cli.specs.Words.{HasCount, command_of, has_file};
 use crate::asks::ask;
 use crate::makes::make;
 use crate::refusals::{answer_line, refuse_bundle, refuse_description, refuse_words};
-use crate::replays::replay;
+use crate::second::{Second, answer_second};
 use crate::status::{Answer, Status};
 use crate::traces::trace;
 use crate::words::{Mode, read_words};
@@ -43,7 +43,8 @@ fn answer_in<S: Shelf>(
     match mode {
         Mode::Trace => trace(alloc, network, words),
         Mode::Ask => ask(alloc, network, words),
-        Mode::Replay => replay(alloc, network, words, shelf),
+        Mode::Check => answer_second(alloc, Second::Report, network, words, shelf),
+        Mode::Replay => answer_second(alloc, Second::Events, network, words, shelf),
         // It has no file.
         Mode::Make => unreachable!(),
     }

@@ -1,24 +1,24 @@
 // What `ask` answers.
 ghost use Rattle.std.specs.Prelude.{◌≡◌, ◌≤◌, ◌≢◌, IfOk, length, map, string_bytes};
-ghost use Rattle.appliances.specs.Passing.{kind_passes_at};
 ghost use Rattle.block_report.specs.Reports.{HaveText, told_rows};
 ghost use Rattle.header_boxes.specs.Rows.{IsFirstThrough};
 ghost use Rattle.network_reach.specs.Reached.{IsPartReportIn, IsQueryIn, IsReportIn, meaning_in};
 ghost use Rattle.query_words.specs.declared.refusal.QueryRefusal.TheVariants as refusals;
-ghost use Rattle.vpc_cli.specs.Asked.{IsAnswerTo, IsAsked, IsReachable, IsReported, IsReportedInPart, query_refusal_line};
+ghost use Rattle.vpc_cli.specs.Asked.{IsAnswerTo, IsAsked, IsPut, IsReachable, IsReported, IsReportedInPart, query_refusal_line};
 ghost use Rattle.vpc_model.specs.Appliances.{appliances_of};
 
-use crate::deciders::deciders_of;
+use crate::jobs::{Job, answer_job};
 use crate::reachable::put_reachable;
 use crate::status::{Answer, Status};
-use appliances::{Deciders, Kinds};
-use block_report::{print_more, print_report, put, put_end, put_query_refusal};
+use appliances::Deciders;
+use block_report::{print_more, put, put_end, put_query_refusal};
 use fabric::Fabric;
 use header_boxes::Row;
 use network_reach::Reached;
 use network_reach::reach::reach;
 use query_words::{Query, QueryRefusal, read_query};
 use reference_check::Network;
+use report_reader::print_readable;
 use std::alloc::Global;
 use std::mem;
 use vpc_base::{Header, NoMemory};
@@ -55,14 +55,14 @@ fn answer_blocked(
     query: &Query,
     rows: &[Row<(Phase, Stop)>],
 ) -> Result<Answer, NoMemory>
-    requires query { IsQueryIn n.now query.now }
+    requires query { IsPut n.now query.now }
     requires told { HaveText n.now rows.now }
     requires report { IsReportIn n.now query.now (told_rows n.now rows.now) }
     requires few { length rows.now ≤ query.now.max }
     ensures { IfOk result (λ a.
         (a.status ≡ Status.No) × IsReported n.now query.now a.text.items) }
 {
-    let text = print_report(alloc, n, query.start, query.goal, &query.sides, rows)?;
+    let text = print_readable(alloc, n, query.start, query.goal, &query.sides, rows)?;
     Ok(Answer {
         status: Status::No,
         text,
@@ -100,56 +100,31 @@ fn answer_more(
     })
 }
 
-fn answer_with(
-    alloc: Global,
-    f: &Fabric,
-    deciders: &Deciders,
-    query: &Query,
-) -> Result<Answer, NoMemory>
-    requires appliances { deciders.now.appliances ≡ appliances_of f.now }
-    requires query { IsQueryIn f.now query.now }
-    ensures { IfOk result (λ a. IsAnswerTo f.now query.now a.status a.text.items) }
-{
-    match reach(alloc, f, deciders, query)? {
-        Reached::Through(header) => answer_through(alloc, f, deciders, query, &header),
-        Reached::Blocked(rows) => answer_blocked(alloc, f.network(), query, rows.as_slice()),
-        Reached::More(rows, next, cells) => {
-            answer_more(alloc, f.network(), query, rows.as_slice(), &next, cells)
-        }
-    }
+// The requests of a query.
+#[derive(Drop)]
+struct Asking<'a> {
+    query: &'a Query,
 }
 
-// What is known of a query, with the described appliances.
-fn answer_in(alloc: Global, f: &Fabric, query: &Query) -> Result<Answer, NoMemory>
-    requires { IsQueryIn f.now query.now }
-    ensures { IfOk result (λ a. IsAnswerTo f.now query.now a.status a.text.items) }
-{
-    let kinds = Kinds::of(alloc, f.network())?;
-    let decide = Box::new(
-        alloc,
-        move |k: u32, h: &Header| -> bool
-            ensures { result ≡ kind_passes_at kinds k h.now }
-        { kinds.passes(k, h) },
-    )?;
-    let deciders = deciders_of(alloc, f.network(), decide)?;
-    let answer = answer_with(alloc, f, &deciders, query);
-    mem::forget(deciders);
-    answer
-}
+impl<'a> Job for Asking<'a> {
+    ghost fits = { λ j d. IsPut d j.query.now };
 
-fn answer_query(alloc: Global, network: Network, query: &Query) -> Result<Answer, NoMemory>
-    requires { IsQueryIn network query.now }
-    ensures { IfOk result (λ a. IsAnswerTo network query.now a.status a.text.items) }
-{
-    match Fabric::of(alloc, network) {
-        Ok(fabric) => {
-            let answer = answer_in(alloc, &fabric, query);
-            // The process ends with its answer: giving back the many rows of a large network takes longer
-            // than finding one in it.
-            mem::forget(fabric);
-            answer
+    ghost answers = { λ j d. IsAnswerTo d j.query.now };
+
+    fn answer_with(
+        &self,
+        alloc: Global,
+        f: &Fabric,
+        deciders: &Deciders,
+    ) -> Result<Answer, NoMemory> {
+        let query = self.query;
+        match reach(alloc, f, deciders, query)? {
+            Reached::Through(header) => answer_through(alloc, f, deciders, query, &header),
+            Reached::Blocked(rows) => answer_blocked(alloc, f.network(), query, rows.as_slice()),
+            Reached::More(rows, next, cells) => {
+                answer_more(alloc, f.network(), query, rows.as_slice(), &next, cells)
+            }
         }
-        Err(no_memory) => Err(no_memory),
     }
 }
 
@@ -179,7 +154,7 @@ pub fn ask(alloc: Global, network: Network, words: &[String]) -> Result<Answer, 
     ensures { IfOk result (λ a. IsAsked network (map string_bytes words.now) a.status a.text.items) }
 {
     match read_query(alloc, &network, words) {
-        Ok(query) => answer_query(alloc, network, &query),
+        Ok(query) => answer_job(alloc, network, &Asking { query: &query }),
         Err(refusal) => {
             mem::forget(network);
             refuse_query(alloc, &refusal)

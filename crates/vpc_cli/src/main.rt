@@ -3,12 +3,15 @@
 
 mod answers;
 mod asks;
+mod checks;
 mod commands;
 mod deciders;
+mod jobs;
 mod makes;
 mod reachable;
 mod refusals;
 mod replays;
+mod second;
 mod status;
 #[cfg(test)]
 mod tests;

@@ -1,16 +1,15 @@
 // What `make` answers.
 ghost use Rattle.std.specs.List.{range_with_len};
 ghost use Rattle.std.specs.Prelude.{◌≡◌, ◌≤◌, ◌++◌, ◌-◌, IfOk, IfSome, OnOk, length, map, string_bytes};
-ghost use Rattle.appliances.specs.Passing.{kind_passes_at};
 ghost use Rattle.made_network.specs.Made.{host_address, interface_id, made};
 ghost use Rattle.network_reach.specs.Reached.{IsQueryIn};
 ghost use Rattle.vpc_model.specs.Appliances.{appliances_of};
-ghost use Rattle.vpc_cli.specs.Made.{Adds, ArePairs, IsMade, IsPair, IsSurvey, found_text, made_count, pair_text, requests_to, to_host, to_internet};
+ghost use Rattle.vpc_cli.specs.Made.{Adds, ArePairs, IsMade, IsPair, IsSurveyed, found_text, made_count, pair_text, requests_to, to_host, to_internet};
 
-use crate::deciders::deciders_of;
+use crate::jobs::{Job, answer_job};
 use crate::refusals::answer_line;
 use crate::status::{Answer, Status};
-use appliances::{Deciders, Kinds};
+use appliances::Deciders;
 use block_report::{put, put_end, put_header_word, put_number_line, put_number_word, put_word};
 use fabric::Fabric;
 use header_boxes::Box5;
@@ -19,7 +18,6 @@ use network_reach::reach::first_through;
 use prefix_text::read_number;
 use query_words::{Query, word};
 use std::alloc::Global;
-use std::mem;
 use vpc_base::{Header, NoMemory};
 use vpc_model::{End, EniNo};
 
@@ -131,50 +129,42 @@ fn to_internet() -> Query
 
 // ---- the survey
 
-fn survey_with(alloc: Global, f: &Fabric, deciders: &Deciders, n: u8) -> Result<Vec<u8>, NoMemory>
-    requires made { f.now ≡ made n }
-    requires number { (1 ≤ n) × (n ≤ 50) }
-    requires appliances { deciders.now.appliances ≡ appliances_of f.now }
-    ensures { IfOk result (λ text. IsSurvey n text.items) }
-{
-    let mut text = Vec::new(alloc);
-    put_number_line(&mut text, b"make", u128::from(n))?;
-    put_hosts(&mut text, f, deciders, n)?;
-    put_pair(&mut text, f, deciders, &to_internet(), b"internet")?;
-    Ok(text)
+// The survey of the network of a number.
+#[derive(Drop)]
+struct Surveying {
+    count: u8,
 }
 
-fn survey_in(alloc: Global, f: &Fabric, n: u8) -> Result<Vec<u8>, NoMemory>
-    requires made { f.now ≡ made n }
-    requires number { (1 ≤ n) × (n ≤ 50) }
-    ensures { IfOk result (λ text. IsSurvey n text.items) }
-{
-    let kinds = Kinds::of(alloc, f.network())?;
-    let decide = Box::new(
-        alloc,
-        move |k: u32, h: &Header| -> bool
-            ensures { result ≡ kind_passes_at kinds k h.now }
-        { kinds.passes(k, h) },
-    )?;
-    let deciders = deciders_of(alloc, f.network(), decide)?;
-    let text = survey_with(alloc, f, &deciders, n);
-    mem::forget(deciders);
-    text
-}
+impl Job for Surveying {
+    ghost use Rattle.vpc_cli.specs.Made.{IsMadeOf, IsSurveyed};
 
-fn survey(alloc: Global, n: u8) -> Result<Vec<u8>, NoMemory>
-    requires { (1 ≤ n) × (n ≤ 50) }
-    ensures { IfOk result (λ text. IsSurvey n text.items) }
-{
-    let network = made_network(alloc, u32::from(n))?;
-    match Fabric::of(alloc, network) {
-        Ok(fabric) => {
-            let text = survey_in(alloc, &fabric, n);
-            mem::forget(fabric);
-            text
-        }
-        Err(no_memory) => Err(no_memory),
+    ghost fits = { λ j d. IsMadeOf j.count d };
+
+    ghost answers = { λ j d. IsSurveyed j.count };
+
+    fn answer_with(
+        &self,
+        alloc: Global,
+        f: &Fabric,
+        deciders: &Deciders,
+    ) -> Result<Answer, NoMemory> {
+        let mut text = Vec::new(alloc);
+        put_number_line(&mut text, b"make", u128::from(self.count))?;
+        put_hosts(&mut text, f, deciders, self.count)?;
+        put_pair(&mut text, f, deciders, &to_internet(), b"internet")?;
+        Ok(Answer {
+            status: Status::Yes,
+            text,
+        })
     }
+}
+
+fn survey(alloc: Global, count: u8) -> Result<Answer, NoMemory>
+    requires { (1 ≤ count) × (count ≤ 50) }
+    ensures { IfOk result (λ a. IsSurveyed count a.status a.text.items) }
+{
+    let network = made_network(alloc, u32::from(count))?;
+    answer_job(alloc, network, &Surveying { count })
 }
 
 fn made_count(text: &str) -> Option<u8>
@@ -194,10 +184,7 @@ pub fn make(alloc: Global, words: &[String]) -> Result<Answer, NoMemory>
     ensures { IfOk result (λ a. IsMade (map string_bytes words.now) a.status a.text.items) }
 {
     match made_count(word(words, 2)) {
-        Some(n) => Ok(Answer {
-            status: Status::Yes,
-            text: survey(alloc, n)?,
-        }),
+        Some(n) => survey(alloc, n),
         None => answer_line(alloc, Status::Query, b"refused number 2"),
     }
 }

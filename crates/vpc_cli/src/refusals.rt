@@ -2,6 +2,7 @@
 ghost use Rattle.std.specs.Prelude.{◌≡◌, IfOk, decimal, false};
 ghost use Rattle.block_report.specs.Refusals.{cause_text};
 ghost use Rattle.bundle.specs.Meaning.{is_memory};
+ghost use Rattle.vpc_cli.specs.Certified.{report_refusal_line};
 ghost use Rattle.vpc_cli.specs.Described.{refusal_line};
 ghost use Rattle.vpc_cli.specs.Due.{words_text};
 ghost use Rattle.vpc_cli.specs.Lines.{line};
@@ -60,6 +61,21 @@ pub fn refuse_events(alloc: Global, cause: &[u8]) -> Result<Answer, NoMemory>
 {
     let mut text = Vec::new(alloc);
     put(&mut text, b"refused events")?;
+    put_word(&mut text, cause)?;
+    put_end(&mut text)?;
+    Ok(Answer {
+        status: Status::Query,
+        text,
+    })
+}
+
+/// Refuses a report for this cause.
+pub fn refuse_report(alloc: Global, cause: &[u8]) -> Result<Answer, NoMemory>
+    ensures { IfOk result (λ a.
+        (a.status ≡ Status.Query) × (a.text.items ≡ report_refusal_line cause.now)) }
+{
+    let mut text = Vec::new(alloc);
+    put(&mut text, b"refused report")?;
     put_word(&mut text, cause)?;
     put_end(&mut text)?;
     Ok(Answer {

@@ -1,19 +1,21 @@
 // Worked commands, on a network of two hosts in one subnet.
 mod asks;
+mod broken;
 mod bundles;
+mod checks;
 mod makes;
 mod reaching;
 mod replays;
 mod walks;
 
-ghost use Rattle.std.specs.Prelude.{◌<◌, ◌≢◌};
+ghost use Rattle.std.specs.Prelude.{◌<◌};
 
 use crate::commands::run;
 use crate::status::Status;
 use std::alloc::Global;
 use std::process::Abort;
 use std::test::Fail;
-use vpc_io::{CountSink, MemoryShelf, MemorySink, SafeShelf};
+use vpc_io::{MemoryShelf, MemorySink};
 
 const ONE_SUBNET: &str = "{\"Vpcs\":[{\"VpcId\":\"vpc-1\",\"CidrBlock\":\"10.0.0.0/16\"}],\
 \"Subnets\":[{\"SubnetId\":\"subnet-a\",\"VpcId\":\"vpc-1\",\"AvailabilityZone\":\"us-east-1a\"}],\
@@ -56,6 +58,14 @@ fn files_of(alloc: Global, file: &str) -> Result<Vec<(Vec<u8>, Vec<u8>)>, Fail> 
     Ok(files)
 }
 
+// A bundle `o.json` and a file `second.txt`.
+fn two_files(alloc: Global, bundle: &[u8], second: &[u8]) -> Result<Vec<(Vec<u8>, Vec<u8>)>, Fail> {
+    let mut files = Vec::new(alloc);
+    files.push((b"o.json".to_vec(alloc)?, bundle.to_vec(alloc)?))?;
+    files.push((b"second.txt".to_vec(alloc)?, second.to_vec(alloc)?))?;
+    Ok(files)
+}
+
 fn sink_of(alloc: Global, failing: u64, piece: usize) -> Result<MemorySink, Fail>
     requires { 0 < piece }
 {
@@ -64,15 +74,13 @@ fn sink_of(alloc: Global, failing: u64, piece: usize) -> Result<MemorySink, Fail
     Ok(MemorySink::of(alloc, numbers, piece, 4096)?)
 }
 
-fn shelf_of(alloc: Global, file: &str, failing: u64) -> Result<MemoryShelf, Fail> {
-    let mut numbers = Vec::new(alloc);
-    numbers.push(failing)?;
-    Ok(MemoryShelf::of(files_of(alloc, file)?, numbers))
+fn shelf_of(alloc: Global, file: &str) -> Result<MemoryShelf, Fail> {
+    Ok(MemoryShelf::of(files_of(alloc, file)?, Vec::new(alloc)))
 }
 
 fn check(rt: &impl Abort, alloc: Global, case: &Case) -> Result<(), Fail> {
     let words = words_of(alloc, case.words)?;
-    let mut shelf = shelf_of(alloc, case.file, 0)?;
+    let mut shelf = shelf_of(alloc, case.file)?;
     let mut out = sink_of(alloc, 0, 4096)?;
     let status = run(alloc, words.as_slice(), &mut shelf, &mut out);
     assert_eq!(rt; out.bytes(), case.text.as_bytes(), "{}", case.words);
@@ -80,15 +88,17 @@ fn check(rt: &impl Abort, alloc: Global, case: &Case) -> Result<(), Fail> {
     Ok(())
 }
 
+const ARRIVING: &str = "hop 1 out eni-a tcp 10.0.1.10 10.0.1.20 5000 443 by sg-a out 1\n\
+hop 2 router subnet-a tcp 10.0.1.10 10.0.1.20 5000 443\n\
+hop 3 in eni-b tcp 10.0.1.10 10.0.1.20 5000 443 by sg-b in 1\n\
+arrived eni-b\n";
+
 const TRACED: [Case; 7] = [
     Case {
         words: "trace o.json open from eni-a tcp 10.0.1.10 10.0.1.20 5000 443",
         file: ONE_SUBNET,
         code: 0,
-        text: "hop 1 out eni-a tcp 10.0.1.10 10.0.1.20 5000 443 by sg-a out 1\n\
-hop 2 router subnet-a tcp 10.0.1.10 10.0.1.20 5000 443\n\
-hop 3 in eni-b tcp 10.0.1.10 10.0.1.20 5000 443 by sg-b in 1\n\
-arrived eni-b\n",
+        text: ARRIVING,
     },
     Case {
         words: "trace o.json open from eni-a tcp 10.0.1.10 10.0.1.20 5000 80",
@@ -169,23 +179,16 @@ fn refuses_words(rt: HostRuntime) -> Result<(), Fail> {
             2,
             "refused words 11\n",
         ),
+        refused("check", ONE_SUBNET, 2, "refused words 2\n"),
+        refused("check o.json", ONE_SUBNET, 2, "refused words 3\n"),
+        refused("check o.json 3 4", ONE_SUBNET, 2, "refused words 4\n"),
+        refused("replay", ONE_SUBNET, 2, "refused words 2\n"),
+        refused("replay o.json", ONE_SUBNET, 2, "refused words 3\n"),
+        refused("replay o.json -", ONE_SUBNET, 2, "refused words 3\n"),
+        refused("replay o.json 3 4", ONE_SUBNET, 2, "refused words 4\n"),
     ];
     for case in &cases {
         check(&rt, rt.alloc(), case)?;
-    }
-    Ok(())
-}
-
-#[test]
-fn refuses_descriptions(rt: HostRuntime) -> Result<(), Fail> {
-    let words = "trace o.json open from eni-a tcp 10.0.1.10 10.0.1.20 5000 443";
-    let cases = [
-        ("", "NotJson"),
-        (r#"{"Vpcs":[{"VpcId":"vp"#, "NotJson"),
-        ("[1]", "WrongShape $"),
-    ];
-    for (file, cause) in cases {
-        refuses_description(&rt, rt.alloc(), words, file, cause)?;
     }
     Ok(())
 }
@@ -198,7 +201,7 @@ fn refuses_description(
     cause: &str,
 ) -> Result<(), Fail> {
     let words = words_of(alloc, line)?;
-    let mut shelf = shelf_of(alloc, file, 0)?;
+    let mut shelf = shelf_of(alloc, file)?;
     let mut out = sink_of(alloc, 0, 4096)?;
     let status = run(alloc, words.as_slice(), &mut shelf, &mut out);
     let text = format!(in alloc; "refused description {cause}\n")?;
@@ -262,63 +265,11 @@ fn refuses_packet(
 ) -> Result<(), Fail> {
     let line = format!(in alloc; "trace o.json {packet}")?;
     let words = words_of(alloc, line.as_str())?;
-    let mut shelf = shelf_of(alloc, file, 0)?;
+    let mut shelf = shelf_of(alloc, file)?;
     let mut out = sink_of(alloc, 0, 4096)?;
     let status = run(alloc, words.as_slice(), &mut shelf, &mut out);
     let text = format!(in alloc; "refused packet {cause}\n")?;
     assert_eq!(rt; out.bytes(), text.as_bytes(), "{packet}");
     assert_eq!(rt; status, Status::Query);
-    Ok(())
-}
-
-#[test]
-fn tells_faults_of_the_file(rt: HostRuntime) -> Result<(), Fail> {
-    let alloc = rt.alloc();
-    for (name, failing) in [("x.json", 0), ("o.json", 1)] {
-        let line = format!(in alloc; "trace {name} open from eni-a tcp 10.0.1.10 10.0.1.20 1 2")?;
-        let words = words_of(alloc, line.as_str())?;
-        let mut shelf = shelf_of(alloc, ONE_SUBNET, failing)?;
-        let mut out = sink_of(alloc, 0, 4096)?;
-        let status = run(alloc, words.as_slice(), &mut shelf, &mut out);
-        assert_eq!(rt; out.bytes(), b"read fault 1\n".as_slice());
-        assert_eq!(rt; status, Status::Read);
-    }
-    Ok(())
-}
-
-#[test]
-fn stops_at_a_fault_of_the_sink(rt: HostRuntime) -> Result<(), Fail> {
-    let alloc = rt.alloc();
-    let words = words_of(
-        alloc,
-        "trace o.json open from eni-a tcp 10.0.1.10 10.0.1.20 5000 443",
-    )?;
-    let mut shelf = shelf_of(alloc, ONE_SUBNET, 0)?;
-    let mut out = sink_of(alloc, 2, 10)?;
-    let status = run(alloc, words.as_slice(), &mut shelf, &mut out);
-    assert_eq!(rt; status.code(), 7);
-    assert_eq!(rt; out.bytes(), b"hop 1 out ".as_slice());
-    Ok(())
-}
-
-// Over devices that never fail, no answer is a fault of theirs.
-fn run_safely(alloc: Global, words: &[String], shelf: &mut SafeShelf, out: &mut CountSink) -> Status
-    ensures read { result ≢ Status.Read }
-    ensures write { result ≢ Status.Write }
-{
-    run(alloc, words, shelf, out)
-}
-
-#[test]
-fn answers_over_safe_devices(rt: HostRuntime) -> Result<(), Fail> {
-    let alloc = rt.alloc();
-    let words = words_of(
-        alloc,
-        "trace o.json open from eni-a tcp 10.0.1.10 10.0.1.20 5000 443",
-    )?;
-    let mut shelf = SafeShelf::of(files_of(alloc, ONE_SUBNET)?);
-    let mut out = CountSink::new();
-    let status = run_safely(alloc, words.as_slice(), &mut shelf, &mut out);
-    assert_eq!(rt; status, Status::Yes);
     Ok(())
 }

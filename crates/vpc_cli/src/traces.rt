@@ -1,17 +1,16 @@
 // What `trace` answers.
 ghost use Rattle.std.specs.Prelude.{◌≡◌, ◌≢◌, All, IfOk, IsTrue, length, map, string_bytes};
 ghost use Rattle.query_words.specs.declared.refusal.QueryRefusal.TheVariants as refusals;
-ghost use Rattle.vpc_cli.specs.Traced.{IsTraced, packet_refusal_line, status_of, traced_status, traced_text};
+ghost use Rattle.vpc_cli.specs.Traced.{IsTraced, IsWalked, packet_refusal_line, status_of};
 ghost use Rattle.block_report.specs.Walks.{walk_text};
 ghost use Rattle.vpc_laws.specs.Sound.{EndsWell, IsSoundHop};
 ghost use Rattle.vpc_model.specs.Appliances.{appliances_of};
 ghost use Rattle.vpc_model.specs.Place.{start_of};
 ghost use Rattle.vpc_model.specs.Sound.{is_sound};
-ghost use Rattle.appliances.specs.Passing.{kind_passes_at};
 
-use crate::deciders::deciders_of;
+use crate::jobs::{Job, answer_job};
 use crate::status::{Answer, Status};
-use appliances::{Deciders, Kinds};
+use appliances::Deciders;
 use block_report::{put, put_end, put_query_refusal, put_walk};
 use conn_tracking::SmallConns;
 use fabric::Fabric;
@@ -21,7 +20,7 @@ use query_words::{QueryRefusal, read_packet};
 use reference_check::Network;
 use std::alloc::Global;
 use std::mem;
-use vpc_base::{Header, NoMemory};
+use vpc_base::NoMemory;
 use vpc_model::{Event, Hop, Outcome, start_place};
 
 // How a walk's command ends.
@@ -63,8 +62,7 @@ fn walk_with(
 ) -> Result<Answer, NoMemory>
     requires start { IsTrue (is_sound fabric.now (start_of e.now.start)) }
     requires appliances { deciders.now.appliances ≡ appliances_of fabric.now }
-    ensures status { IfOk result (λ a. a.status ≡ traced_status fabric.now e.now) }
-    ensures text { IfOk result (λ a. a.text.items ≡ traced_text fabric.now e.now) }
+    ensures { IfOk result (λ a. IsWalked fabric.now e.now a.status a.text.items) }
 {
     let mut conns = SmallConns::new();
     let mut nats = SmallNats::new();
@@ -84,39 +82,26 @@ fn walk_with(
     answer_walk(alloc, fabric.network(), hops.as_slice(), &outcome)
 }
 
-// The walk of a packet with the described appliances.
-fn walk_in(alloc: Global, fabric: &Fabric, e: &Event) -> Result<Answer, NoMemory>
-    requires { IsTrue (is_sound fabric.now (start_of e.now.start)) }
-    ensures status { IfOk result (λ a. a.status ≡ traced_status fabric.now e.now) }
-    ensures text { IfOk result (λ a. a.text.items ≡ traced_text fabric.now e.now) }
-{
-    let kinds = Kinds::of(alloc, fabric.network())?;
-    let decide = Box::new(
-        alloc,
-        move |k: u32, h: &Header| -> bool
-            ensures { result ≡ kind_passes_at kinds k h.now }
-        { kinds.passes(k, h) },
-    )?;
-    let deciders = deciders_of(alloc, fabric.network(), decide)?;
-    let answer = walk_with(alloc, fabric, &deciders, e);
-    mem::forget(deciders);
-    answer
+// The walk of a packet.
+#[derive(Drop)]
+struct Walking<'a> {
+    event: &'a Event,
 }
 
-fn walk_event(alloc: Global, network: Network, e: &Event) -> Result<Answer, NoMemory>
-    requires { IsTrue (is_sound network (start_of e.now.start)) }
-    ensures status { IfOk result (λ a. a.status ≡ traced_status network e.now) }
-    ensures text { IfOk result (λ a. a.text.items ≡ traced_text network e.now) }
-{
-    match Fabric::of(alloc, network) {
-        Ok(fabric) => {
-            let answer = walk_in(alloc, &fabric, e);
-            // The process ends with its answer: giving back the many rows of a large network takes longer
-            // than finding one in it.
-            mem::forget(fabric);
-            answer
-        }
-        Err(no_memory) => Err(no_memory),
+impl<'a> Job for Walking<'a> {
+    ghost use Rattle.vpc_cli.specs.Traced.{IsWalked};
+
+    ghost fits = { λ j d. let e = j.event.now in IsTrue (is_sound d (start_of e.start)) };
+
+    ghost answers = { λ j d. IsWalked d j.event.now };
+
+    fn answer_with(
+        &self,
+        alloc: Global,
+        f: &Fabric,
+        deciders: &Deciders,
+    ) -> Result<Answer, NoMemory> {
+        walk_with(alloc, f, deciders, self.event)
     }
 }
 
@@ -144,7 +129,7 @@ pub fn trace(alloc: Global, network: Network, words: &[String]) -> Result<Answer
     ensures { IfOk result (λ a. IsTraced network (map string_bytes words.now) a.status a.text.items) }
 {
     match read_packet(alloc, &network, words) {
-        Ok(event) => walk_event(alloc, network, &event),
+        Ok(event) => answer_job(alloc, network, &Walking { event: &event }),
         Err(refusal) => {
             mem::forget(network);
             refuse_packet(alloc, &refusal)

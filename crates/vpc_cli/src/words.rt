@@ -5,6 +5,8 @@ ghost use Rattle.vpc_cli.specs.Words.{exact_count_fault, is_bad_word, mode_named
 
 const TRACE_COUNT: usize = 10;
 
+const CHECK_COUNT: usize = 3;
+
 const REPLAY_COUNT: usize = 3;
 
 const MAKE_COUNT: usize = 2;
@@ -20,6 +22,8 @@ pub enum Mode {
     Trace,
     /// `ask`: what is known of all requests of a query.
     Ask,
+    /// `check`: whether a report about a query is true.
+    Check,
     /// `replay`: the walks of packets that come one after another.
     Replay,
     /// `make`: what is reached in a network that is generated from a number.
@@ -63,6 +67,8 @@ fn mode_named(name: &str) -> Option<Mode>
         Some(Mode::Trace)
     } else if name == "ask" {
         Some(Mode::Ask)
+    } else if name == "check" {
+        Some(Mode::Check)
     } else if name == "replay" {
         Some(Mode::Replay)
     } else if name == "make" {
@@ -116,6 +122,7 @@ fn count_fault(mode: Mode, count: usize) -> Option<usize>
     match mode {
         Mode::Trace => exact_count_fault(TRACE_COUNT, count),
         Mode::Ask => ask_count_fault(count),
+        Mode::Check => exact_count_fault(CHECK_COUNT, count),
         Mode::Replay => exact_count_fault(REPLAY_COUNT, count),
         Mode::Make => exact_count_fault(MAKE_COUNT, count),
     }

@@ -66,7 +66,7 @@ fn answers(
     text: &str,
 ) -> Result<(), Fail> {
     let words = words_of(alloc, line)?;
-    let mut shelf = shelf_of(alloc, file, 0)?;
+    let mut shelf = shelf_of(alloc, file)?;
     let mut out = sink_of(alloc, 0, 4096)?;
     let answered = run(alloc, words.as_slice(), &mut shelf, &mut out);
     assert_eq!(rt; out.bytes(), text.as_bytes(), "{line}");
@@ -88,16 +88,18 @@ fn finds_the_first_header(rt: HostRuntime) -> Result<(), Fail> {
     Ok(())
 }
 
+pub(super) const BLOCKED: &str = "vpc-report 1\n\
+query from eni-a to eni-b\n\
+box 6-6 10.0.1.10-10.0.1.10 10.0.1.20-10.0.1.20 0-65535 80-80\n\
+row 1 request GroupsIn eni-b - 6-6 10.0.1.10-10.0.1.10 10.0.1.20-10.0.1.20 0-65535 80-80\n\
+end 1\n";
+
 const REPORTED: [Case; 2] = [
     Case {
         words: "ask o.json from eni-a to eni-b port 80-80",
         file: ONE_SUBNET,
         code: 1,
-        text: "vpc-report 1\n\
-query from eni-a to eni-b\n\
-box 6-6 10.0.1.10-10.0.1.10 10.0.1.20-10.0.1.20 0-65535 80-80\n\
-row 1 request GroupsIn eni-b - 6-6 10.0.1.10-10.0.1.10 10.0.1.20-10.0.1.20 0-65535 80-80\n\
-end 1\n",
+        text: BLOCKED,
     },
     Case {
         words: "ask o.json from eni-a to eni-a",
@@ -307,29 +309,6 @@ fn refuses_queries(rt: HostRuntime) -> Result<(), Fail> {
 #[test]
 fn refuses_descriptions_before_queries(rt: HostRuntime) -> Result<(), Fail> {
     let line = "ask o.json from internet to internet";
-    let cases = [
-        ("", "refused description NotJson\n"),
-        ("[1]", "refused description WrongShape $\n"),
-    ];
-    for (file, text) in cases {
-        answers(&rt, rt.alloc(), file, line, Status::Description, text)?;
-    }
-    Ok(())
-}
-
-#[test]
-fn tells_faults_of_devices(rt: HostRuntime) -> Result<(), Fail> {
-    let alloc = rt.alloc();
-    let words = words_of(alloc, "ask o.json from eni-a to eni-b")?;
-    let mut shelf = shelf_of(alloc, ONE_SUBNET, 1)?;
-    let mut out = sink_of(alloc, 0, 4096)?;
-    let status = run(alloc, words.as_slice(), &mut shelf, &mut out);
-    assert_eq!(rt; status, Status::Read);
-    assert_eq!(rt; out.bytes(), b"read fault 1\n".as_slice());
-    let mut shelf = shelf_of(alloc, ONE_SUBNET, 0)?;
-    let mut out = sink_of(alloc, 2, 10)?;
-    let status = run(alloc, words.as_slice(), &mut shelf, &mut out);
-    assert_eq!(rt; status, Status::Write);
-    assert_eq!(rt; out.bytes(), b"reachable\n".as_slice());
-    Ok(())
+    let text = "refused description WrongShape $\n";
+    answers(&rt, rt.alloc(), "[1]", line, Status::Description, text)
 }

@@ -1,36 +1,15 @@
 // What bundles are accepted, and what is told of the others first: worked networks, each refusal, and files
 // that two causes stand against. Many more rows: `tests/bundles.py`.
-use super::{refuses_description, sink_of, words_of};
-use crate::commands::run;
+use super::refuses_description;
 use std::alloc::Global;
 use std::process::Abort;
 use std::test::Fail;
-use vpc_io::MemoryShelf;
 
 // Words that are refused in every network: what is told of a bundle comes first.
 const WORDS: &str = "ask o.json from internet to internet";
 
-const ACCEPTED: &str = "refused query BothInternet\n";
-
 fn refuses(rt: &impl Abort, alloc: Global, file: &str, cause: &str) -> Result<(), Fail> {
     refuses_description(rt, alloc, WORDS, file, cause)
-}
-
-// The cause against a bundle, or none where it is accepted.
-fn tells(rt: &impl Abort, alloc: Global, file: &[u8], cause: Option<&str>) -> Result<(), Fail> {
-    let mut files = Vec::new(alloc);
-    files.push((b"o.json".to_vec(alloc)?, file.to_vec(alloc)?))?;
-    let mut shelf = MemoryShelf::of(files, Vec::new(alloc));
-    let mut out = sink_of(alloc, 0, 4096)?;
-    let words = words_of(alloc, WORDS)?;
-    let status = run(alloc, words.as_slice(), &mut shelf, &mut out);
-    let text = match cause {
-        Some(cause) => format!(in alloc; "refused description {cause}\n")?,
-        None => String::from_str(alloc, ACCEPTED)?,
-    };
-    assert_eq!(rt; out.bytes(), text.as_bytes());
-    assert_eq!(rt; status.code(), if cause.is_some() { 3 } else { 4 });
-    Ok(())
 }
 
 #[test]
@@ -257,11 +236,6 @@ fn tells_what_subnets_have(rt: HostRuntime) -> Result<(), Fail> {
 #[test]
 fn tells_faults_of_fields(rt: HostRuntime) -> Result<(), Fail> {
     let cases = [
-        // two subnets, with an unforeseen member nested 200 deep
-        (
-            r#"{"Note":[[[[[[[[[[[[[[[[[[[[[[[[[[[[[[[[[[[[[[[[[[[[[[[[[[[[[[[[[[[[[[[[[[[[[[[[[[[[[[[[[[[[[[[[[[[[[[[[[[[[[[[[[[[[[[[[[[[[[[[[[[[[[[[[[[[[[[[[[[[[[[[[[[[[[[[[[[[[[[[[[[[[[[[[[[[[[[[[[[[[[[[[[[[[[[[[[[[[[[[[]]]]]]]]]]]]]]]]]]]]]]]]]]]]]]]]]]]]]]]]]]]]]]]]]]]]]]]]]]]]]]]]]]]]]]]]]]]]]]]]]]]]]]]]]]]]]]]]]]]]]]]]]]]]]]]]]]]]]]]]]]]]]]]]]]]]]]]]]]]]]]]]]]]]]]]]]]]]]]]]]]]]]]]]]]]]]]]]]]]]]]]]]]]]]]]]]]]]]]]],"Vpcs":[{"VpcId":"vpc-1","CidrBlock":"10.0.0.0/16"}],"Subnets":[{"SubnetId":"subnet-a","VpcId":"vpc-1","AvailabilityZone":"us-east-1a"},{"SubnetId":"subnet-b","VpcId":"vpc-1","AvailabilityZone":"us-east-1a"}],"NetworkInterfaces":[{"NetworkInterfaceId":"eni-a","SubnetId":"subnet-a","PrivateIpAddress":"10.0.1.10","Groups":[{"GroupId":"sg-a"}]},{"NetworkInterfaceId":"eni-b","SubnetId":"subnet-b","PrivateIpAddress":"10.0.2.20","Groups":[{"GroupId":"sg-b"}]}],"RouteTables":[{"RouteTableId":"rtb-1","VpcId":"vpc-1","Associations":[{"Main":true}],"Routes":[{"DestinationCidrBlock":"10.0.0.0/16","GatewayId":"local","State":"active"}]}],"NetworkAcls":[{"NetworkAclId":"acl-1","Associations":[{"SubnetId":"subnet-a"},{"SubnetId":"subnet-b"}],"Entries":[{"RuleNumber":100,"Egress":false,"Protocol":"-1","RuleAction":"allow","CidrBlock":"0.0.0.0/0"},{"RuleNumber":100,"Egress":true,"Protocol":"-1","RuleAction":"allow","CidrBlock":"0.0.0.0/0"}]}],"SecurityGroups":[{"GroupId":"sg-a","VpcId":"vpc-1","IpPermissions":[],"IpPermissionsEgress":[{"IpProtocol":"-1","IpRanges":[{"CidrIp":"0.0.0.0/0"}]}]},{"GroupId":"sg-b","VpcId":"vpc-1","IpPermissions":[{"IpProtocol":"tcp","FromPort":443,"ToPort":443,"UserIdGroupPairs":[{"GroupId":"sg-a"}]}],"IpPermissionsEgress":[]}]}"#,
-            "NotJson",
-        ),
         // a rule row whose direction is a text
         (
             r#"{"Vpcs":[{"VpcId":"vpc-1","CidrBlock":"10.0.0.0/16"}],"Subnets":[{"SubnetId":"subnet-a","VpcId":"vpc-1","AvailabilityZone":"us-east-1a"},{"SubnetId":"subnet-b","VpcId":"vpc-1","AvailabilityZone":"us-east-1a"}],"NetworkInterfaces":[{"NetworkInterfaceId":"eni-a","SubnetId":"subnet-a","PrivateIpAddress":"10.0.1.10","Groups":[{"GroupId":"sg-a"}]},{"NetworkInterfaceId":"eni-b","SubnetId":"subnet-b","PrivateIpAddress":"10.0.2.20","Groups":[{"GroupId":"sg-b"}]}],"RouteTables":[{"RouteTableId":"rtb-1","VpcId":"vpc-1","Associations":[{"Main":true}],"Routes":[{"DestinationCidrBlock":"10.0.0.0/16","GatewayId":"local","State":"active"}]}],"NetworkAcls":[{"NetworkAclId":"acl-1","Associations":[{"SubnetId":"subnet-a"},{"SubnetId":"subnet-b"}],"Entries":[{"RuleNumber":100,"Egress":false,"Protocol":"-1","RuleAction":"allow","CidrBlock":"0.0.0.0/0"},{"RuleNumber":100,"Egress":true,"Protocol":"-1","RuleAction":"allow","CidrBlock":"0.0.0.0/0"}]}],"SecurityGroups":[{"GroupId":"sg-a","VpcId":"vpc-1","IpPermissions":[],"IpPermissionsEgress":[{"IpProtocol":"-1","IpRanges":[{"CidrIp":"0.0.0.0/0"}]}]},{"GroupId":"sg-b","VpcId":"vpc-1","IpPermissions":[{"IpProtocol":"tcp","FromPort":443,"ToPort":443,"UserIdGroupPairs":[{"GroupId":"sg-a"}]}],"IpPermissionsEgress":[]}],"SecurityGroupRules":[{"SecurityGroupRuleId":"sgr-1","GroupId":"sg-b","IsEgress":"no","IpProtocol":"tcp","FromPort":443,"ToPort":443,"ReferencedGroupInfo":{"GroupId":"sg-a"}}]}"#,
@@ -300,89 +274,6 @@ fn tells_faults_of_fields(rt: HostRuntime) -> Result<(), Fail> {
     ];
     for (file, cause) in cases {
         refuses(&rt, rt.alloc(), file, cause)?;
-    }
-    Ok(())
-}
-
-// A bundle of one VPC, with so many of a row between these.
-fn many(alloc: Global, before: &str, row: &str, count: u32, after: &str) -> Result<String, Fail> {
-    let mut all = String::from_str(alloc, before)?;
-    for k in 0..count {
-        let comma = if k == 0 { "" } else { "," };
-        write!(all, "{comma}{row}")?;
-    }
-    all.push_str(after)?;
-    Ok(all)
-}
-
-#[test]
-fn counts_what_a_rule_names(rt: HostRuntime) -> Result<(), Fail> {
-    let before =
-        r#"{"Vpcs":[{"VpcId":"vpc-1","CidrBlock":"10.0.0.0/16"}],"SecurityGroups":[{"GroupId":"sg-a","VpcId":"vpc-1","IpPermissions":[{"IpProtocol":"tcp","IpRanges":["#;
-    let range = r#"{"CidrIp":"10.0.0.0/8"}"#;
-    let after = "]}]}]}";
-    let cases = [
-        (100_000, None),
-        (100_001, Some("TooManyRows SecurityGroups")),
-    ];
-    for (count, cause) in cases {
-        let file = many(rt.alloc(), before, range, count, after)?;
-        tells(&rt, rt.alloc(), file.as_bytes(), cause)?;
-    }
-    Ok(())
-}
-
-// So many interfaces without an address: a file of several megabytes.
-fn interfaces(alloc: Global, count: u32, after: &str) -> Result<String, Fail> {
-    let before =
-        r#"{"Vpcs":[{"VpcId":"vpc-1","CidrBlock":"10.0.0.0/16"}],"Subnets":[{"SubnetId":"subnet-a","VpcId":"vpc-1","AvailabilityZone":"us-east-1a"}],"RouteTables":[{"RouteTableId":"rtb-1","VpcId":"vpc-1","Associations":[{"Main":true}]}],"NetworkAcls":[{"NetworkAclId":"acl-1","Associations":[{"SubnetId":"subnet-a"}]}],"NetworkInterfaces":["#;
-    let mut all = String::from_str(alloc, before)?;
-    for k in 0..count {
-        let comma = if k == 0 { "" } else { "," };
-        write!(
-            all,
-            "{comma}{{\"NetworkInterfaceId\":\"eni-{k}\",\"SubnetId\":\"subnet-a\"}}"
-        )?;
-    }
-    all.push_str(after)?;
-    Ok(all)
-}
-
-#[test]
-fn reads_large_bundles(rt: HostRuntime) -> Result<(), Fail> {
-    let cases = [
-        ("]}", None),
-        (
-            r#",{"NetworkInterfaceId":"eni-39999","SubnetId":"subnet-a"}]}"#,
-            Some("DuplicateId eni-39999"),
-        ),
-        (
-            r#",{"NetworkInterfaceId":"eni-40000","SubnetId":"subnet-b"}]}"#,
-            Some("MissingReference eni-40000 subnet-b"),
-        ),
-    ];
-    for (after, cause) in cases {
-        let file = interfaces(rt.alloc(), 40_000, after)?;
-        tells(&rt, rt.alloc(), file.as_bytes(), cause)?;
-    }
-    Ok(())
-}
-
-// A file of blanks after an empty bundle.
-fn blanks(alloc: Global, count: usize) -> Result<Vec<u8>, Fail> {
-    let mut all = vec![in alloc; b' '; count]?;
-    if let [first, second, ..] = all.as_mut_slice() {
-        *first = b'{';
-        *second = b'}';
-    }
-    Ok(all)
-}
-
-#[test]
-fn refuses_files_past_the_limit(rt: HostRuntime) -> Result<(), Fail> {
-    let alloc = rt.alloc();
-    for (count, cause) in [(67_108_864, None), (67_108_865, Some("TooBig"))] {
-        tells(&rt, alloc, blanks(alloc, count)?.as_slice(), cause)?;
     }
     Ok(())
 }

@@ -12,7 +12,7 @@ use std::test::Fail;
 use vpc_io::{MemoryShelf, MemorySink};
 
 // A text in place of another one, which stands there.
-type Change = (&'static str, &'static str);
+pub type Change = (&'static str, &'static str);
 
 // What is answered: the packet of a request that gets through; a report of one row, whose box is that of
 // the query; or all lines.
@@ -31,7 +31,12 @@ struct Row {
     want: Want,
 }
 
-fn changed(rt: &impl Abort, alloc: Global, file: &str, changes: &[Change]) -> Result<String, Fail> {
+pub fn changed(
+    rt: &impl Abort,
+    alloc: Global,
+    file: &str,
+    changes: &[Change],
+) -> Result<String, Fail> {
     let mut all = String::from_str(alloc, file)?;
     for (from, to) in changes {
         assert!(rt; all.as_str().contains(*from), "{from}");
@@ -147,7 +152,7 @@ end 1
 ];
 
 // The second subnet has an ACL of its own, which lets answers out to high ports alone.
-const OWN_ACL: [Change; 2] = [
+pub const OWN_ACL: [Change; 2] = [
     (r#",{"SubnetId":"subnet-b"}],"Entries""#, r#"],"Entries""#),
     (
         r#""NetworkAcls":["#,

@@ -1,21 +1,11 @@
 // Packets that come one after another: the lines of an events file, the status, and the lines of the answer.
 use super::walks::{BEHIND_NAT, TWO_SUBNETS};
-use super::{sink_of, words_of};
+use super::{sink_of, two_files, words_of};
 use crate::commands::run;
 use std::alloc::Global;
 use std::process::Abort;
 use std::test::Fail;
 use vpc_io::{MemoryShelf, MemorySink};
-
-// A shelf with a bundle and a file of events, which fails at the call with this number.
-fn shelf_of(alloc: Global, bundle: &str, events: &[u8], failing: u64) -> Result<MemoryShelf, Fail> {
-    let mut files = Vec::new(alloc);
-    files.push((b"o.json".to_vec(alloc)?, bundle.as_bytes().to_vec(alloc)?))?;
-    files.push((b"ev.txt".to_vec(alloc)?, events.to_vec(alloc)?))?;
-    let mut numbers = Vec::new(alloc);
-    numbers.push(failing)?;
-    Ok(MemoryShelf::of(files, numbers))
-}
 
 fn replays(
     rt: &impl Abort,
@@ -25,8 +15,9 @@ fn replays(
     code: u8,
     text: &str,
 ) -> Result<(), Fail> {
-    let words = words_of(alloc, "replay o.json ev.txt")?;
-    let mut shelf = shelf_of(alloc, bundle, events.as_bytes(), 0)?;
+    let words = words_of(alloc, "replay o.json second.txt")?;
+    let files = two_files(alloc, bundle.as_bytes(), events.as_bytes())?;
+    let mut shelf = MemoryShelf::of(files, Vec::new(alloc));
     let mut out = sink_of(alloc, 0, 4096)?;
     let status = run(alloc, words.as_slice(), &mut shelf, &mut out);
     assert_eq!(rt; out.bytes(), text.as_bytes(), "{events}");
@@ -166,62 +157,13 @@ fn counts_lines(rt: HostRuntime) -> Result<(), Fail> {
     )
 }
 
-// The words, the call of the shelf that fails, the status and the text.
-#[test]
-fn refuses_second_files(rt: HostRuntime) -> Result<(), Fail> {
-    let alloc = rt.alloc();
-    let rows = [
-        ("replay", 0, 2, "refused words 2\n"),
-        ("replay o.json", 0, 2, "refused words 3\n"),
-        ("replay o.json ev.txt more", 0, 2, "refused words 4\n"),
-        ("replay o.json -", 0, 2, "refused words 3\n"),
-        ("replay o.json ev.txt", 1, 6, "read fault 1\n"),
-        ("replay o.json ev.txt", 2, 6, "read fault 2\n"),
-        ("replay o.json none.txt", 0, 6, "read fault 2\n"),
-        ("replay none.json none.txt", 0, 6, "read fault 1\n"),
-        // the bundle comes first
-        (
-            "replay ev.txt none.txt",
-            0,
-            3,
-            "refused description NotJson\n",
-        ),
-        // one file as both
-        ("replay o.json o.json", 0, 4, "refused events 1\n"),
-    ];
-    for (line, failing, code, text) in rows {
-        let words = words_of(alloc, line)?;
-        let mut shelf = shelf_of(alloc, BEHIND_NAT, OPEN.as_bytes(), failing)?;
-        let mut out = sink_of(alloc, 0, 4096)?;
-        let status = run(alloc, words.as_slice(), &mut shelf, &mut out);
-        assert_eq!(rt; out.bytes(), text.as_bytes(), "{line}");
-        assert_eq!(rt; status.code(), code, "{line}");
-    }
-    Ok(())
-}
-
-#[test]
-fn refuses_events_past_the_limit(rt: HostRuntime) -> Result<(), Fail> {
-    let alloc = rt.alloc();
-    for (count, cause) in [(67_108_864, "1"), (67_108_865, "TooBig")] {
-        let events = vec![in alloc; b'\n'; count]?;
-        let words = words_of(alloc, "replay o.json ev.txt")?;
-        let mut shelf = shelf_of(alloc, BEHIND_NAT, events.as_slice(), 0)?;
-        let mut out = sink_of(alloc, 0, 4096)?;
-        let status = run(alloc, words.as_slice(), &mut shelf, &mut out);
-        let text = format!(in alloc; "refused events {cause}\n")?;
-        assert_eq!(rt; out.bytes(), text.as_bytes());
-        assert_eq!(rt; status.code(), 4);
-    }
-    Ok(())
-}
-
 // Nothing is written where there is no event, so a sink that fails at its first write doesn't matter.
 #[test]
 fn writes_nothing_for_no_event(rt: HostRuntime) -> Result<(), Fail> {
     let alloc = rt.alloc();
-    let words = words_of(alloc, "replay o.json ev.txt")?;
-    let mut shelf = shelf_of(alloc, BEHIND_NAT, b"", 0)?;
+    let words = words_of(alloc, "replay o.json second.txt")?;
+    let files = two_files(alloc, BEHIND_NAT.as_bytes(), b"")?;
+    let mut shelf = MemoryShelf::of(files, Vec::new(alloc));
     let mut out = sink_of(alloc, 1, 4096)?;
     let status = run(alloc, words.as_slice(), &mut shelf, &mut out);
     assert_eq!(rt; status.code(), 0);
@@ -246,8 +188,9 @@ fn full_gateway(alloc: Global) -> Result<String, Fail> {
 fn a_gateway_keeps_55_000_translations(rt: HostRuntime) -> Result<(), Fail> {
     let alloc = rt.alloc();
     let events = full_gateway(alloc)?;
-    let words = words_of(alloc, "replay o.json ev.txt")?;
-    let mut shelf = shelf_of(alloc, BEHIND_NAT, events.as_bytes(), 0)?;
+    let words = words_of(alloc, "replay o.json second.txt")?;
+    let files = two_files(alloc, BEHIND_NAT.as_bytes(), events.as_bytes())?;
+    let mut shelf = MemoryShelf::of(files, Vec::new(alloc));
     let mut out = MemorySink::of(alloc, Vec::new(alloc), 8_388_608, 8_388_608)?;
     let status = run(alloc, words.as_slice(), &mut shelf, &mut out);
     assert_eq!(rt; status.code(), 0);

@@ -1,12 +1,11 @@
 use Rattle.vpc_cli.specs.Replayed as replays
-use Rattle.vpc_cli.proofs.AnswerLemmas.{if_ok, if_ok_two}
+use Rattle.vpc_cli.proofs.AnswerLemmas.{if_ok}
 use Rattle.vpc_cli.proofs.replays.replay_bytes.Goals as goal
 
 pub returns-in-Ok : goal.returns-in-Ok
 returns-in-Ok c =
-    let read = rw c.as_slice.ensures.value at c.replay_events.ensures.text in
-    if_ok_two _ _ _ c.replay_events.result (λ a status text. replays.replayed c.in-Ok.events.items c.in-Ok.ensures.events status text)
-    c.replay_events.ensures.status read
+    let played = rw c.as_slice.ensures.value at c.answer_job.ensures in
+    if_ok _ _ c.answer_job.result (λ a are. replays.replayed c.in-Ok.events.items c.in-Ok.ensures.events are) played
 
 pub returns-in-Err-BadLine : goal.returns-in-Err-BadLine
 returns-in-Err-BadLine c =

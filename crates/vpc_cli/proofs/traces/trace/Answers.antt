@@ -1,14 +1,12 @@
 use Rattle.std.proofs.Common.{map, string_bytes}
 use Rattle.query_words.specs.Packet.{packet_of}
 use Rattle.vpc_cli.specs.Traced as traces
-use Rattle.vpc_cli.proofs.AnswerLemmas.{if_ok_two}
+use Rattle.vpc_cli.proofs.AnswerLemmas.{if_ok, if_ok_two}
 use Rattle.query_words.proofs.EventLemmas.{refused_if_told}
-use Rattle.vpc_cli.proofs.TraceLemmas.{traced_if_walked}
 use Rattle.vpc_cli.proofs.traces.trace.Goals as goal
 
 pub returns-in-Ok : goal.returns-in-Ok
-returns-in-Ok c =
-    traced_if_walked c.walk_event.result c.args.network (map string_bytes c.args.words.now) c.in-Ok.event c.in-Ok.ensures.answer c.walk_event.ensures.status c.walk_event.ensures.text
+returns-in-Ok c = if_ok _ _ c.answer_job.result (λ a walked. traces.walked c.in-Ok.event c.in-Ok.ensures.answer walked) c.answer_job.ensures
 
 pub returns-in-Err : goal.returns-in-Err
 returns-in-Err c =
