@@ -235,7 +235,7 @@ TEXTS = [
     ("64 MiB of blanks", lambda: " " * LIMIT, "refused"), ("64 MiB of `[`", lambda: "[" * LIMIT, "refused"), ("one string", lambda: '"' + "x" * (LIMIT - 2) + '"', "refused"),
     ("one number", lambda: "1" * LIMIT, "refused"), ("one fraction", lambda: "[0." + "3" * (LIMIT - 4) + "]", "refused"),
     ("a string of escapes", accounts.TEXTS["escapes"], "accepted"), ("a string of escaped quotes", lambda: '{"Note":"' + '\\"' * ((LIMIT - 11) // 2) + '"}', "accepted"),
-    ("arrays nested 120 deep", accounts.TEXTS["deep"], "accepted"), ("arrays nested 126 deep", lambda: accounts.filled('{"Note":[', "[" * 125 + "]" * 125, "]}"), "accepted"),
+    ("JSON nested 122 deep", accounts.TEXTS["deep"], "accepted"), ("JSON nested 127 deep", lambda: accounts.filled('{"Note":[', "[" * 125 + "]" * 125, "]}"), "accepted"),
     ("one member again and again", lambda: accounts.filled("{", '"Note":1', "}"), "accepted"),
     ("members of one object", lambda: "{" + ",".join(f'"{k}":1' for k in range(5_000_000)) + "}", "accepted"),
 ]

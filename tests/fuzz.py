@@ -244,7 +244,6 @@ OWN_ACL = (b'{"NetworkAclId":"acl-b","Associations":[{"SubnetId":"subnet-b"}],"E
            b'{"RuleNumber":100,"Egress":true,"Protocol":"6","PortRange":{"From":32768,"To":65535},"RuleAction":"allow","CidrBlock":"0.0.0.0/0"}]},')
 REPLACEMENTS = (*b"0123456789 -.\n\r\0az\xff",)
 BITS = tuple(1 << k for k in range(8))
-WAYS = len(REPLACEMENTS) + len(BITS) + 2
 
 
 @functools.lru_cache(maxsize=1)
@@ -255,24 +254,26 @@ def two_reports():
     return (own, TWO_ROWS), (behind, ASKED)
 
 
+@functools.lru_cache(maxsize=1)
+def damaged():
+    """The bundles with each text of their reports in which one byte is removed, doubled or another one."""
+    found = []
+    for bundle, text in two_reports():
+        texts = {}
+        for k, old in enumerate(text):
+            for new in (b"", bytes([old] * 2), *(bytes([old ^ bit]) for bit in BITS), *(bytes([n]) for n in REPLACEMENTS)):
+                texts[text[:k] + new + text[k + 1 :]] = None
+        del texts[text]
+        found += [(bundle, other) for other in texts]
+    return found
+
+
 class Damaged:
-    """A report in which one byte is removed, doubled or replaced."""
+    """A check of a damaged report."""
 
     def __init__(self, _machine, _seed, number):
-        self.rng = random.Random(number)
-        for bundle, text in two_reports():
-            self.bundle, self.words = bundle, [b"check", b"b.json", b"s.txt"]
-            if number < len(text) * WAYS:
-                k, way = divmod(number, WAYS)
-                old = text[k : k + 1]
-                new = [b"", old + old, *(bytes([old[0] ^ bit]) for bit in BITS), *(bytes([n]) for n in REPLACEMENTS)][way]
-                self.second = text[:k] + new + text[k + 1 :]
-                return
-            number -= len(text) * WAYS
-
-    @staticmethod
-    def count():
-        return sum(len(text) for _, text in two_reports()) * WAYS
+        self.rng, self.words = random.Random(number), [b"check", b"b.json", b"s.txt"]
+        self.bundle, self.second = damaged()[number]
 
 
 # ---- what must hold
@@ -514,7 +515,7 @@ def main():
     kind, program = (Damaged if told.damage else Case), os.path.abspath(told.program)
     if told.only is not None:
         sys.exit(run_one(kind, program, told.seed, told.only))
-    cases = told.cases or (Damaged.count() if told.damage else 10_000)
+    cases = told.cases or (len(damaged()) if told.damage else 10_000)
     sys.exit(1 if run_all(kind, program, told.seed, cases) else 0)
 
 
