@@ -4,6 +4,7 @@ pub mod Numbers
 pub mod Listed
 pub mod Kept
 pub mod Found
+pub mod Shared
 pub mod Cut
 pub mod Ends
 pub mod Fullest

@@ -1,5 +1,5 @@
 -- The order of headers.
-use Rattle.std.proofs.Common.{◌≡◌, refl, ap, ◌∙◌}
+use Rattle.std.proofs.Common.{◌≡◌, refl, ap, is_lt, not, true, ◌∙◌}
 use Rattle.std.specs.Ordering.{ordering_reverse}
 use Rattle.std.specs.declared.cmp.Ordering.{Ordering}
 use Rattle.std.specs.declared.cmp.Ordering.TheVariants.{Less, Equal, Greater}
@@ -18,3 +18,8 @@ not_before_trans a b c not_ab not_bc before = by (order_of b a) refl
 
 pub not_before_itself : (a : Header) → ¬ (IsBefore a a)
 not_before_itself a before = let e = order_of_total.antisymm a a in let f = ap ordering_reverse before in cc
+
+pub not_less : (o : Ordering) → not (is_lt o) ≡ true → o ≡ Less → ⊥
+not_less Less t e = cc
+not_less Equal t e = cc
+not_less Greater t e = cc

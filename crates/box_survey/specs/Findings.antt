@@ -1,5 +1,5 @@
 -- What is found of boxes in the cells that were looked at.
-use Rattle.std.specs.Prelude.{◌≡◌, ◌<◌, ◌≤◌, ◌⊎◌, IfSome, IsSome, IsSomeAnd, List, false, true, ℕ}
+use Rattle.std.specs.Prelude.{◌≡◌, ◌<◌, ◌≤◌, ◌⊎◌, Contains, IfSome, IsSome, IsSomeAnd, List, Option, false, true, ℕ}
 use Rattle.vpc_base.specs.Header.{IsBefore}
 use Rattle.vpc_base.specs.declared.headers.Header.{Header}
 use Rattle.std.specs.List.{list_any}
@@ -34,6 +34,15 @@ pub record AreNoGreater (old new : Findings) : Type 0 where
 pub record AreLeast (whole : Box5) (boxes : List Box5) (cell : Box5) (found : Findings) : Type 0 where
   pub overlaps : (h : Header) (a b : ℕ) → holds h cell ≡ true → a < b → HoldsAt boxes a h → HoldsAt boxes b h → IsSomeAnd found.least (λ k. k ≤ a)
   pub uncovered : (h : Header) → holds h cell ≡ true → IsUncovered whole boxes h → IsSome found.least ⊎ IsSomeAnd found.outside (λ k. ¬ IsBefore h k)
+
+-- none of the cell's headers comes before the uncovered one that is found
+abbrev pub IsPast : Findings → Box5 → Type 0
+IsPast found cell = (h : Header) → holds h cell ≡ true → IsSomeAnd found.outside (λ k. ¬ IsBefore h k)
+
+-- the first of these numbers whose box shares a header with that of a later one of them, if there is one
+pub record IsFirstSharing (boxes : List Box5) (numbers : List ℕ) (found : Option ℕ) : Type 0 where
+  pub later : IfSome found (OverlapsLater boxes)
+  pub least : (a b : ℕ) → a < b → Contains numbers a → Contains numbers b → ShareAt boxes a b → IsSomeAnd found (λ k. k ≤ a)
 
 -- what a look at a cell adds to what was found
 pub record IsSurveyed (whole : Box5) (boxes : List Box5) (cell : Box5) (old new : Findings) : Type 0 where

@@ -2,11 +2,14 @@
 ghost use Rattle.std.specs.Prelude.{◌≡◌, true, [], IfOk, MatchOption, OnOk, filter};
 ghost use Rattle.box_survey.specs.Cells.{AreCandidates, AreMeeting, meets_at};
 ghost use Rattle.box_survey.specs.Cuts.{IsCutOf};
-ghost use Rattle.box_survey.specs.Findings.{AreThere, IsSurveyed};
+ghost use Rattle.std.specs.List.Sorted.{IsStrictlyIncreasing};
+ghost use Rattle.header_boxes.specs.declared.boxes.Box5.{Box5 as Box};
+ghost use Rattle.box_survey.specs.Findings.{AreThere, IsPast, IsSurveyed};
 
 use crate::cuts::cut_of;
 use crate::findings::Findings;
 use crate::numbered::meets_at;
+use crate::pairs::first_sharing;
 use crate::sides::{Cut, halves};
 use header_boxes::Box5;
 use std::alloc::{AllocError, Global};
@@ -38,6 +41,21 @@ fn find_gap(whole: &Box5, boxes: &[Box5], cell: &Box5, found: &mut Findings)
     }
 }
 
+// So many boxes, or fewer, are compared with each other rather than cut, where no uncovered header matters: all pairs
+// of them take less time than the cuts of boxes that are long in different directions.
+const FEW: usize = 64;
+
+// What is found of a cell with few boxes, of which no uncovered header matters.
+fn compare(boxes: &[Box5], numbers: &[u32], found: &mut Findings)
+    requires { IsStrictlyIncreasing numbers.now }
+    ensures { (whole cell : Box) → AreMeeting boxes.now cell numbers.now → AreThere whole boxes.now found.old → IsPast found.old cell
+        → IsSurveyed whole boxes.now cell found.old found.new }
+{
+    if let Some(number) = first_sharing(boxes, numbers) {
+        found.add_overlap(number);
+    }
+}
+
 // What is found of a cell that needs no cut; of another one the cut.
 fn settle(
     alloc: Global,
@@ -59,6 +77,10 @@ fn settle(
     if found.has_up_to(*first) {
         return Ok(None);
     }
+    if numbers.len() <= FEW && found.is_past(cell) {
+        compare(boxes, numbers, found);
+        return Ok(None);
+    }
     let cut = cut_of(alloc, boxes, cell, numbers)?;
     if cut.is_none() && numbers.len() > 1 {
         found.least = Some(*first);
@@ -67,7 +89,8 @@ fn settle(
 }
 
 /// Looks at all headers of a cell. A cell whose first box has a number that isn't below that of an overlap found
-/// before is left at once, since the first uncovered header no longer matters then.
+/// before is left at once, since the first uncovered header no longer matters then. Nor does it in a cell that begins
+/// after one that was found.
 pub fn survey_cell(
     alloc: Global,
     whole: &Box5,

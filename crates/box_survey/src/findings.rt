@@ -3,7 +3,9 @@ ghost use Rattle.std.specs.Prelude.{◌≡◌, ◌≤◌, ◌⊎◌, IsTrue, IfS
 ghost use Rattle.std.specs.Prelude.{◌↔◌};
 ghost use Rattle.vpc_base.specs.Header.{IsBefore};
 ghost use Rattle.header_boxes.specs.Boxes.{IsValid};
+ghost use Rattle.box_survey.specs.Findings.{IsPast};
 
+use header_boxes::Box5;
 use vpc_base::Header;
 
 /// The least number of a box that shares a header with a later one, and, while none is found, the first
@@ -35,6 +37,29 @@ impl Findings {
             None => false,
             Some(least) => least <= number,
         }
+    }
+
+    /// Whether an uncovered header is found that none of the cell comes before.
+    pub fn is_past(&self, cell: &Box5) -> bool
+        requires { IsValid cell.now }
+        ensures { IsTrue result → IsPast self.now cell.now }
+    {
+        match self.outside {
+            None => false,
+            Some(h) => !cell.low().order(&h).is_lt(),
+        }
+    }
+
+    /// One more number of a box that shares a header with a later one.
+    pub fn add_overlap(&mut self, number: u32)
+        ensures least { IsSomeAnd self.new.least (λ k. (k ≤ number) × ((k ≡ number) ⊎ (self.old.least ≡ Some k))) }
+        ensures upto_found { IfSome self.old.least (λ i. IsSomeAnd self.new.least (λ k. k ≤ i)) }
+        ensures outside { self.new.outside ≡ self.old.outside }
+    {
+        self.least = Some(match self.least {
+            None => number,
+            Some(least) => least.min(number),
+        });
     }
 
     /// One more header of the whole in no box.

@@ -6,6 +6,7 @@ mod cuts;
 mod findings;
 mod hull;
 mod numbered;
+mod pairs;
 mod sides;
 mod survey;
 #[cfg(test)]

@@ -72,12 +72,12 @@ fn next_sharing(boxes: &[Box5], number: u32) -> u32
 
 /// What is found of boxes in a whole, also where they overlap outside it.
 ///
-/// A box that holds all of them is cut in two again and again, until a box holds the whole cell or none has
-/// a header in it. A cell costs time and four bytes for each box that has a header in it, and each half has
-/// at most nine tenths of its ends, so that the depth grows with the logarithm of the count. Boxes side by
-/// side, in a grid, nested or in a chain take n log n steps: for 20,000 some 600,000 looks at a box. Disjoint
-/// boxes that are long in different directions are cut more often: where 20,000 sticks point in three
-/// directions, in 12 million cells.
+/// A box that holds all of them is cut in two again and again, until a box holds the whole cell, none has a header in it,
+/// or few do and an uncovered header before it is found. A cell costs time and four bytes for each box that has a
+/// header in it, and each half has at most nine tenths of its ends, so that the depth grows with the logarithm of the
+/// count. Boxes side by side, in a grid, nested or in a chain take n log n steps: for 20,000 some 600,000 looks at a
+/// box. Disjoint boxes that are long in different directions are cut more often: 20,000 sticks in three directions take
+/// 14 million looks, 20,000 plates in ten 34 million.
 pub fn surveyed(alloc: Global, whole: &Box5, boxes: &[Box5]) -> Result<Survey, NoMemory>
     requires whole { IsValid whole.now }
     requires boxes { All IsValid boxes.now }

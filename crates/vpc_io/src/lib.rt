@@ -1,7 +1,8 @@
-//! The outside: where files come from and where text goes, as traits, with devices in memory and over
-//! the system.
+//! The outside: where words and files come from and where text goes; files and text as traits, with
+//! devices in memory and over the system.
 #![tactic(auto)]
 
+mod command_line;
 mod file_shelf;
 mod memory_shelf;
 mod memory_sink;
@@ -9,6 +10,7 @@ mod shelf;
 mod sink;
 mod write_sink;
 
+pub use command_line::words_of;
 pub use file_shelf::FileShelf;
 pub use memory_shelf::{MemoryShelf, SafeShelf};
 pub use memory_sink::{CountSink, MemorySink};

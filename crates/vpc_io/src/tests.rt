@@ -1,14 +1,15 @@
-// What no clause says: that calls succeed with ample memory, and what the system's files and writers
-// do.
+// What no clause says: that calls succeed with ample memory, and what the system's words, files and
+// writers do.
 ghost use Rattle.std.specs.Prelude.{◌≡◌, IsOk};
 ghost use Rattle.vpc_io.specs.Rose.{Rose};
 
 use crate::file_shelf::read_up_to;
 use crate::{
     CountSink, FileShelf, MemoryShelf, MemorySink, SafeShelf, Shelf, ShelfFault, WriteFailed,
-    WriteSink, put_all,
+    WriteSink, put_all, words_of,
 };
 use std::alloc::{AllocError, Global};
+use std::env::{Env, FillError};
 use std::io::Read;
 use std::test::Fail;
 use std::{fs, io};
@@ -105,6 +106,59 @@ fn writes_to_memory(rt: HostRuntime) -> Result<(), Fail> {
         assert_eq!(rt; sink.bytes(), held.as_bytes(), "{failing} {piece} {room}");
     }
     assert_eq!(rt; count_text(b"0123456789"), Ok(()));
+    Ok(())
+}
+
+// The arguments of a process, the first of which is its name.
+#[derive(Drop)]
+struct Arguments(&'static [&'static [u8]]);
+
+impl Env for Arguments {
+    fn arg(&self, i: usize, buf: &mut [u8]) -> Result<usize, FillError> {
+        let Some(word) = self.0.get(i) else {
+            return Err(FillError::NotPresent);
+        };
+        if word.len() > buf.len() {
+            return Err(FillError::TooLong);
+        }
+        buf[..word.len()].copy_from_slice(word);
+        Ok(word.len())
+    }
+
+    fn var(&self, _name: &str, _buf: &mut [u8]) -> Result<usize, FillError> {
+        Err(FillError::NotPresent)
+    }
+
+    fn var_at(&self, _i: usize, _buf: &mut [u8]) -> Result<usize, FillError> {
+        Err(FillError::NotPresent)
+    }
+}
+
+// The words of a command line, each with a blank after it.
+fn read_words(alloc: Global, arguments: &'static [&'static [u8]]) -> io::Result<String> {
+    let mut all = String::new(alloc);
+    for word in words_of(alloc, &Arguments(arguments))? {
+        write!(all, "{word} ")?;
+    }
+    Ok(all)
+}
+
+#[test]
+fn reads_words_after_the_name(rt: HostRuntime) -> Result<(), Fail> {
+    let alloc = rt.alloc();
+    assert_eq!(rt; read_words(alloc, &[])?.as_str(), "");
+    assert_eq!(rt; read_words(alloc, &[b"\xff"])?.as_str(), "");
+    assert_eq!(rt;
+        read_words(alloc, &[b"vpc", b"make", b"3"])?.as_str(),
+        "make 3 "
+    );
+    // Bytes that aren't UTF-8, the first half of a letter, and the letter.
+    assert_eq!(rt;
+        read_words(alloc, &[b"vpc", b"a\xff", b"\xc3", b"\xc3\xa4"])?.as_str(),
+        "  \u{e4} "
+    );
+    // Longer than a buffer that is tried first.
+    assert_eq!(rt; read_words(alloc, &[b"vpc", &[b'x'; 3000]])?.len(), 3001);
     Ok(())
 }
 

@@ -1,6 +1,7 @@
 use Rattle.std.proofs.Common.{refl, not, arith, ap, sym, ◌∙◌}
 use Rattle.box_survey.proofs.Listed.{differ}
 use Rattle.box_survey.proofs.Found.{if_none, if_some, surveyed_before, surveyed_covered, surveyed_overlap}
+use Rattle.box_survey.proofs.Numbers.{valid_if_first_meets}
 use Rattle.box_survey.proofs.cells.settle.Goals as goal
 use Rattle.box_survey.proofs.cells.settle.Goals.{else-is_none-via-then-is_none+else-numbers-gt1, else-is_none-via-else-is_none}
 
@@ -8,6 +9,12 @@ pub returns-then-has_up_to : goal.returns-then-has_up_to
 returns-then-has_up_to c =
     surveyed_before c.args.whole.now c.args.boxes.now c.args.cell.now c.args.numbers.now c.in-Some.first.now c.args.found.now c.requires.numbers
     (sym c.in-Some.ensures.value) c.requires.there (c.has_up_to.ensures.0 c.if-has_up_to.true)
+
+pub is_past-requires : goal.is_past-requires
+is_past-requires c = valid_if_first_meets c.args.boxes.now c.args.cell.now c.args.numbers.now c.in-Some.first.now c.requires.numbers (sym c.in-Some.ensures.value)
+
+pub returns-then-is_past : goal.returns-then-is_past
+returns-then-is_past c = c.compare.ensures c.args.whole.now c.args.cell.now c.requires.numbers c.requires.there (c.is_past.ensures c.if-is_past.true)
 
 pub returns-then-numbers-gt1 : goal.returns-then-numbers-gt1
 returns-then-numbers-gt1 c =
