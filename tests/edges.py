@@ -7,8 +7,8 @@ and of one byte more, in either place; with files that are missing, are folders,
 takes nothing, a part, or a byte at a time; and with little memory. The status and the standard output are compared with what
 README says, and standard error is to be empty. Prints each difference.
 
-Status 8 is reached by a limit on memory and by words that aren't UTF-8. That memory is refused while the words are read is
-not reached here: the program is too small then to be started at all.
+Status 8 is reached by a limit on memory. That memory is refused while the words are read is not reached here, since the
+program is too small then to be started at all: refused_memory.py does it.
 """
 
 import json
@@ -156,8 +156,10 @@ def odd_words():
     trace, long = WHOLE["trace"], "x" * 100_000
     for name in ANSWER:
         for k in (0, 1, len(WHOLE[name]) - 1):
-            yield (f"{name} with a byte 255 as word {k + 1}", [*WHOLE[name][:k], b"\xff", *WHOLE[name][k + 1:]], 8, "", {})
-    yield ("half of a letter", [*trace[:4], b"eni-\xc3", *trace[5:]], 8, "", {})
+            yield (f"{name} with a byte 255 as word {k + 1}", [*WHOLE[name][:k], b"\xff", *WHOLE[name][k + 1:]], 2, f"refused words {k + 1}\n", {})
+    yield ("half of a letter", [*trace[:4], b"eni-\xc3", *trace[5:]], 2, "refused words 5\n", {})
+    yield ("the first of two that aren't UTF-8", [trace[0], b"\xff", b"\xff"], 2, "refused words 2\n", {})
+    yield ("a program's name that isn't UTF-8", trace, 0, HOPS, {"name": b"\xff"})
     yield ("a word that isn't ASCII", [*trace[:4], "eni-\u00e4", *trace[5:]], 4, "refused packet UnknownId 5\n", {})
     yield ("a long word", [*trace[:4], long, *trace[5:]], 4, "refused packet UnknownId 5\n", {})
     yield ("a long command", [long], 2, "refused words 1\n", {})
@@ -300,7 +302,7 @@ def slowly(end):
     return b"".join(pieces)
 
 
-def ran(words, out=None, prepare=None, given=None, unread=None, read_slowly=False):
+def ran(words, out=None, prepare=None, given=None, unread=None, read_slowly=False, name=None):
     """The status, the standard output (None where it is read by nobody) and the standard error of a run."""
     to, end = subprocess.PIPE, None
     if out:
@@ -310,7 +312,7 @@ def ran(words, out=None, prepare=None, given=None, unread=None, read_slowly=Fals
     if unread is not None:
         os.close(end)
         prepare = lambda: signal.signal(signal.SIGPIPE, unread)
-    child = subprocess.Popen([PROGRAM, *words], stdin=subprocess.PIPE if given else subprocess.DEVNULL, stdout=to, stderr=subprocess.PIPE,
+    child = subprocess.Popen([name or PROGRAM, *words], executable=PROGRAM, stdin=subprocess.PIPE if given else subprocess.DEVNULL, stdout=to, stderr=subprocess.PIPE,
                              preexec_fn=prepare)
     if to != subprocess.PIPE:
         os.close(to)

@@ -104,8 +104,19 @@ fn boxes_that_are_disjoint(rt: HostRuntime) -> Result<(), Fail> {
 
 #[test]
 fn boxes_that_overlap(rt: HostRuntime) -> Result<(), Fail> {
-    let cases: [(&[Box5], Survey); 6] = [
+    let cases: [(&[Box5], Survey); 7] = [
         (&[ports(80, 200), ports(200, 443)], Survey::Overlap(0, 1)),
+        // behind a hole, and the least of two pairs there
+        (
+            &[
+                ports(85, 86),
+                ports(410, 420),
+                ports(300, 310),
+                ports(310, 400),
+                ports(420, 443),
+            ],
+            Survey::Overlap(1, 4),
+        ),
         (&[WHOLE, WHOLE, WHOLE], Survey::Overlap(0, 1)),
         (
             &[ports(80, 80), ports(90, 95), ports(85, 89), ports(95, 99)],

@@ -1,27 +1,25 @@
 -- What a search answers about the stops of requests is a report about their verdicts.
-use Rattle.std.proofs.Common.{◌≡◌, ◌∙◌, ◌<◌, Err, IfOk, List, None, Ok, Option, Result, Some, ap, refl, subst, sym, true, ℕ}
+use Rattle.std.proofs.Common.{◌∙◌, ◌<◌, Err, IfOk, List, None, Ok, Option, Result, Some, subst, sym, ℕ}
 use Rattle.std.specs.Global.{Vec}
-use Rattle.std.specs.Prelude.{option_map, slice_index_or}
+use Rattle.std.specs.Prelude.{slice_index_or}
 use Rattle.std.proofs.lemmas.List.{length-map}
 use Rattle.header_boxes.proofs.Held.{holds_low, valid_if_within}
 use Rattle.header_boxes.specs.Boxes.{low_of}
 use Rattle.header_boxes.specs.Rows.{AreTrueRows, IsFirst, IsFirstThrough, NoneThrough}
 use Rattle.header_boxes.specs.declared.rows.Row.{Row}
 use Rattle.block_report.specs.Reports.{HaveText, told_row, told_rows}
-use Rattle.box_walk.specs.Asking.{asked, stop_of, word_of}
+use Rattle.box_walk.proofs.Texts.{ending_of-stop, stop_told}
+use Rattle.box_walk.specs.Asking.{asked, word_of}
 use Rattle.ordered_cover.specs.Cover.{IsBlocked, IsMore}
 use Rattle.query_words.specs.declared.queries.Query.{Query}
 use Rattle.vpc_laws.proofs.Telling.{verdicts_are_told}
-use Rattle.vpc_laws.specs.Sound.{IsTold}
-use Rattle.vpc_laws.specs.Types.{Description, Header, Phase, Stop, StopText, Verdict}
+use Rattle.vpc_laws.specs.Types.{Description, Header, Phase, Stop, StopText}
 use Rattle.vpc_model.specs.Accepted.{IsAccepted}
 use Rattle.vpc_model.specs.Appliances.{appliances_of}
 use Rattle.vpc_model.specs.Cuts.{cuts_of}
-use Rattle.vpc_model.specs.Report.{IsCellCount, ending_of}
-use Rattle.vpc_model.specs.Sound.{has_text}
+use Rattle.vpc_model.specs.Report.{IsCellCount}
 use Rattle.vpc_model.specs.Told.{told_stop}
 use Rattle.vpc_model.specs.Verdict.{verdict_of}
-use Rattle.vpc_model.specs.declared.outcomes.Verdict.TheVariants as verdicts
 use Rattle.network_reach.proofs.Told.{Tells, begun_told, first_told, none_through_told, ordered_told, outside_told, true_told, whole_told}
 use Rattle.network_reach.specs.Reached.{IsPartReportIn, IsQueryIn, IsReached, IsReportIn, meaning_in}
 use Rattle.network_reach.specs.declared.reach.Reached.TheVariants as answers
@@ -34,28 +32,17 @@ stops_of d query = word_of (asked d query.start query.goal)
 abbrev tell : Description → Phase × Stop → StopText
 tell d x = told_stop d x.0 x.1
 
-ending_of-stop : (d : Description) (v : Verdict) → ending_of d v ≡ option_map (tell d) (stop_of v)
-ending_of-stop d verdicts.Through = refl
-ending_of-stop d (verdicts.Stopped phase s) = refl
-
 tells : (d : Description) (query : Query) → Tells (tell d) (stops_of d query) (meaning_in d query) query.sides
 tells d query h held = ending_of-stop d (verdict_of d (appliances_of d) query.start query.goal h)
 
 -- ---- each stop has a text
-
-verdict-text : (d : Description) (v : Verdict) (x : Phase × Stop) → IsTold d v → stop_of v ≡ Some x → has_text d x.1 ≡ true
-verdict-text d verdicts.Through x told is = absurd (cc)
-verdict-text d (verdicts.Stopped phase s) x told is = let same : s ≡ x.1 = ap-stop phase s x is in subst (λ (t : Stop). has_text d t ≡ true) same told
-  where
-    ap-stop : (phase : Phase) (s : Stop) (x : Phase × Stop) → stop_of (verdicts.Stopped phase s) ≡ Some x → s ≡ x.1
-    ap-stop phase s x is = let pair : (phase, s) ≡ x = cc in ap (λ (p : Phase × Stop). p.1) pair
 
 have-text : (d : Description) (query : Query) (rows : List (Row (Phase × Stop))) → IsAccepted d → IsQueryIn d query
     → AreTrueRows (stops_of d query) query.sides rows → HaveText d rows
 have-text d query rows accepted asked are = λ k none below.
     let row = slice_index_or rows k none in
     let low = low_of row.part in
-    verdict-text d (verdict_of d (appliances_of d) query.start query.goal low) row.word
+    stop_told d (verdict_of d (appliances_of d) query.start query.goal low) row.word
     (verdicts_are_told d (appliances_of d) query.start query.goal low accepted asked.start asked.goal)
     (are.word k none below low (holds_low row.part (valid_if_within row.part query.sides (are.within k none below))))
 

@@ -1,12 +1,12 @@
 -- What a survey of the rows' boxes tells of the rows.
-use Rattle.std.proofs.Common.{◌+◌, ◌-◌, ◌<◌, ◌≡◌, ◌≤◌, ◌∙◌, List, None, Option, Some, arith, length, refl, subst, sym, true, ℕ}
-use Rattle.std.specs.Prelude.{All, AllPairs, IsSomeAnd, slice_get, slice_index_or}
+use Rattle.std.proofs.Common.{◌+◌, ◌-◌, ◌<◌, ◌≡◌, ◌≤◌, ◌∙◌, List, arith, length, subst, sym, ℕ}
+use Rattle.std.specs.Prelude.{All, AllPairs, slice_index_or}
 use Rattle.std.specs.List.{list_any}
 use Rattle.std.proofs.lemmas.List.{get_or-map, length-map}
 use Rattle.std.proofs.lemmas.List.Elements.{All-map}
-use Rattle.std.proofs.lemmas.Option.{slice_get_within}
 use Rattle.address_sets.proofs.Blocks.{list_any-map}
-use Rattle.box_survey.specs.Survey.{HoldAll, HoldsAt, IsFirstUncovered, IsLeastOverlap}
+use Rattle.box_survey.proofs.Numbers.{number_below}
+use Rattle.box_survey.specs.Survey.{HoldAll, IsFirstUncovered, IsLeastOverlap}
 use Rattle.header_boxes.proofs.Held.{valid_if_within}
 use Rattle.header_boxes.specs.Boxes.{AreDisjoint, IsValid, IsWithin, holds}
 use Rattle.header_boxes.specs.Rows.{AreWhole, IsFirstOutside, is_covered}
@@ -52,16 +52,9 @@ outside_if_uncovered whole rows h is = record {
 
 -- ---- rows that share a header
 
-held-below : (boxes : List Box5) (i : ℕ) (h : Header) → HoldsAt boxes i h → i < length boxes
-held-below boxes i h at = at-some (slice_get boxes i) refl at
-  where
-    at-some : (o : Option Box5) → slice_get boxes i ≡ o → IsSomeAnd o (λ (b : Box5). holds h b ≡ true) → i < length boxes
-    at-some None is at = absurd at
-    at-some (Some b) is at = slice_get_within boxes i b is
-
-pub overlap-few : (rows : List (Row StopText)) (i j : ℕ) → length rows ≤ row_limit → IsLeastOverlap (boxes_of rows) i j → j + 1 ≤ 20000
+pub overlap-few : (rows : List (Row StopText)) (i j : ℕ) → length rows ≤ row_limit → IsLeastOverlap (boxes_of rows) i j → j + 1 ≤ row_limit
 overlap-few rows i j few is =
-    let below : j < length (boxes_of rows) = held-below (boxes_of rows) j is.share.header is.share.second in
+    let below : j < length (boxes_of rows) = number_below (boxes_of rows) j is.share.header is.share.second in
     omega (arith, length-boxes rows)
 
 pub pair_if_overlap : (rows : List (Row StopText)) (i j : ℕ) → IsLeastOverlap (boxes_of rows) i j → IsLeastPair rows (i + 1) (j + 1)

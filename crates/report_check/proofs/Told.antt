@@ -5,17 +5,15 @@ use Rattle.std.proofs.lemmas.Slice.Eq.{bytes_eq-Decides}
 use Rattle.header_boxes.proofs.Held.{holds_low, valid_if_within}
 use Rattle.header_boxes.specs.Boxes.{IsWithin, holds, low_of}
 use Rattle.block_report.specs.Walks.{name_text}
-use Rattle.box_walk.proofs.Texts.{words_have_texts}
-use Rattle.box_walk.specs.Asking.{IsAsking, asked, stop_of, word_of}
+use Rattle.box_walk.proofs.Texts.{ending_of-stop, words_have_texts}
+use Rattle.box_walk.specs.Asking.{IsAsking, asked, word_of}
 use Rattle.report_reader.proofs.Spelling.{name_text_tells}
-use Rattle.vpc_laws.specs.Types.{Box5, Description, End, Header, Phase, Stop, StopName, StopText, Verdict}
+use Rattle.vpc_laws.specs.Types.{Box5, Description, End, Header, Phase, Stop, StopName, StopText}
 use Rattle.vpc_model.specs.Accepted.{IsAccepted}
 use Rattle.vpc_model.specs.Appliances.{appliances_of}
-use Rattle.vpc_model.specs.Report.{ending_of}
 use Rattle.vpc_model.specs.Sound.{has_text}
 use Rattle.vpc_model.specs.Verdict.{verdict_of}
 use Rattle.vpc_model.specs.declared.outcomes.Phase.TheVariants as phases
-use Rattle.vpc_model.specs.declared.outcomes.Verdict.TheVariants as verdicts
 use Rattle.report_check.specs.Agreement.{agreed, agreement_of, is_phase, is_text, told_of}
 
 -- ---- tests
@@ -99,10 +97,6 @@ agreed-some text None some = absurd (some refl)
 agreed-some text (Some told) some = ap Some (sym (text_tells text told (if_some (is_text text told) some)))
 
 -- ---- what is told of the headers of a part
-
-ending_of-stop : (d : Description) (v : Verdict) → ending_of d v ≡ told_of d (stop_of v)
-ending_of-stop d verdicts.Through = refl
-ending_of-stop d (verdicts.Stopped phase s) = refl
 
 -- it is told by the text, or isn't, of all of them
 pub agreement_of-part : (d : Description) (start goal : End) (text : StopText) (part : Box5) (word : Option (Phase × Stop))

@@ -68,6 +68,10 @@ pub data IsDue (words : List (List ℕ)) (told : List ℕ → Option (List ℕ))
   of_bytes : (command : Mode) (bytes : List ℕ) → command_of words ≡ Ok command → has_file command ≡ true → IfTold (told (file_name words)) (λ b. b ≡ bytes) → length bytes ≤ file_limit
       → IsDueForBytes command words told failed bytes status text → IsDue words told failed status text
 
+-- one pair of a status and a text, and no other
+abbrev pub only : Status → List ℕ → Status → List ℕ → Type 0
+only status text s t = (s ≡ status) × (t ≡ text)
+
 -- the whole text of a due pair with this status was added, or writing failed after a proper prefix of a due text
 pub data IsAnswer (due : Status → List ℕ → Type 0) (old new : Option (List ℕ)) (failed : Type 0) (status : Status) : Type 0 where
   whole : (text : List ℕ) → due status text → new ≡ with_text old text → IsAnswer due old new failed status

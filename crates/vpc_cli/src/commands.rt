@@ -1,12 +1,31 @@
 // The top call.
 ghost use Rattle.std.specs.Prelude.{◌≡◌, map, string_bytes};
 ghost use Rattle.vpc_io.specs.Rose.{Rose};
-ghost use Rattle.vpc_cli.specs.Due.{IsAnswer, IsComplete, IsDue, ReadFailed};
+ghost use Rattle.vpc_cli.specs.Due.{IsAnswer, IsComplete, IsDue, ReadFailed, memory_text, only};
 
 use crate::answers::answer_to;
 use crate::status::Status;
 use std::alloc::Global;
 use vpc_io::{Shelf, Sink, put_all};
+
+// Writes a whole answer, and answers its status, or that writing failed.
+fn put_answer<O: Sink>(out: &mut O, status: Status, text: &[u8]) -> Status
+    ensures { IsAnswer (only status text.now)
+        (O.held out.old) (O.held out.new) (Rose (O.faults out.old) (O.faults out.new)) result }
+{
+    match put_all(out, text) {
+        Ok(()) => status,
+        Err(_) => Status::Write,
+    }
+}
+
+/// Answers that memory was refused.
+pub fn refuse_memory<O: Sink>(out: &mut O) -> Status
+    ensures { IsAnswer (only Status.Memory memory_text)
+        (O.held out.old) (O.held out.new) (Rose (O.faults out.old) (O.faults out.new)) result }
+{
+    put_answer(out, Status::Memory, b"want of memory\n")
+}
 
 /// Answers the words of a command: builds its whole text, and then writes it.
 ///
@@ -25,13 +44,7 @@ pub fn run<S: Shelf, O: Sink>(alloc: Global, words: &[String], shelf: &mut S, ou
     ensures write_only_where_faults_rose { result ≡ Status.Write → Rose (O.faults out.old) (O.faults out.new) }
 {
     match answer_to(alloc, words, shelf) {
-        Ok(answer) => match put_all(out, answer.text.as_slice()) {
-            Ok(()) => answer.status,
-            Err(_) => Status::Write,
-        },
-        Err(_) => match put_all(out, b"want of memory\n") {
-            Ok(()) => Status::Memory,
-            Err(_) => Status::Write,
-        },
+        Ok(answer) => put_answer(out, answer.status, answer.text.as_slice()),
+        Err(_) => refuse_memory(out),
     }
 }

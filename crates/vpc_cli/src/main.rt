@@ -18,24 +18,21 @@ mod tests;
 mod traces;
 mod words;
 
-use commands::run;
+use commands::{refuse_memory, run};
+use std::io;
 use std::process::ExitCode;
-use std::{env, io};
-use vpc_io::{FileShelf, WriteSink};
-
-fn words_of(rt: &HostRuntime) -> io::Result<Vec<String>> {
-    let mut all = Vec::new(rt.alloc());
-    for word in env::args(rt)?.skip(1) {
-        all.push(word)?;
-    }
-    Ok(all)
-}
+use vpc_io::{FileShelf, WriteSink, words_of};
 
 fn main(rt: HostRuntime) -> ExitCode {
-    let Ok(words) = words_of(&rt) else {
-        return ExitCode::from(8);
-    };
-    let mut shelf = FileShelf::of(&rt);
     let mut out = WriteSink::of(io::writer(&rt));
-    ExitCode::from(run(rt.alloc(), words.as_slice(), &mut shelf, &mut out).code())
+    let status = match words_of(rt.alloc(), &rt) {
+        Ok(words) => run(
+            rt.alloc(),
+            words.as_slice(),
+            &mut FileShelf::of(&rt),
+            &mut out,
+        ),
+        Err(_) => refuse_memory(&mut out),
+    };
+    ExitCode::from(status.code())
 }

@@ -143,6 +143,8 @@ fn read_words(alloc: Global, arguments: &'static [&'static [u8]]) -> io::Result<
     Ok(all)
 }
 
+const MANY: [&[u8]; 50] = [b"vpc"; 50];
+
 #[test]
 fn reads_words_after_the_name(rt: HostRuntime) -> Result<(), Fail> {
     let alloc = rt.alloc();
@@ -157,6 +159,7 @@ fn reads_words_after_the_name(rt: HostRuntime) -> Result<(), Fail> {
         read_words(alloc, &[b"vpc", b"a\xff", b"\xc3", b"\xc3\xa4"])?.as_str(),
         "  \u{e4} "
     );
+    assert_eq!(rt; read_words(alloc, &MANY)?.len(), 49 * 4);
     // Longer than a buffer that is tried first.
     assert_eq!(rt; read_words(alloc, &[b"vpc", &[b'x'; 3000]])?.len(), 3001);
     Ok(())
