@@ -1,7 +1,7 @@
 #!/bin/sh
 # Tests of the launcher, over a small checkout of its own and a stand-in for rt: nothing is proved, and it takes some
 # seconds. The last line is 'N passed, M failed'.
-unset CDPATH VPC_QUIET VPC_JOBS VPC_WAIT
+unset CDPATH VPC_QUIET VPC_JOBS VPC_WAIT VPC_PROVE
 here=$(cd -- "$(dirname -- "$0")" && pwd)
 room=$(mktemp -d)
 trap 'chmod -R u+w "$room"; rm -rf "$room"' EXIT
@@ -275,6 +275,65 @@ sleep 1
 start "$stand_in" env VPC_WAIT=1 VPC_QUIET=1 "$room/long/vpc" b
 fits 'waited long' "$status $out $err" '125  vpc: another build *'
 wait
+
+# A program that a gate made of these sources is taken, with no kit too, and said so once.
+prebuild() {
+    mkdir -p "$1/prebuilt"
+    gzip -9n <"$1/out/vpc" >"$1/prebuilt/vpc.gz"
+    cp "$1/out/stamp" "$1/prebuilt/stamp"
+    rm -rf "$1/out" "$1"/crates/*/out
+}
+checkout "$room/prebuilt"
+start "$stand_in" env VPC_QUIET=1 "$room/prebuilt/vpc" x
+prebuild "$room/prebuilt"
+settle
+start "$no_kit" "$room/prebuilt/vpc" x
+is 'prebuilt, no kit' "$status $out" "0 one $PWD x"
+is 'prebuilt: one line' "$(wc -l <"$room/err")" 1
+fits 'prebuilt: words' "$err" 'vpc: took the program of prebuilt/, which stand-in 1 made *'
+start "$no_kit" "$room/prebuilt/vpc" y
+is 'prebuilt, once more' "$status $out $err" "0 one $PWD y "
+rm -rf "$room/prebuilt/out"
+start "$stand_in" "$room/prebuilt/vpc" x
+is 'prebuilt, the same kit: nothing is built' "$status $out $calls" "0 one $PWD x rt version"
+
+# It is proved and built here where that is asked for, once.
+start "$stand_in" env VPC_PROVE=1 "$room/prebuilt/vpc" x
+fits 'prebuilt, proved here' "$status $out $calls" "0 one $PWD x *rt all check*"
+start "$stand_in" env VPC_PROVE=1 "$room/prebuilt/vpc" x
+is 'proved here already' "$(grep -c 'all check' "$CALLS")" 0
+start "$stand_in" "$room/prebuilt/vpc" x
+is 'proved here, and then not asked for' "$status $out $err" "0 one $PWD x "
+rm -rf "$room/prebuilt/out"
+start "$stand_in" env VPC_PROVE=1 "$room/prebuilt/vpc" x
+fits 'prebuilt passed over from the start' "$status $out $calls" "0 one $PWD x *rt all check*"
+rm -rf "$room/prebuilt/out"
+
+# One of other sources, of another kit, damaged, or with no gzip isn't.
+no_gzip=$room/no-gzip
+mkdir "$no_gzip"
+for it in awk chmod cmp cp cut date find grep head mkdir mv nproc readlink rm sed sha256sum sh sort xargs cat; do
+    ln -s "$(command -v $it)" "$no_gzip/$it"
+done
+start "$no_gzip" "$room/prebuilt/vpc" x
+fits 'no gzip' "$status $out $err" '125  vpc: *no rt in PATH*'
+start "$stand_in" env KIT='stand-in 2' "$room/prebuilt/vpc" x
+fits 'prebuilt by another kit' "$status $out $calls" "0 one $PWD x *rt all check*"
+rm -rf "$room/prebuilt/out"
+cp "$room/prebuilt/prebuilt/vpc.gz" "$room/whole.gz"
+head -c 40 "$room/whole.gz" >"$room/prebuilt/prebuilt/vpc.gz"
+start "$no_kit" "$room/prebuilt/vpc" x
+fits 'prebuilt cut short' "$status $out $err" '125  vpc: *no rt in PATH*'
+echo 'echo another' | gzip -9n >"$room/prebuilt/prebuilt/vpc.gz"
+start "$no_kit" "$room/prebuilt/vpc" x
+fits 'another prebuilt program' "$status $out $err" '125  vpc: *no rt in PATH*'
+is 'what was unpacked is gone' "$(ls "$room/prebuilt/out")" ''
+cp "$room/whole.gz" "$room/prebuilt/prebuilt/vpc.gz"
+echo two >"$room/prebuilt/crates/vpc_cli/src/main.rt"
+start "$no_kit" "$room/prebuilt/vpc" x
+fits 'prebuilt of other sources' "$status $out $err" '125  vpc: *no rt in PATH*'
+start "$stand_in" "$room/prebuilt/vpc" x
+fits 'prebuilt of other sources, with a kit' "$status $out $calls" "0 two $PWD x *rt all check*"
 
 # On a terminal one line moves.
 if command -v script >/dev/null; then

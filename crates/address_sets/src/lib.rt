@@ -2,7 +2,5 @@
 #![tactic(auto)]
 
 mod sets;
-#[cfg(test)]
-mod tests;
 
 pub use sets::{AddressSet, Run};

@@ -91,9 +91,15 @@ fn sort(runs: &mut Vec<Run>)
 }
 
 /// A set of addresses. Contracts see its runs: each has an address, and they ascend with gaps between.
-#[derive(Debug, Drop)]
 pub struct AddressSet {
     runs: Vec<Run>,
+}
+
+impl Drop for AddressSet {
+    fn drop(self) {
+        let AddressSet { runs } = self;
+        drop(runs);
+    }
 }
 
 impl Model for AddressSet {

@@ -80,9 +80,15 @@ pub fn appliances_of(
 }
 
 /// The kinds of the described appliances, in their order. Contracts see their list.
-#[derive(Drop)]
 pub struct Kinds {
     kinds: Vec<ApplianceKind>,
+}
+
+impl Drop for Kinds {
+    fn drop(self) {
+        let Kinds { kinds } = self;
+        drop(kinds);
+    }
 }
 
 impl Model for Kinds {

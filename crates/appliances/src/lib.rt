@@ -12,6 +12,3 @@ pub use deciders::{Decide, Deciders};
 pub use described::{Kinds, appliances_of};
 pub use kinds::{kind_boxes, kind_passes};
 pub use laws::boxes_are_standing;
-
-#[cfg(test)]
-mod tests;

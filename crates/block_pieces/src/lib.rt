@@ -6,8 +6,6 @@ mod laws;
 mod pieces;
 mod rows;
 mod sweep;
-#[cfg(test)]
-mod tests;
 
 pub use laws::{best_is_told, blocks_are_nested, told_is_best};
 pub use pieces::pieces_of;

@@ -3,7 +3,7 @@ use prefix_text::Prefix;
 
 /// A block whose addresses are told a number. Of several blocks that hold an address the one with the
 /// least rank counts, and of equal ranks the one with the least number.
-#[derive(Clone, Copy, Debug)]
+#[derive(Clone, Copy)]
 pub struct BlockRow {
     pub block: Prefix,
     /// Smaller is better. Ranks may be in any order: a block may be better or worse than those around it.

@@ -7,7 +7,7 @@ use crate::BlockRow;
 use std::alloc::{AllocError, Global};
 
 /// What a block tells, and its rank among others.
-#[derive(Clone, Copy, Debug)]
+#[derive(Clone, Copy)]
 pub struct Tells {
     pub rank: u64,
     pub row: u32,
@@ -15,14 +15,13 @@ pub struct Tells {
 
 /// A block that the walk came into: its last address, and the best of what it and the blocks around it
 /// tell.
-#[derive(Clone, Copy, Debug)]
+#[derive(Clone, Copy)]
 pub struct Open {
     pub last: u32,
     pub best: Tells,
 }
 
 /// How far a walk came.
-#[derive(Drop)]
 pub struct Sweep {
     /// The address.
     pub at: u32,
@@ -30,6 +29,17 @@ pub struct Sweep {
     pub next: usize,
     /// The blocks around the address, each within the one before it.
     pub around: Vec<Open>,
+}
+
+impl Drop for Sweep {
+    fn drop(self) {
+        let Sweep {
+            at: _,
+            next: _,
+            around,
+        } = self;
+        drop(around);
+    }
 }
 
 /// By the first address, and blocks that begin together by their lengths. So a block comes after those

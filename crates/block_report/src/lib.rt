@@ -23,6 +23,3 @@ pub use words::{
     put, put_addr_word, put_end, put_header, put_header_line, put_header_word, put_line,
     put_number_line, put_number_word, put_word,
 };
-
-#[cfg(test)]
-mod tests;

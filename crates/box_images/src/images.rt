@@ -13,7 +13,7 @@ use vpc_base::Header;
 
 /// What a walk makes of each header of a box of requests: five fields, each of them a constant or a
 /// field of the request.
-#[derive(Clone, Copy, Debug, PartialEq, Eq)]
+#[derive(Clone, Copy, PartialEq, Eq)]
 pub struct Image {
     pub part: Box5,
     pub proto: Field,
@@ -25,7 +25,7 @@ pub struct Image {
 
 /// An answer, and the requests that it holds for: a part of those that were asked about, with their
 /// low corner.
-#[derive(Clone, Copy, Debug, PartialEq, Eq)]
+#[derive(Clone, Copy, PartialEq, Eq)]
 pub struct Part<T> {
     pub body: Box5,
     pub told: T,

@@ -8,8 +8,6 @@ mod images;
 mod laws;
 mod narrow;
 mod sides;
-#[cfg(test)]
-mod tests;
 mod translate;
 
 pub use fields::{Field, Side};

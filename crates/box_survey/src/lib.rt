@@ -9,7 +9,5 @@ mod numbered;
 mod pairs;
 mod sides;
 mod survey;
-#[cfg(test)]
-mod tests;
 
 pub use survey::{Survey, surveyed};

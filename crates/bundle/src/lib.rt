@@ -11,6 +11,3 @@ mod refusal;
 
 pub use reader::{network_of, read_bundle, read_json};
 pub use refusal::BundleRefusal;
-
-#[cfg(test)]
-mod tests;

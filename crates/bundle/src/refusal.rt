@@ -6,7 +6,7 @@ use json_fields::{FieldFault, PathText};
 use vpc_model::Refusal;
 
 /// Why a bundle describes no network. Only the first cause is told.
-#[derive(Debug, Drop)]
+#[derive(Drop)]
 pub enum BundleRefusal {
     /// The bytes are not one JSON value in UTF-8, or it is nested more than 127 deep.
     NotJson,

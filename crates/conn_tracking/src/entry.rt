@@ -14,7 +14,7 @@ use vpc_model::EniNo;
 
 /// An open that passed the security groups of an interface in a direction. Contracts see it as the
 /// model's `Connection`.
-#[derive(Clone, Copy, Debug)]
+#[derive(Clone, Copy)]
 pub struct Entry {
     pub eni: EniNo,
     pub dir: Dir,

@@ -16,13 +16,24 @@ use vpc_model::EniNo;
 ///
 /// Only `reserve` takes memory. A look-up among n connections takes some log n steps, and a step for each
 /// connection that was added after the latest `reserve`, whatever addresses and ports they have.
-#[derive(Drop)]
 pub struct GrowingConns {
     list: Vec<Entry>,
     // The first `count` ones of the list. They are sorted, not hashed: whoever writes a file of events
     // chooses its addresses and ports, and could choose ones that a hash of a fixed seed throws together.
     known: BTreeSet<Entry>,
     count: usize,
+}
+
+impl Drop for GrowingConns {
+    fn drop(self) {
+        let GrowingConns {
+            list,
+            known,
+            count: _,
+        } = self;
+        drop(list);
+        drop(known);
+    }
 }
 
 impl Model for GrowingConns {

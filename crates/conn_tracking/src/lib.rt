@@ -16,8 +16,3 @@ pub use on_images::{ImageEntry, tracked_on};
 pub use replies::{answers_on, reply_on};
 pub use small::SmallConns;
 pub use tracker::Tracker;
-
-#[cfg(test)]
-mod box_tests;
-#[cfg(test)]
-mod tests;

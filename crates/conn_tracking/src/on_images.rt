@@ -13,7 +13,7 @@ use vpc_model::EniNo;
 
 /// An open that passed the security groups of an interface in a direction, for each request of a
 /// box.
-#[derive(Clone, Copy, Debug)]
+#[derive(Clone, Copy)]
 pub struct ImageEntry {
     pub eni: EniNo,
     pub dir: Dir,

@@ -9,7 +9,7 @@ use vpc_base::{Dir, Header};
 use vpc_model::EniNo;
 
 /// Up to 128 connections, without memory: a walk of 64 places and the walk of its answer add no more.
-#[derive(Debug, Drop)]
+#[derive(Drop)]
 pub struct SmallConns {
     entries: ArrayVec<Entry, 128>,
 }

@@ -9,7 +9,7 @@ use ordered_cover::Probe;
 use std::cell::Cell;
 
 /// A cell of a grid: the numbers, from 0, of its piece of p and of its piece of q.
-#[derive(Clone, Copy, Debug, PartialEq, Eq)]
+#[derive(Clone, Copy, PartialEq, Eq)]
 pub struct Place {
     pub p: u16,
     pub q: u16,

@@ -5,7 +5,5 @@ mod ascending;
 mod cuts;
 mod gathered;
 mod rows;
-#[cfg(test)]
-mod tests;
 
 pub use cuts::{cells_in, cuts_of};

@@ -69,10 +69,17 @@ fn parts_of(owner: Option<Owner>) -> Option<(VpcNo, u32)>
 }
 
 /// The public addresses of a network.
-#[derive(Drop)]
 pub struct AddressMaps {
     pub publics: NumberTable<u32>,
     pub owners: NumberTable<Owner>,
+}
+
+impl Drop for AddressMaps {
+    fn drop(self) {
+        let AddressMaps { publics, owners } = self;
+        drop(publics);
+        drop(owners);
+    }
 }
 
 impl AddressMaps {

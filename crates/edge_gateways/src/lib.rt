@@ -10,8 +10,6 @@ mod maps;
 mod pairs;
 mod peerings;
 mod sides;
-#[cfg(test)]
-mod tests;
 mod vpcs;
 
 pub use internet::{unroutable, unroutable_on};

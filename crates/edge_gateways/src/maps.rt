@@ -12,10 +12,20 @@ use vpc_model::{PeerNo, VpcNo};
 
 /// The public addresses of a network, the blocks of its VPCs, and the sides of its peerings. Contracts see
 /// these lists, and `of` says what the description has in their place.
-#[derive(Drop)]
 pub struct EdgeMaps {
     addresses: AddressMaps,
     peerings: PeeringMaps,
+}
+
+impl Drop for EdgeMaps {
+    fn drop(self) {
+        let EdgeMaps {
+            addresses,
+            peerings,
+        } = self;
+        drop(addresses);
+        drop(peerings);
+    }
 }
 
 impl Model for EdgeMaps {

@@ -10,14 +10,14 @@ use std::alloc::{AllocError, Global};
 use vpc_model::VpcNo;
 
 /// Whose a public address is: a VPC, and a private address in it.
-#[derive(Clone, Copy, Debug, PartialEq, Eq)]
+#[derive(Clone, Copy, PartialEq, Eq)]
 pub struct Owner {
     pub vpc: VpcNo,
     pub own: u32,
 }
 
 /// A public address with its owner.
-#[derive(Clone, Copy, Debug, Drop)]
+#[derive(Clone, Copy, Drop)]
 pub struct Pair {
     pub owner: Owner,
     pub public: u32,

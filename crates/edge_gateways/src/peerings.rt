@@ -30,10 +30,17 @@ pub enum Carry {
 }
 
 /// The addresses of each VPC's blocks, and the sides of each peering.
-#[derive(Drop)]
 pub struct PeeringMaps {
     pub blocks: Vec<AddressSet>,
     pub sides: Vec<Option<Sides>>,
+}
+
+impl Drop for PeeringMaps {
+    fn drop(self) {
+        let PeeringMaps { blocks, sides } = self;
+        drop(blocks);
+        drop(sides);
+    }
 }
 
 fn is_one_of(sides: Option<Sides>, v: VpcNo) -> bool

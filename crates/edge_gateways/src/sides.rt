@@ -7,7 +7,7 @@ use std::alloc::{AllocError, Global};
 use vpc_model::{Id, Peering, VpcNo};
 
 /// The two VPCs of an active peering.
-#[derive(Clone, Copy, Debug, PartialEq, Eq)]
+#[derive(Clone, Copy, PartialEq, Eq)]
 pub struct Sides {
     pub one: VpcNo,
     pub other: VpcNo,

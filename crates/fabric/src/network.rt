@@ -24,7 +24,6 @@ use vpc_base::NoMemory;
 use vpc_model::{AclNo, EniNo, NatNo, TableNo};
 
 // What lets packets pass, and what leads them on.
-#[derive(Drop)]
 struct Indexes {
     acls: Vec<AclIndex>,
     groups: GroupIndex,
@@ -33,6 +32,27 @@ struct Indexes {
     transit: TransitIndex,
     nats: NumberTable<NatNo>,
     hosts: NumberTable<EniNo>,
+}
+
+impl Drop for Indexes {
+    fn drop(self) {
+        let Indexes {
+            acls,
+            groups,
+            routes,
+            edges,
+            transit,
+            nats,
+            hosts,
+        } = self;
+        drop(acls);
+        drop(groups);
+        drop(routes);
+        drop(edges);
+        drop(transit);
+        drop(nats);
+        drop(hosts);
+    }
 }
 
 impl Model for Indexes {
@@ -123,13 +143,18 @@ impl Indexes {
     }
 }
 
-fn let_go(_network: Network) {}
-
 /// An accepted network with the indexes of everything that a walk asks. Contracts see its description.
-#[derive(Drop)]
 pub struct Fabric {
     network: Network,
     indexes: Indexes,
+}
+
+impl Drop for Fabric {
+    fn drop(self) {
+        let Fabric { network, indexes } = self;
+        drop(network);
+        drop(indexes);
+    }
 }
 
 impl Model for Fabric {
@@ -159,10 +184,7 @@ impl Fabric {
                 network: n,
                 indexes,
             }),
-            Err(no_memory) => {
-                let_go(n);
-                Err(no_memory)
-            }
+            Err(no_memory) => Err(no_memory),
         }
     }
 

@@ -11,12 +11,21 @@ use std::marker::Model;
 
 /// Where the sides of boxes may be divided: a cut c divides between c minus 1 and c. The cuts of
 /// addresses are those of sources and of destinations.
-#[derive(Debug, Drop)]
 pub struct Cuts {
     pub proto: Vec<u32>,
     pub addr: Vec<u32>,
     pub p: Vec<u32>,
     pub q: Vec<u32>,
+}
+
+impl Drop for Cuts {
+    fn drop(self) {
+        let Cuts { proto, addr, p, q } = self;
+        drop(proto);
+        drop(addr);
+        drop(p);
+        drop(q);
+    }
 }
 
 impl Model for Cuts {

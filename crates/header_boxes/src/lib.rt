@@ -7,8 +7,6 @@ mod laws;
 mod products;
 mod rest;
 mod rows;
-#[cfg(test)]
-mod tests;
 
 pub use boxes::Box5;
 pub use division::{Cuts, aligned, cells};

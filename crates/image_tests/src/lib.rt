@@ -6,8 +6,6 @@ mod boxes;
 mod pieces;
 mod rules;
 mod sets;
-#[cfg(test)]
-mod tests;
 
 pub use boxes::box_on;
 pub use pieces::piece_on;

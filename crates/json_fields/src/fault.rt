@@ -8,7 +8,7 @@ use std::alloc::{AllocError, AllocFailed, Global};
 use vpc_base::NoMemory;
 
 /// Why a value of a bundle could not be read. Only the first fault of a bundle is told.
-#[derive(Debug, Drop)]
+#[derive(Drop)]
 pub enum FieldFault {
     /// The value at the path is of another JSON kind than the form has there, or it is absent and
     /// must be there.

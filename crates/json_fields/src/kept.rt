@@ -22,9 +22,15 @@ pub fn those_there<T: Drop>(alloc: Global, all: Vec<Option<T>>) -> Result<Vec<T>
 }
 
 /// Ids that were seen so far, in order.
-#[derive(Debug, Drop)]
 pub struct SeenIds {
     ids: IndexSet<Vec<u8>>,
+}
+
+impl Drop for SeenIds {
+    fn drop(self) {
+        let SeenIds { ids } = self;
+        drop(ids);
+    }
 }
 
 impl Model for SeenIds {

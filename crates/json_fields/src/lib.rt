@@ -25,6 +25,3 @@ pub use needed::{addr_at, flag_at, prefix_at, str_at};
 pub use parts::{addr_if_within, has_text, id_if_within, id_within, str_if_within, str_within};
 pub use path::{Path, PathText};
 pub use rows::{ReadRow, read_items, read_kept_items, read_kept_list, read_list};
-
-#[cfg(test)]
-mod tests;

@@ -103,7 +103,7 @@ fn with_member(mut text: String, field: &str) -> Result<String, NoMemory>
 }
 
 /// The text of a path, as `Vpcs[0].CidrBlock`. Rows count from 0 in the joined list of their name.
-#[derive(Debug, Drop)]
+#[derive(Drop)]
 pub struct PathText {
     text: String,
 }

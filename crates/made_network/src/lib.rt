@@ -8,8 +8,6 @@ mod laws;
 mod lists;
 mod network;
 mod rows;
-#[cfg(test)]
-mod tests;
 
 pub use laws::is_accepted;
 pub use network::made_network;

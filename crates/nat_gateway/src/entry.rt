@@ -11,7 +11,7 @@ use vpc_base::Header;
 use vpc_model::NatNo;
 
 /// An open that a NAT gateway sent out, before and after it. Contracts see it as the model's `Translation`.
-#[derive(Clone, Copy, Debug)]
+#[derive(Clone, Copy)]
 pub struct NatEntry {
     pub nat: NatNo,
     pub before: Header,

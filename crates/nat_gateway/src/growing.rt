@@ -21,13 +21,29 @@ use vpc_model::NatNo;
 /// Only `reserve` takes memory, in proportion to the translations, whatever they go to. A look-up among n translations takes some
 /// log n steps, and a step for each translation that was added after the latest `reserve`, whatever addresses
 /// and ports they have.
-#[derive(Drop)]
 pub struct GrowingNats {
     list: Vec<NatEntry>,
     afters: First<Afters>,
     befores: First<Befores>,
     ports: First<Ports>,
     counts: First<Counts>,
+}
+
+impl Drop for GrowingNats {
+    fn drop(self) {
+        let GrowingNats {
+            list,
+            afters,
+            befores,
+            ports,
+            counts,
+        } = self;
+        drop(list);
+        drop(afters);
+        drop(befores);
+        drop(ports);
+        drop(counts);
+    }
 }
 
 impl Model for GrowingNats {

@@ -18,8 +18,3 @@ pub use entry::{NatEntry, NatStop};
 pub use growing::GrowingNats;
 pub use on_images::{first_open_is_sent, inward_on, outward_on};
 pub use small::SmallNats;
-
-#[cfg(test)]
-mod box_tests;
-#[cfg(test)]
-mod tests;

@@ -23,10 +23,16 @@ pub(crate) trait Part {
 }
 
 /// A table of the first entries of a list.
-#[derive(Drop)]
 pub(crate) struct First<T> {
     pub table: T,
     pub count: usize,
+}
+
+impl<T: Drop> Drop for First<T> {
+    fn drop(self) {
+        let First { table, count: _ } = self;
+        drop(table);
+    }
 }
 
 impl<T: Part> First<T> {
@@ -44,9 +50,15 @@ impl<T: Part> First<T> {
 }
 
 /// What each open became.
-#[derive(Drop)]
 pub(crate) struct Afters {
     pub table: Table<Header>,
+}
+
+impl Drop for Afters {
+    fn drop(self) {
+        let Afters { table } = self;
+        drop(table);
+    }
 }
 
 impl Part for Afters {
@@ -67,9 +79,15 @@ impl Part for Afters {
 }
 
 /// What each translated open was.
-#[derive(Drop)]
 pub(crate) struct Befores {
     pub table: Table<Header>,
+}
+
+impl Drop for Befores {
+    fn drop(self) {
+        let Befores { table } = self;
+        drop(table);
+    }
 }
 
 impl Part for Befores {
@@ -99,9 +117,15 @@ impl Part for Ports {
 }
 
 /// How many opens share a gateway, protocol, destination and q. The greatest number stands for more too.
-#[derive(Drop)]
 pub(crate) struct Counts {
     pub table: Table<u32>,
+}
+
+impl Drop for Counts {
+    fn drop(self) {
+        let Counts { table } = self;
+        drop(table);
+    }
 }
 
 /// How many such opens a gateway keeps (VPC User Guide, "NAT gateways").

@@ -14,9 +14,15 @@ pub(crate) const PORTS: u32 = 65536;
 /// Taken ports of each gateway, protocol, destination and q. Beside a port stands a later one, up to which all
 /// are taken, so a search jumps over whole runs. What it finds is written beside each port that it came by: then
 /// n searches and additions take some n log n steps, also where many opens ask for the same ports.
-#[derive(Drop)]
 pub(crate) struct Ports {
     table: Table<u32>,
+}
+
+impl Drop for Ports {
+    fn drop(self) {
+        let Ports { table } = self;
+        drop(table);
+    }
 }
 
 impl Model for Ports {

@@ -9,7 +9,7 @@ use vpc_base::Header;
 use vpc_model::NatNo;
 
 /// A header at a NAT gateway.
-#[derive(Clone, Copy, Debug)]
+#[derive(Clone, Copy)]
 pub struct Sent {
     pub nat: NatNo,
     pub header: Header,

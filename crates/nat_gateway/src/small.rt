@@ -13,7 +13,7 @@ use vpc_base::Header;
 use vpc_model::NatNo;
 
 /// Up to 128 translations, without memory: a walk of 64 places and the walk of its answer add no more.
-#[derive(Debug, Drop)]
+#[derive(Drop)]
 pub struct SmallNats {
     entries: ArrayVec<NatEntry, 128>,
 }

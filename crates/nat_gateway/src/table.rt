@@ -8,9 +8,15 @@ use std::collections::BTreeMap;
 use std::marker::Model;
 
 /// What is known of headers at gateways.
-#[derive(Drop)]
 pub struct Table<V> {
     map: BTreeMap<Sent, V>,
+}
+
+impl<V: Drop> Drop for Table<V> {
+    fn drop(self) {
+        let Table { map } = self;
+        drop(map);
+    }
 }
 
 impl<V> Model for Table<V> {

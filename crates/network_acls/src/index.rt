@@ -81,10 +81,17 @@ fn first_verdict(rows: &[AclRow], dir: Dir, h: &Header) -> (bool, u16)
 
 /// The rows of a network ACL by direction, each in the order in which they are tried: by ascending number,
 /// rows of one number as they were described. Contracts see the two lists.
-#[derive(Debug, Drop)]
 pub struct AclIndex {
     inward: Vec<AclRow>,
     outward: Vec<AclRow>,
+}
+
+impl Drop for AclIndex {
+    fn drop(self) {
+        let AclIndex { inward, outward } = self;
+        drop(inward);
+        drop(outward);
+    }
 }
 
 impl Model for AclIndex {

@@ -4,8 +4,6 @@
 mod keys;
 mod sets;
 mod tables;
-#[cfg(test)]
-mod tests;
 
 pub use keys::key_of;
 pub use sets::NumberSet;

@@ -12,9 +12,15 @@ fn sort_numbers(numbers: &mut Vec<u64>)
 }
 
 /// A set of numbers. Contracts see them in ascending order.
-#[derive(Debug, Drop)]
 pub struct NumberSet {
     numbers: Vec<u64>,
+}
+
+impl Drop for NumberSet {
+    fn drop(self) {
+        let NumberSet { numbers } = self;
+        drop(numbers);
+    }
 }
 
 impl Model for NumberSet {

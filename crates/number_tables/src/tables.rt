@@ -8,7 +8,7 @@ use std::alloc::AllocError;
 use std::marker::Model;
 
 /// A value with its key.
-#[derive(Clone, Copy, Debug, Drop)]
+#[derive(Clone, Copy, Drop)]
 pub struct Entry<T> {
     pub key: u64,
     pub value: T,
@@ -24,9 +24,15 @@ fn sort<T>(entries: &mut Vec<Entry<T>>) -> Result<(), AllocError>
 }
 
 /// Values by their keys. Contracts see its entries, in ascending order of the keys.
-#[derive(Debug, Drop)]
 pub struct NumberTable<T> {
     entries: Vec<Entry<T>>,
+}
+
+impl<T: Drop> Drop for NumberTable<T> {
+    fn drop(self) {
+        let NumberTable { entries } = self;
+        drop(entries);
+    }
 }
 
 impl<T> Model for NumberTable<T> {

@@ -7,8 +7,6 @@ mod open;
 mod probe;
 mod rows;
 pub mod search;
-#[cfg(test)]
-mod tests;
 
 pub use header_boxes::Row;
 pub use probe::Probe;

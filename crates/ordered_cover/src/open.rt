@@ -11,9 +11,15 @@ use std::collections::BinaryHeap;
 use std::marker::Model;
 
 /// Boxes of which the one with the least low corner comes out first.
-#[derive(Drop)]
 pub struct OpenBoxes {
     heap: BinaryHeap<ByCorner>,
+}
+
+impl Drop for OpenBoxes {
+    fn drop(self) {
+        let OpenBoxes { heap } = self;
+        drop(heap);
+    }
 }
 
 impl Model for OpenBoxes {

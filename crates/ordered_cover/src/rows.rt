@@ -3,7 +3,7 @@ use header_boxes::Row;
 use vpc_base::Header;
 
 /// What is known of all headers of a box.
-#[derive(Debug, Drop)]
+#[derive(Drop)]
 pub enum Cover<W> {
     /// The first header that gets through.
     Found(Header),

@@ -7,7 +7,7 @@ use vpc_base::Header;
 use vpc_model::{End, Place, Stop};
 
 /// A place and the header that comes there, an arrival, or a stop.
-#[derive(Clone, Copy, Debug)]
+#[derive(Clone, Copy)]
 pub enum Next {
     Go(Place, Header),
     Arrive(End),

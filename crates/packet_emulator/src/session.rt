@@ -28,10 +28,17 @@ fn fits(p: u16)
 }
 
 /// What the network remembers between packets that come one after another.
-#[derive(Drop)]
 pub struct Session {
     conns: GrowingConns,
     nats: GrowingNats,
+}
+
+impl Drop for Session {
+    fn drop(self) {
+        let Session { conns, nats } = self;
+        drop(conns);
+        drop(nats);
+    }
 }
 
 impl Model for Session {

@@ -13,6 +13,3 @@ pub use laws::{
     one_more_piece, pieces_fill_the_line,
 };
 pub use table::Pieces;
-
-#[cfg(test)]
-mod tests;

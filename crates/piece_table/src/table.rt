@@ -8,10 +8,17 @@ use std::sync::ledger::Ledger;
 
 /// Pieces of the addresses from 0 to 2^32 - 1. Each begins at its first address, reaches up to the next
 /// piece, and tells one value of all its addresses.
-#[derive(Debug, Drop)]
 pub struct Pieces {
     firsts: Vec<u32>,
     told: Vec<Option<u32>>,
+}
+
+impl Drop for Pieces {
+    fn drop(self) {
+        let Pieces { firsts, told } = self;
+        drop(firsts);
+        drop(told);
+    }
 }
 
 impl Model for Pieces {

@@ -18,6 +18,3 @@ pub use blocks::{Prefix, cidr_notation, put_prefix, read_prefix};
 pub use laws::{addr_laws, number_laws, prefix_laws, range_laws};
 pub use numbers::{decimal_digits, put_number, read_number};
 pub use ranges::read_range;
-
-#[cfg(test)]
-mod tests;

@@ -6,5 +6,3 @@ pub mod Query
 pub mod Refusal
 pub mod Sides
 pub mod Words
-pub mod Worked
-pub mod WorkedQueries

@@ -15,7 +15,7 @@ use vpc_base::NoMemory;
 use vpc_model::Event;
 
 /// Why a text is no list of packets.
-#[derive(Debug, Drop)]
+#[derive(Drop)]
 pub enum EventFault {
     /// The line with this number, from 1, is no packet.
     BadLine(u64),

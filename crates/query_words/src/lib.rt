@@ -19,6 +19,3 @@ pub use packets::read_packet;
 pub use queries::{Query, read_query};
 pub use refusal::QueryRefusal;
 pub use words::word;
-
-#[cfg(test)]
-mod tests;

@@ -7,7 +7,7 @@ use vpc_model::Id;
 
 /// Why words give no query or packet. Words are counted from 1, the command's own name included; only
 /// the first cause from the left is told.
-#[derive(Debug, Drop)]
+#[derive(Drop)]
 pub enum QueryRefusal {
     /// The word with this number is none that may stand in its place.
     BadWord(u64),

@@ -18,7 +18,7 @@ use vpc_base::OwnList;
 use vpc_model::{Acl, AclRow, Id};
 
 /// What is read of an entry before its block.
-#[derive(Clone, Copy, Debug)]
+#[derive(Clone, Copy)]
 struct AclHead {
     number: u16,
     outward: bool,

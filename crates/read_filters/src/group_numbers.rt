@@ -9,9 +9,15 @@ use vpc_base::NoMemory;
 use vpc_model::{Group, Id};
 
 /// Numbers by ids. Contracts see the ids, each with its number.
-#[derive(Debug, Drop)]
 pub struct GroupNumbers {
     numbers: IndexMap<Vec<u8>, usize>,
+}
+
+impl Drop for GroupNumbers {
+    fn drop(self) {
+        let GroupNumbers { numbers } = self;
+        drop(numbers);
+    }
 }
 
 impl Model for GroupNumbers {

@@ -17,7 +17,7 @@ use vpc_base::{NoMemory, OwnList};
 use vpc_model::{Group, Id, Permission};
 
 /// A rule of the group of a number.
-#[derive(Debug, Drop)]
+#[derive(Drop)]
 pub struct GroupRule {
     pub number: usize,
     pub outward: bool,
@@ -25,14 +25,14 @@ pub struct GroupRule {
 }
 
 /// What is read of each row.
-#[derive(Debug, Drop)]
+#[derive(Drop)]
 struct RuleHead {
     id: Id,
     group: Id,
 }
 
 /// What is read of a row that is kept.
-#[derive(Debug, Drop)]
+#[derive(Drop)]
 struct RuleBody {
     outward: bool,
     traffic: Traffic,

@@ -16,6 +16,3 @@ mod ruled_groups;
 
 pub use reader::{FilterRows, read_filters};
 pub use ruled_groups::read_group_rules;
-
-#[cfg(test)]
-mod tests;

@@ -18,7 +18,7 @@ use vpc_base::OwnList;
 use vpc_model::{Id, Permission};
 
 /// The packets that a permission is for.
-#[derive(Clone, Copy, Debug)]
+#[derive(Clone, Copy)]
 pub struct Traffic {
     pub proto: Option<u8>,
     pub q: QRange,
@@ -86,7 +86,7 @@ impl ReadRow for PairedGroups {
 }
 
 /// The sources or destinations of a permission.
-#[derive(Debug, Drop)]
+#[derive(Drop)]
 pub struct Targets {
     pub blocks: OwnList<Prefix>,
     pub lists: OwnList<Id>,

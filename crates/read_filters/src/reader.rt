@@ -13,7 +13,7 @@ use vpc_base::OwnList;
 use vpc_model::{Acl, Group};
 
 /// The rows of what filters packets, in the order of the bundle.
-#[derive(Debug, Drop)]
+#[derive(Drop)]
 pub struct FilterRows {
     pub acls: OwnList<Acl>,
     pub groups: OwnList<Group>,

@@ -13,6 +13,3 @@ mod texts;
 mod transit;
 
 pub use reader::{GatewayRows, read_gateways};
-
-#[cfg(test)]
-mod tests;

@@ -11,7 +11,7 @@ use std::alloc::Global;
 use vpc_model::{Id, NatGateway, NatLife};
 
 /// An address of a NAT gateway.
-#[derive(Debug, Drop)]
+#[derive(Drop)]
 struct NatAddress {
     /// The interface that has it.
     eni: Id,

@@ -15,7 +15,7 @@ use vpc_base::OwnList;
 use vpc_model::{Association, Attachment, InternetGateway, NatGateway, Peering, TgwTable};
 
 /// The rows of gateways, in the order of the bundle.
-#[derive(Debug, Drop)]
+#[derive(Drop)]
 pub struct GatewayRows {
     pub igws: OwnList<InternetGateway>,
     pub nats: OwnList<NatGateway>,
@@ -26,7 +26,7 @@ pub struct GatewayRows {
 }
 
 /// The rows of transit gateways.
-#[derive(Debug, Drop)]
+#[derive(Drop)]
 struct TransitRows {
     attachments: OwnList<Attachment>,
     associations: OwnList<Association>,

@@ -49,7 +49,7 @@ impl ReadRow for SubnetIds {
 }
 
 /// What is read of an attachment before its subnets.
-#[derive(Debug, Drop)]
+#[derive(Drop)]
 struct AttachmentHead {
     id: Id,
     gateway: Id,

@@ -8,9 +8,15 @@ use std::alloc::{AllocError, Global};
 use std::marker::Model;
 
 /// Blocks that were seen so far, by their first address and their length.
-#[derive(Drop)]
 struct SeenBlocks {
     blocks: IndexSet<(u32, u8)>,
+}
+
+impl Drop for SeenBlocks {
+    fn drop(self) {
+        let SeenBlocks { blocks } = self;
+        drop(blocks);
+    }
 }
 
 impl Model for SeenBlocks {

@@ -15,7 +15,7 @@ use vpc_base::OwnList;
 use vpc_model::{Id, Interface, InterfaceKind};
 
 /// The addresses of an interface.
-#[derive(Debug, Drop)]
+#[derive(Drop)]
 struct Addresses {
     primary: Option<u32>,
     /// The private ones, each with its public one if it has one.
@@ -23,7 +23,7 @@ struct Addresses {
 }
 
 /// What an interface does with packets, apart from its addresses.
-#[derive(Debug, Drop)]
+#[derive(Drop)]
 struct Manner {
     groups: OwnList<Id>,
     checked: bool,

@@ -13,8 +13,6 @@ mod prefix_lists;
 mod routes;
 mod subnets;
 mod tables;
-#[cfg(test)]
-mod tests;
 mod types;
 mod vpcs;
 

@@ -15,7 +15,7 @@ use vpc_base::OwnList;
 use vpc_model::{Interface, PrefixList, RouteTable, Subnet, Vpc};
 
 /// The rows of networks, in the order of the bundle.
-#[derive(Debug, Drop)]
+#[derive(Drop)]
 pub struct NetworkRows {
     pub vpcs: OwnList<Vpc>,
     pub subnets: OwnList<Subnet>,

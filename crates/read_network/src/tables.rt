@@ -12,7 +12,7 @@ use vpc_base::OwnList;
 use vpc_model::{Id, Route, RouteTable};
 
 /// What an association of a route table makes of it.
-#[derive(Debug, Drop)]
+#[derive(Drop)]
 struct TableAssociation {
     main: bool,
     subnet: Option<Id>,

@@ -11,7 +11,7 @@ use std::alloc::{AllocError, Global};
 use vpc_model::{Acl, Id, InternetGateway, RouteTable};
 
 /// How many rows name a target, and the number of the first that does.
-#[derive(Clone, Copy, Debug, PartialEq, Eq)]
+#[derive(Clone, Copy, PartialEq, Eq)]
 pub enum Claim {
     Unclaimed,
     Once(usize),

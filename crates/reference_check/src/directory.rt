@@ -69,11 +69,23 @@ fn number_gateways(alloc: Global, d: &Description, ids: &mut GatewayIds) -> Resu
 }
 
 /// The ids of all lists.
-#[derive(Drop)]
 pub struct AllIds {
     pub networks: NetworkIds,
     pub filters: FilterIds,
     pub gateways: GatewayIds,
+}
+
+impl Drop for AllIds {
+    fn drop(self) {
+        let AllIds {
+            networks,
+            filters,
+            gateways,
+        } = self;
+        drop(networks);
+        drop(filters);
+        drop(gateways);
+    }
 }
 
 impl AllIds {
@@ -110,15 +122,19 @@ impl AllIds {
     }
 }
 
-// Lets go of what was refused.
-fn let_go(_d: Description, _ids: AllIds) {}
-
 /// The rows of a description, found by their ids, of which none stands twice in a list. Contracts see the
 /// description.
-#[derive(Drop)]
 pub struct Directory {
     d: Description,
     ids: AllIds,
+}
+
+impl Drop for Directory {
+    fn drop(self) {
+        let Directory { d, ids } = self;
+        drop(d);
+        drop(ids);
+    }
 }
 
 impl Model for Directory {
@@ -134,7 +150,7 @@ impl Model for Directory {
 }
 
 /// The lists whose rows others name.
-#[derive(Clone, Copy, Debug, PartialEq, Eq)]
+#[derive(Clone, Copy, PartialEq, Eq)]
 pub enum Kind {
     Vpc,
     Subnet,
@@ -159,10 +175,7 @@ impl Directory {
         let mut ids = AllIds::new(alloc);
         match ids.number(alloc, &d) {
             Ok(()) => Ok(Directory { d, ids }),
-            Err(cause) => {
-                let_go(d, ids);
-                Err(cause)
-            }
+            Err(cause) => Err(cause),
         }
     }
 

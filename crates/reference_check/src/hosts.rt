@@ -12,12 +12,19 @@ use std::alloc::{AllocError, Global};
 use vpc_model::{Description, EniNo, Interface, Refusal, VpcNo};
 
 /// The private addresses of all interfaces, and whose they are.
-#[derive(Debug, Drop)]
 pub struct Hosts {
     /// An address for each, with the number of its VPC.
     pub keys: Numbers,
     /// The numbers of the interfaces, in the same order.
     pub owners: Vec<usize>,
+}
+
+impl Drop for Hosts {
+    fn drop(self) {
+        let Hosts { keys, owners } = self;
+        drop(keys);
+        drop(owners);
+    }
 }
 
 // Adds the number of an interface once for each of its addresses.

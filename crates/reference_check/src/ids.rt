@@ -9,9 +9,15 @@ use std::marker::Model;
 use vpc_base::NoMemory;
 
 /// Ids in the order in which they were added. Contracts see their list.
-#[derive(Debug, Drop)]
 pub struct Ids {
     ids: IndexSet<Vec<u8>>,
+}
+
+impl Drop for Ids {
+    fn drop(self) {
+        let Ids { ids } = self;
+        drop(ids);
+    }
 }
 
 impl Model for Ids {

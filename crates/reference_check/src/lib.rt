@@ -16,6 +16,3 @@ mod subnets;
 
 pub use network::Network;
 pub use vpc_model::{ListName, Refusal};
-
-#[cfg(test)]
-mod tests;

@@ -79,9 +79,6 @@ fn check_rows(
     check_lengths(rows.description())
 }
 
-// Lets go of what was refused.
-fn let_go(_rows: Directory, _hosts: Hosts, _attached: Attached) {}
-
 // The number of the row with an id.
 fn number_of<R: Row>(rows: &[R], ids: &Ids, id: &[u8]) -> Option<u32>
     requires numbered { ids.now ≡ map R.id_of rows.now }
@@ -99,11 +96,23 @@ fn number_of<R: Row>(rows: &[R], ids: &Ids, id: &[u8]) -> Option<u32>
 
 /// A description that makes a network, with what finds its rows. Contracts see the description, which is
 /// accepted.
-#[derive(Drop)]
 pub struct Network {
     rows: Directory,
     hosts: Hosts,
     attached: Attached,
+}
+
+impl Drop for Network {
+    fn drop(self) {
+        let Network {
+            rows,
+            hosts,
+            attached,
+        } = self;
+        drop(rows);
+        drop(hosts);
+        drop(attached);
+    }
 }
 
 impl Model for Network {
@@ -136,10 +145,7 @@ impl Network {
                 hosts,
                 attached,
             }),
-            Err(cause) => {
-                let_go(rows, hosts, attached);
-                Err(cause)
-            }
+            Err(cause) => Err(cause),
         }
     }
 

@@ -7,9 +7,15 @@ use std::alloc::{AllocError, Global};
 use std::marker::Model;
 
 /// Numbers that differ, in the order in which they were added. Contracts see their list.
-#[derive(Debug, Drop)]
 pub struct Numbers {
     set: IndexSet<u64>,
+}
+
+impl Drop for Numbers {
+    fn drop(self) {
+        let Numbers { set } = self;
+        drop(set);
+    }
 }
 
 impl Model for Numbers {

@@ -14,7 +14,6 @@ use std::alloc::{AllocError, Global};
 use vpc_model::{AclNo, Description, IgwNo, Refusal, Subnet, SubnetNo, TableNo, VpcNo};
 
 /// Which tables, ACLs and internet gateways subnets and VPCs have, by their numbers.
-#[derive(Debug, Drop)]
 pub struct Attached {
     /// The main tables of each VPC.
     pub mains: Vec<Claim>,
@@ -26,6 +25,23 @@ pub struct Attached {
     pub gateways: Vec<Claim>,
     /// The table of each subnet, else the main one of its VPC.
     pub chosen: Vec<Option<usize>>,
+}
+
+impl Drop for Attached {
+    fn drop(self) {
+        let Attached {
+            mains,
+            tables,
+            acls,
+            gateways,
+            chosen,
+        } = self;
+        drop(mains);
+        drop(tables);
+        drop(acls);
+        drop(gateways);
+        drop(chosen);
+    }
 }
 
 // The main table of a subnet's VPC.

@@ -18,7 +18,7 @@ use vpc_base::{Header, NoMemory};
 use vpc_model::{StopText, Verdict};
 
 /// What is found of a report. Rows are numbered from 1.
-#[derive(Clone, Copy, Debug)]
+#[derive(Clone, Copy)]
 pub enum Checked {
     /// The report is true: its rows divide the query's headers among them, and each header of a row is stopped
     /// in the phase, by the component and by the rule that the row names.

@@ -21,7 +21,7 @@ use vpc_base::{Header, NoMemory};
 use vpc_model::{StopText, Verdict};
 
 /// A row that isn't true of all its headers.
-#[derive(Clone, Copy, Debug)]
+#[derive(Clone, Copy)]
 pub struct Untrue {
     /// The row's number, from 1.
     pub number: u32,

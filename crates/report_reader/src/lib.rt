@@ -22,6 +22,3 @@ pub use readable::print_readable;
 pub use reading::read_report;
 pub use report::{Report, ReportFault};
 pub use stops::same_text;
-
-#[cfg(test)]
-mod tests;

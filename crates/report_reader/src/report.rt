@@ -9,7 +9,6 @@ use vpc_model::{End, StopText};
 
 /// What a report says of a query: boxes that together hold its headers, each with what stops them. Whether
 /// it is true is another question.
-#[derive(Debug, Drop)]
 pub struct Report {
     pub start: End,
     pub goal: End,
@@ -18,8 +17,20 @@ pub struct Report {
     pub rows: OwnList<Row<StopText>>,
 }
 
+impl Drop for Report {
+    fn drop(self) {
+        let Report {
+            start: _,
+            goal: _,
+            sides: _,
+            rows,
+        } = self;
+        drop(rows);
+    }
+}
+
 /// Why a text is no report. Lines are numbered from 1.
-#[derive(Debug, Drop)]
+#[derive(Drop)]
 pub enum ReportFault {
     /// The first line that is not in the grammar. It may be one that is missing, one without its newline, or
     /// one after the end.

@@ -24,9 +24,15 @@ use vpc_model::{Route, TableNo};
 
 /// Which route a table chooses for each address. Contracts see the pieces of the addresses, each of which
 /// tells the number of a route.
-#[derive(Debug, Drop)]
 pub struct RouteIndex {
     pub pieces: Pieces,
+}
+
+impl Drop for RouteIndex {
+    fn drop(self) {
+        let RouteIndex { pieces } = self;
+        drop(pieces);
+    }
 }
 
 impl Model for RouteIndex {

@@ -22,10 +22,17 @@ use vpc_base::OwnList;
 use vpc_model::{Group, GroupNo, Id, Permission, VpcNo};
 
 /// What rules are resolved by: the numbers of prefix lists, and the VPCs that are peered.
-#[derive(Drop)]
 pub struct Named {
     pub lists: ListNumbers,
     pub peers: NumberSet,
+}
+
+impl Drop for Named {
+    fn drop(self) {
+        let Named { lists, peers } = self;
+        drop(lists);
+        drop(peers);
+    }
 }
 
 impl Named {

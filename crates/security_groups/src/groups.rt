@@ -14,10 +14,17 @@ use vpc_base::{Dir, Header};
 use vpc_model::{GroupNo, RuleRef};
 
 /// The rules of a security group.
-#[derive(Debug, Drop)]
 pub struct GroupRules {
     pub inward: RuleTable,
     pub outward: RuleTable,
+}
+
+impl Drop for GroupRules {
+    fn drop(self) {
+        let GroupRules { inward, outward } = self;
+        drop(inward);
+        drop(outward);
+    }
 }
 
 fn rules_of(rules: &GroupRules, dir: Dir) -> &RuleTable

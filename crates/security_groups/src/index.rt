@@ -23,10 +23,17 @@ fn resolved_rules(alloc: Global, n: &Network) -> Result<Vec<GroupRules>, AllocEr
 }
 
 // The entries of each prefix list, and the rules of each group.
-#[derive(Drop)]
 struct RuleLists {
     lists: Vec<AddressSet>,
     groups: Vec<GroupRules>,
+}
+
+impl Drop for RuleLists {
+    fn drop(self) {
+        let RuleLists { lists, groups } = self;
+        drop(lists);
+        drop(groups);
+    }
 }
 
 impl RuleLists {
@@ -42,10 +49,17 @@ impl RuleLists {
 /// The rules of a network's security groups, with what they name resolved, and each interface's groups.
 /// Prefix lists and members of groups are shared by all rules that name them. Contracts see these lists, and
 /// `of` says what the description has in their place.
-#[derive(Drop)]
 pub struct GroupIndex {
     rules: RuleLists,
     membership: Membership,
+}
+
+impl Drop for GroupIndex {
+    fn drop(self) {
+        let GroupIndex { rules, membership } = self;
+        drop(rules);
+        drop(membership);
+    }
 }
 
 impl Model for GroupIndex {

@@ -11,9 +11,15 @@ use std::marker::Model;
 use vpc_model::{Id, PrefixList};
 
 /// The ids of prefix lists in the order of their rows. Contracts see their list.
-#[derive(Drop)]
 pub struct ListNumbers {
     ids: IndexSet<Vec<u8>>,
+}
+
+impl Drop for ListNumbers {
+    fn drop(self) {
+        let ListNumbers { ids } = self;
+        drop(ids);
+    }
 }
 
 impl Model for ListNumbers {

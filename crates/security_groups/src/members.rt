@@ -106,10 +106,20 @@ fn add_interface(
 
 /// The groups of each interface, by their numbers, each once; and the private addresses of the interfaces that
 /// have each group, as its members.
-#[derive(Drop)]
 pub struct Membership {
     pub interfaces: Vec<OwnList<u32>>,
     pub members: NumberSet,
+}
+
+impl Drop for Membership {
+    fn drop(self) {
+        let Membership {
+            interfaces,
+            members,
+        } = self;
+        drop(interfaces);
+        drop(members);
+    }
 }
 
 impl Membership {

@@ -4,7 +4,7 @@ use vpc_base::OwnList;
 
 /// A rule of a security group, with what it names as sets and numbers. `q_from` and `q_to` are as in a
 /// described permission.
-#[derive(Debug, Drop)]
+#[derive(Drop)]
 pub struct Rule {
     /// Its number among the rules of its group and direction, from 1.
     pub number: u32,

@@ -109,10 +109,17 @@ fn least_in_runs(
 
 /// The rules of a group and direction, with the greatest last port of each run of 64. Contracts see them in
 /// ascending order of their first ports.
-#[derive(Debug, Drop)]
 pub struct RuleTable {
     rules: Vec<Rule>,
     lasts: Vec<u16>,
+}
+
+impl Drop for RuleTable {
+    fn drop(self) {
+        let RuleTable { rules, lasts } = self;
+        drop(rules);
+        drop(lasts);
+    }
 }
 
 impl Model for RuleTable {

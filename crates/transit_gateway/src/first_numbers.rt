@@ -40,9 +40,15 @@ impl Naming for Subnet {
 }
 
 /// The number of the first row that names each id. Contracts see the ids, each with its number.
-#[derive(Debug, Drop)]
 pub struct FirstNumbers {
     numbers: IndexMap<Vec<u8>, u32>,
+}
+
+impl Drop for FirstNumbers {
+    fn drop(self) {
+        let FirstNumbers { numbers } = self;
+        drop(numbers);
+    }
 }
 
 impl Model for FirstNumbers {

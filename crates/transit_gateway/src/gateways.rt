@@ -53,10 +53,20 @@ fn attachment_entries(
 }
 
 /// The gateways by their ids, and the attachments by their gateways and VPCs.
-#[derive(Debug, Drop)]
 pub struct Gateways {
     pub numbers: FirstNumbers,
     pub attachments: NumberTable<AttNo>,
+}
+
+impl Drop for Gateways {
+    fn drop(self) {
+        let Gateways {
+            numbers,
+            attachments,
+        } = self;
+        drop(numbers);
+        drop(attachments);
+    }
 }
 
 impl Gateways {

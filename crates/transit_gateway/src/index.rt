@@ -27,12 +27,26 @@ pub enum EnterStop {
 
 /// What is asked of the transit gateways of a network, as tables. Contracts see their lists, and `of` says
 /// what the description has in their place.
-#[derive(Debug, Drop)]
 pub struct TransitIndex {
     gateways: Gateways,
     zones: Zones,
     tables: Vec<Option<TgwTableNo>>,
     routes: Vec<Pieces>,
+}
+
+impl Drop for TransitIndex {
+    fn drop(self) {
+        let TransitIndex {
+            gateways,
+            zones,
+            tables,
+            routes,
+        } = self;
+        drop(gateways);
+        drop(zones);
+        drop(tables);
+        drop(routes);
+    }
 }
 
 impl Model for TransitIndex {

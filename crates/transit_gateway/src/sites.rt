@@ -9,7 +9,7 @@ use std::alloc::{AllocError, Global};
 use vpc_model::{Id, Subnet, VpcNo};
 
 /// Where a subnet is: its VPC, and its zone by the number of the first subnet there.
-#[derive(Clone, Copy, Debug, PartialEq, Eq)]
+#[derive(Clone, Copy, PartialEq, Eq)]
 pub struct Site {
     pub vpc: VpcNo,
     pub zone: u32,

@@ -108,11 +108,23 @@ fn firsts_of(alloc: Global, n: &Network) -> Result<Vec<Option<SubnetNo>>, AllocE
 
 /// The sites of the subnets, the subnets by their attachments and zones, and the first subnet of each
 /// attachment.
-#[derive(Debug, Drop)]
 pub struct Zones {
     pub sites: Vec<Site>,
     pub subnets: NumberTable<SubnetNo>,
     pub firsts: Vec<Option<SubnetNo>>,
+}
+
+impl Drop for Zones {
+    fn drop(self) {
+        let Zones {
+            sites,
+            subnets,
+            firsts,
+        } = self;
+        drop(sites);
+        drop(subnets);
+        drop(firsts);
+    }
 }
 
 fn subnet_table(

@@ -5,9 +5,15 @@ use std::marker::Model;
 
 /// A list that a row owns. Contracts see it as the list of its items, so rows that hold it can be
 /// compared as plain data.
-#[derive(Debug, Drop)]
 pub struct OwnList<T> {
     items: Vec<T>,
+}
+
+impl<T: Drop> Drop for OwnList<T> {
+    fn drop(self) {
+        let OwnList { items } = self;
+        drop(items);
+    }
 }
 
 impl<T> Model for OwnList<T> {

@@ -1,26 +1,9 @@
-//! The program: commands over a described network, and the call that answers them.
+//! The program: answers the command that its words give, over the files of the system.
 #![tactic(auto)]
 
-mod answers;
-mod asks;
-mod checks;
-mod commands;
-mod deciders;
-mod jobs;
-mod makes;
-mod reachable;
-mod refusals;
-mod replays;
-mod second;
-mod status;
-#[cfg(test)]
-mod tests;
-mod traces;
-mod words;
-
-use commands::{refuse_memory, run};
 use std::io;
 use std::process::ExitCode;
+use vpc_commands::{refuse_memory, run};
 use vpc_io::{FileShelf, WriteSink, words_of};
 
 fn main(rt: HostRuntime) -> ExitCode {

@@ -38,12 +38,24 @@ fn copy_of(alloc: Global, bytes: &[u8], max: usize) -> Result<Vec<u8>, ShelfFaul
 ///
 /// A call fails exactly where its number, from 1, is among those chosen, or no file has the name. Of
 /// two files with one name the first counts. One count of faults stands for every name.
-#[derive(Drop)]
 pub struct MemoryShelf {
     files: Vec<(Vec<u8>, Vec<u8>)>,
     failing: Vec<u64>,
     calls: u64,
     faults: u64,
+}
+
+impl Drop for MemoryShelf {
+    fn drop(self) {
+        let MemoryShelf {
+            files,
+            failing,
+            calls: _,
+            faults: _,
+        } = self;
+        drop(files);
+        drop(failing);
+    }
 }
 
 impl Model for MemoryShelf {

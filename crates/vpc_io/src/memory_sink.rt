@@ -14,7 +14,6 @@ use vpc_base::NoMemory;
 ///
 /// A write fails exactly where its number, from 1, is among those chosen, or no room is left. It takes
 /// at most a piece of a fixed length, and at most the room that is left.
-#[derive(Drop)]
 pub struct MemorySink {
     held: Vec<u8>,
     failing: Vec<u64>,
@@ -22,6 +21,21 @@ pub struct MemorySink {
     room: usize,
     calls: u64,
     faults: u64,
+}
+
+impl Drop for MemorySink {
+    fn drop(self) {
+        let MemorySink {
+            held,
+            failing,
+            piece: _,
+            room: _,
+            calls: _,
+            faults: _,
+        } = self;
+        drop(held);
+        drop(failing);
+    }
 }
 
 impl Model for MemorySink {

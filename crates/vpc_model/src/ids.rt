@@ -9,7 +9,7 @@ use vpc_base::NoMemory;
 
 /// The name of a resource, of a zone or of a network function, as the EC2 API prints it: 1 to 256
 /// visible ASCII characters. Contracts see its bytes.
-#[derive(Debug, Drop)]
+#[derive(Drop)]
 pub struct Id {
     text: Vec<u8>,
 }

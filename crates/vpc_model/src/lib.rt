@@ -14,8 +14,6 @@ mod rows;
 mod same;
 mod stop_texts;
 mod stops;
-#[cfg(test)]
-mod tests;
 
 pub use filters::{far_address, is_between, matches_proto};
 pub use ids::Id;

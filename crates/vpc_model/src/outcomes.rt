@@ -3,7 +3,7 @@ use crate::{End, GroupNo, Place, Stop};
 use vpc_base::{Dir, Header, Label};
 
 /// A rule of a security group. Inbound and outbound rules are numbered apart, from 1.
-#[derive(Clone, Copy, Debug, PartialEq, Eq)]
+#[derive(Clone, Copy, PartialEq, Eq)]
 pub struct RuleRef {
     pub group: GroupNo,
     pub dir: Dir,
@@ -11,7 +11,7 @@ pub struct RuleRef {
 }
 
 /// By what a packet passed the security groups of an interface.
-#[derive(Clone, Copy, Debug, PartialEq, Eq)]
+#[derive(Clone, Copy, PartialEq, Eq)]
 pub enum By {
     /// No groups were asked, or they refused the packet.
     Nothing,
@@ -23,7 +23,7 @@ pub enum By {
 }
 
 /// A place of a walk, with the header that came there.
-#[derive(Clone, Copy, Debug, PartialEq, Eq)]
+#[derive(Clone, Copy, PartialEq, Eq)]
 pub struct Hop {
     pub place: Place,
     pub header: Header,
@@ -41,28 +41,28 @@ impl Default for Hop {
 }
 
 /// The two walks of a request that is asked about.
-#[derive(Clone, Copy, Debug, PartialEq, Eq)]
+#[derive(Clone, Copy, PartialEq, Eq)]
 pub enum Phase {
     Request,
     Reply,
 }
 
 /// How a walk ends.
-#[derive(Clone, Copy, Debug)]
+#[derive(Clone, Copy)]
 pub enum Outcome {
     Arrived(End, Header),
     Stopped(Stop),
 }
 
 /// Whether a request arrives and its reply returns.
-#[derive(Clone, Copy, Debug)]
+#[derive(Clone, Copy)]
 pub enum Verdict {
     Through,
     Stopped(Phase, Stop),
 }
 
 /// A packet that starts somewhere.
-#[derive(Clone, Copy, Debug, PartialEq, Eq)]
+#[derive(Clone, Copy, PartialEq, Eq)]
 pub struct Event {
     pub label: Label,
     pub start: End,

@@ -12,7 +12,7 @@ pub enum End {
 }
 
 /// From where a packet came to the router of a subnet.
-#[derive(Clone, Copy, Debug, PartialEq, Eq)]
+#[derive(Clone, Copy, PartialEq, Eq)]
 pub enum Came {
     Host(EniNo),
     Nat(NatNo),
@@ -20,14 +20,14 @@ pub enum Came {
 }
 
 /// By what a packet enters a VPC.
-#[derive(Clone, Copy, Debug, PartialEq, Eq)]
+#[derive(Clone, Copy, PartialEq, Eq)]
 pub enum EnterBy {
     Gateway,
     Peering(PeerNo),
 }
 
 /// A place of a walk.
-#[derive(Clone, Copy, Debug, PartialEq, Eq)]
+#[derive(Clone, Copy, PartialEq, Eq)]
 pub enum Place {
     /// Leaving an interface.
     OutOf(EniNo),

@@ -27,7 +27,7 @@ pub enum ListName {
 }
 
 /// Why the rows of a description don't make a network. Only the first cause of a description is told.
-#[derive(Debug, Drop)]
+#[derive(Drop)]
 pub enum Refusal {
     /// Two rows of one list have this id.
     DuplicateId(Id),

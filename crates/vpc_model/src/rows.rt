@@ -4,14 +4,14 @@ use prefix_text::Prefix;
 use vpc_base::OwnList;
 
 /// A VPC with its IPv4 blocks (DescribeVpcs).
-#[derive(Debug, Drop)]
+#[derive(Drop)]
 pub struct Vpc {
     pub id: Id,
     pub blocks: OwnList<Prefix>,
 }
 
 /// A subnet with its availability zone (DescribeSubnets).
-#[derive(Debug, Drop)]
+#[derive(Drop)]
 pub struct Subnet {
     pub id: Id,
     pub vpc: Id,
@@ -19,7 +19,7 @@ pub struct Subnet {
 }
 
 /// Whether packets may be sent to an interface by its address alone.
-#[derive(Clone, Copy, Debug, PartialEq, Eq)]
+#[derive(Clone, Copy, PartialEq, Eq)]
 pub enum InterfaceKind {
     Host,
     /// The interface belongs to a NAT gateway or a transit gateway.
@@ -27,7 +27,7 @@ pub enum InterfaceKind {
 }
 
 /// A network interface (DescribeNetworkInterfaces).
-#[derive(Debug, Drop)]
+#[derive(Drop)]
 pub struct Interface {
     pub id: Id,
     pub subnet: Id,
@@ -44,7 +44,7 @@ pub struct Interface {
 }
 
 /// Which destinations a route serves.
-#[derive(Debug, Drop)]
+#[derive(Drop)]
 pub enum Reach {
     Block(Prefix),
     /// The entries of the prefix list with this id.
@@ -52,7 +52,7 @@ pub enum Reach {
 }
 
 /// Where a route leads.
-#[derive(Debug, Drop)]
+#[derive(Drop)]
 pub enum Target {
     Local,
     Internet(Id),
@@ -65,7 +65,7 @@ pub enum Target {
 }
 
 /// A row of a route table.
-#[derive(Debug, Drop)]
+#[derive(Drop)]
 pub struct Route {
     pub reach: Reach,
     pub target: Target,
@@ -76,7 +76,7 @@ pub struct Route {
 }
 
 /// A route table with the subnets that are associated with it (DescribeRouteTables).
-#[derive(Debug, Drop)]
+#[derive(Drop)]
 pub struct RouteTable {
     pub id: Id,
     pub vpc: Id,
@@ -87,7 +87,7 @@ pub struct RouteTable {
 }
 
 /// A list of blocks that routes and rules name (DescribePrefixLists).
-#[derive(Debug, Drop)]
+#[derive(Drop)]
 pub struct PrefixList {
     pub id: Id,
     pub entries: OwnList<Prefix>,
@@ -95,7 +95,7 @@ pub struct PrefixList {
 
 /// A row of a network ACL. `q_from` and `q_to` are destination ports or, for ICMP, 256 times the type
 /// plus the code.
-#[derive(Clone, Copy, Debug, PartialEq, Eq)]
+#[derive(Clone, Copy, PartialEq, Eq)]
 pub struct AclRow {
     /// Rows are tried by ascending number.
     pub number: u16,
@@ -110,7 +110,7 @@ pub struct AclRow {
 }
 
 /// A network ACL with the subnets that are associated with it (DescribeNetworkAcls).
-#[derive(Debug, Drop)]
+#[derive(Drop)]
 pub struct Acl {
     pub id: Id,
     pub subnets: OwnList<Id>,
@@ -119,7 +119,7 @@ pub struct Acl {
 
 /// A rule of a security group, with all its sources or destinations. `q_from` and `q_to` are as in an
 /// ACL row.
-#[derive(Debug, Drop)]
+#[derive(Drop)]
 pub struct Permission {
     /// The id of the rule (DescribeSecurityGroupRules), where the rule was told by that call.
     pub id: Option<Id>,
@@ -135,7 +135,7 @@ pub struct Permission {
 }
 
 /// A security group (DescribeSecurityGroups).
-#[derive(Debug, Drop)]
+#[derive(Drop)]
 pub struct Group {
     pub id: Id,
     pub vpc: Id,
@@ -144,14 +144,14 @@ pub struct Group {
 }
 
 /// An internet gateway with the VPCs to which it is attached (DescribeInternetGateways).
-#[derive(Debug, Drop)]
+#[derive(Drop)]
 pub struct InternetGateway {
     pub id: Id,
     pub vpcs: OwnList<Id>,
 }
 
 /// Whether a NAT gateway translates packets.
-#[derive(Debug, Drop)]
+#[derive(Drop)]
 pub enum NatLife {
     /// It isn't available.
     Gone,
@@ -166,14 +166,14 @@ pub enum NatLife {
 }
 
 /// A NAT gateway (DescribeNatGateways).
-#[derive(Debug, Drop)]
+#[derive(Drop)]
 pub struct NatGateway {
     pub id: Id,
     pub life: NatLife,
 }
 
 /// A VPC peering connection (DescribeVpcPeeringConnections).
-#[derive(Debug, Drop)]
+#[derive(Drop)]
 pub struct Peering {
     pub id: Id,
     /// The two VPCs, where it is active.
@@ -181,7 +181,7 @@ pub struct Peering {
 }
 
 /// The attachment of a VPC to a transit gateway (DescribeTransitGatewayVpcAttachments).
-#[derive(Debug, Drop)]
+#[derive(Drop)]
 pub struct Attachment {
     pub id: Id,
     pub gateway: Id,
@@ -191,14 +191,14 @@ pub struct Attachment {
 }
 
 /// The table that an attachment's packets are routed by (DescribeTransitGatewayAttachments).
-#[derive(Debug, Drop)]
+#[derive(Drop)]
 pub struct Association {
     pub attachment: Id,
     pub table: Id,
 }
 
 /// A row of a transit gateway route table.
-#[derive(Debug, Drop)]
+#[derive(Drop)]
 pub struct TgwRoute {
     pub block: Prefix,
     pub blackhole: bool,
@@ -207,14 +207,14 @@ pub struct TgwRoute {
 }
 
 /// A transit gateway route table (SearchTransitGatewayRoutes).
-#[derive(Debug, Drop)]
+#[derive(Drop)]
 pub struct TgwTable {
     pub id: Id,
     pub routes: OwnList<TgwRoute>,
 }
 
 /// What a middlebox appliance forwards. It keeps no connections.
-#[derive(Debug, Drop)]
+#[derive(Drop)]
 pub enum ApplianceKind {
     All,
     Nothing,
@@ -226,7 +226,7 @@ pub enum ApplianceKind {
 
 /// An interface whose machine forwards packets that aren't for its own addresses. AWS describes no such
 /// thing: a bundle's `Appliances` are written by hand.
-#[derive(Debug, Drop)]
+#[derive(Drop)]
 pub struct Appliance {
     /// The id of the interface.
     pub id: Id,
@@ -234,7 +234,6 @@ pub struct Appliance {
 }
 
 /// A whole described network.
-#[derive(Debug, Drop)]
 pub struct Description {
     pub vpcs: OwnList<Vpc>,
     pub subnets: OwnList<Subnet>,
@@ -250,4 +249,39 @@ pub struct Description {
     pub associations: OwnList<Association>,
     pub tgw_tables: OwnList<TgwTable>,
     pub appliances: OwnList<Appliance>,
+}
+
+impl Drop for Description {
+    fn drop(self) {
+        let Description {
+            vpcs,
+            subnets,
+            interfaces,
+            tables,
+            lists,
+            acls,
+            groups,
+            igws,
+            nats,
+            peerings,
+            attachments,
+            associations,
+            tgw_tables,
+            appliances,
+        } = self;
+        drop(vpcs);
+        drop(subnets);
+        drop(interfaces);
+        drop(tables);
+        drop(lists);
+        drop(acls);
+        drop(groups);
+        drop(igws);
+        drop(nats);
+        drop(peerings);
+        drop(attachments);
+        drop(associations);
+        drop(tgw_tables);
+        drop(appliances);
+    }
 }

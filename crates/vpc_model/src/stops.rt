@@ -5,7 +5,7 @@ ghost use Rattle.vpc_model.specs.Told.{name_of};
 use crate::{AclNo, AttNo, End, EniNo, IgwNo, NatNo, PeerNo, Place, TableNo, TgwTableNo, VpcNo};
 
 /// What leads out of the networks that are followed.
-#[derive(Clone, Copy, Debug, PartialEq, Eq)]
+#[derive(Clone, Copy, PartialEq, Eq)]
 pub enum Foreign {
     /// The target of a route, by its table and its number there, from 0.
     Target(TableNo, u32),
@@ -23,7 +23,7 @@ pub enum Foreign {
 
 /// Why and where a packet is stopped. A route is carried by its table and its number there, from 0; an
 /// ACL row by its ACL and its rule number; `Loop` and `TooFar` by the place that would come next.
-#[derive(Clone, Copy, Debug)]
+#[derive(Clone, Copy)]
 pub enum Stop {
     /// The interface isn't attached to an instance.
     Detached(EniNo),
@@ -93,7 +93,7 @@ pub enum Stop {
 }
 
 /// The name of a stop, without what it carries.
-#[derive(Clone, Copy, Debug)]
+#[derive(Clone, Copy)]
 pub enum StopName {
     Detached,
     SourceCheck,

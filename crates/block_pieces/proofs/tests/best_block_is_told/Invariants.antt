@@ -1,4 +1,0 @@
-use Rattle.block_pieces.proofs.tests.best_block_is_told.Given as goal
-
-abbrev pub ghosts-found : goal.ghosts-found
-ghosts-found g a = record { name = a.blank.name; parts = a.blank.parts }

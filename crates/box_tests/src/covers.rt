@@ -1,0 +1,168 @@
+// What no clause says: each answer of a small probe on all headers, worked out by hand.
+ghost use Rattle.std.specs.Prelude.{◌≡◌, Some, [], ◌∷◌, true, false, nat_lt, if◌then◌else◌};
+ghost use Rattle.std.specs.List.{Contains};
+ghost use Rattle.std.proofs.Common.{arith};
+ghost use Rattle.box_tests.specs.declared.covers.Why.TheVariants.{Target};
+
+use header_boxes::Box5;
+use ordered_cover::search::{cover, first};
+use ordered_cover::{Cover, Probe, Row};
+use std::test::Fail;
+use vpc_base::Header;
+
+#[derive(Clone, Copy, Debug, PartialEq, Eq)]
+enum Why {
+    Ports,
+    Target,
+}
+
+// Of the headers with a low p those with a low q are stopped for one reason, the others for another, which may
+// be the same. What becomes of the rest is given.
+#[derive(Drop)]
+struct Screen {
+    p: u16,
+    q: u16,
+    low: Why,
+    rest: Option<Why>,
+}
+
+impl Probe for Screen {
+    type Word = Why;
+
+    ghost meaning = { λ s h. if nat_lt h.p s.p then (if nat_lt h.q s.q then Some s.low else Some Target) else s.rest };
+
+    ghost cuts = { λ s. record { proto = []; addr = []; p = s.p ∷ []; q = s.q ∷ [] } };
+
+    ghost near = { λ s h. record { proto = []; addr = []; p = s.p ∷ []; q = (if nat_lt h.p s.p then s.q ∷ [] else []) } };
+
+    ghost near_among = { λ s h. record { proto = λ c k. k; addr = λ c k. k; p = λ c k. k; q = λ c. elim (nat_lt h.p s.p) as (λ b. Contains (if b then s.q ∷ [] else []) c → Contains (s.q ∷ []) c) [ true ↦ λ k. k | false ↦ λ k. absurd (Prim.omega (arith, k.1)) ] } };
+
+    fn is_same(one: Why, other: Why) -> bool {
+        one == other
+    }
+
+    fn probe(&self, sides: &Box5) -> (Box5, Option<Why>) {
+        let mut part = *sides;
+        if sides.p.0 >= self.p {
+            return (part, self.rest);
+        }
+        part.p.1 = part.p.1.min(self.p - 1);
+        if sides.q.0 >= self.q {
+            return (part, Some(Why::Target));
+        }
+        part.q.1 = part.q.1.min(self.q - 1);
+        (part, Some(self.low))
+    }
+}
+
+const EVERY_HEADER: Box5 = Box5 {
+    proto: (0, 255),
+    src: (0, 0xffff_ffff),
+    dst: (0, 0xffff_ffff),
+    p: (0, 65535),
+    q: (0, 65535),
+};
+
+// The least header with p and q.
+fn at(p: u16, q: u16) -> Header {
+    Header {
+        proto: 0,
+        src: 0,
+        dst: 0,
+        p,
+        q,
+    }
+}
+
+// The rows of the screen, in the order of their low corners.
+const LOW_PORTS: Row<Why> = Row {
+    part: Box5 {
+        p: (0, 1023),
+        q: (0, 442),
+        ..EVERY_HEADER
+    },
+    word: Why::Ports,
+};
+
+const LOW_SOURCES: Row<Why> = Row {
+    part: Box5 {
+        p: (0, 1023),
+        q: (443, 65535),
+        ..EVERY_HEADER
+    },
+    word: Why::Target,
+};
+
+const OTHERS: Row<Why> = Row {
+    part: Box5 {
+        p: (1024, 65535),
+        ..EVERY_HEADER
+    },
+    word: Why::Target,
+};
+
+fn screen_with(rest: Option<Why>) -> Screen {
+    Screen {
+        p: 1024,
+        q: 443,
+        low: Why::Ports,
+        rest,
+    }
+}
+
+#[test]
+fn first_of_all_headers(rt: HostRuntime) -> Result<(), Fail> {
+    let open = screen_with(None);
+    assert_eq!(rt; first(rt.alloc(), &open, EVERY_HEADER)?, Some(at(1024, 0)));
+    let shut = screen_with(Some(Why::Target));
+    assert_eq!(rt; first(rt.alloc(), &shut, EVERY_HEADER)?, None);
+    Ok(())
+}
+
+#[test]
+fn covers_of_all_headers(rt: HostRuntime) -> Result<(), Fail> {
+    let rows = [LOW_PORTS, LOW_SOURCES, OTHERS];
+    let shut = screen_with(Some(Why::Target));
+    for (max, count, next) in [
+        (1, 1, Some(at(0, 443))),
+        (2, 2, Some(at(1024, 0))),
+        (3, 3, None),
+        (20000, 3, None),
+    ] {
+        let (found, after) = match cover(rt.alloc(), &shut, EVERY_HEADER, max)? {
+            Cover::Found(h) => panic!(rt; "found {h:?} at {max}"),
+            Cover::Blocked(found) => (found, None),
+            Cover::More(found, after) => (found, Some(after)),
+        };
+        assert_eq!(rt; found.as_slice(), &rows[..count], "at {max}");
+        assert_eq!(rt; after, next, "at {max}");
+    }
+    assert!(rt;
+        matches!(cover(rt.alloc(), &screen_with(None), EVERY_HEADER, 3)?, Cover::Found(h) if h == at(1024, 0))
+    );
+    Ok(())
+}
+
+#[test]
+fn joins_rows_of_one_word(rt: HostRuntime) -> Result<(), Fail> {
+    let shut = Screen {
+        low: Why::Target,
+        ..screen_with(Some(Why::Target))
+    };
+    let every_low = Row {
+        part: Box5 {
+            p: (0, 1023),
+            ..EVERY_HEADER
+        },
+        word: Why::Target,
+    };
+    let found = match cover(rt.alloc(), &shut, EVERY_HEADER, 2)? {
+        Cover::Blocked(found) => found,
+        Cover::Found(h) => panic!(rt; "found {h:?}"),
+        Cover::More(_found, after) => panic!(rt; "more from {after:?}"),
+    };
+    // Rows of one word that differ in p stay apart.
+    let rows = [every_low, OTHERS];
+    assert_eq!(rt; found.as_slice(), rows.as_slice());
+    Ok(())
+}

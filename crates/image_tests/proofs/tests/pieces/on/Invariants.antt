@@ -1,4 +1,0 @@
-use Rattle.image_tests.proofs.tests.pieces.on.Given as goal
-
-abbrev pub ghosts-told_on : goal.ghosts-told_on
-ghosts-told_on a = record { name = a.blank.name; parts = a.blank.parts }

@@ -1,6 +1,0 @@
-//! Small networks, read from bundles, and what their look-ups answer. That with memory there is an answer is
-//! what no clause says, so these are tests; the answers were worked out by hand.
-#![tactic(auto)]
-
-#[cfg(test)]
-mod tests;

@@ -1,5 +1,0 @@
-mod edges;
-mod groups;
-mod routes;
-mod transit;
-mod whole;

@@ -1,5 +1,0 @@
-use Rattle.std.proofs.Common.{[]}
-use Rattle.nat_gateway.proofs.box_tests.sent.Goals as goal
-
-pub outward_on-requires-clause-kinds : goal.outward_on-requires-clause-kinds
-outward_on-requires-clause-kinds c = ([], c.of.ensures.kind [])

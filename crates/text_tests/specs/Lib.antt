@@ -1,0 +1,2 @@
+pub mod WorkedPackets
+pub mod WorkedQueries

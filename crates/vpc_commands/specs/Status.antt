@@ -1,0 +1,16 @@
+-- How a command ends.
+use Rattle.std.specs.Prelude.{ℕ}
+use Rattle.vpc_commands.specs.declared.status.Status.{Status}
+use Rattle.vpc_commands.specs.declared.status.Status.TheVariants.{Yes, No, Words, Description, Query, More, Read, Write, Memory}
+
+-- the exit code
+abbrev pub code_of : Status → ℕ
+code_of Yes = 0
+code_of No = 1
+code_of Words = 2
+code_of Description = 3
+code_of Query = 4
+code_of More = 5
+code_of Read = 6
+code_of Write = 7
+code_of Memory = 8
