@@ -20,3 +20,4 @@ pub mod NatSteps
 pub mod PlainSteps
 pub mod Rewriting
 pub mod GatewayAnswers
+pub mod Away

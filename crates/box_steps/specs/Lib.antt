@@ -4,3 +4,4 @@ pub mod Onward
 pub mod Publics
 pub mod Moments
 pub mod Passing
+pub mod Missing

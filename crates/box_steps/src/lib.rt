@@ -9,6 +9,7 @@ pub mod groups;
 pub mod hosts;
 pub mod interface;
 pub mod internet;
+pub mod missing;
 pub mod moment;
 pub mod nat;
 mod onward;
@@ -17,6 +18,7 @@ pub mod router;
 pub mod step;
 pub mod transit;
 
+pub use missing::misses_on;
 pub use moment::{BoxMoment, BoxNext, ImageNat};
 pub use onward::Onward;
 pub use step::{step_in_place, step_on};

@@ -13,7 +13,7 @@ use header_boxes::Box5;
 use vpc_model::{End, NatNo, Place, Stop};
 
 /// An open that a NAT gateway sent out, before and after its translation, for each request of a box.
-#[derive(Clone, Copy, Debug)]
+#[derive(Clone, Copy)]
 pub struct ImageNat {
     pub nat: NatNo,
     pub before: Image,
@@ -34,7 +34,7 @@ impl Default for ImageNat {
 
 /// Packets at a place, one for each request of a box, with the connections and the translations that
 /// their walks have left behind. All images are over one part of the box.
-#[derive(Clone, Debug, Drop)]
+#[derive(Clone, Drop)]
 pub struct BoxMoment {
     pub place: Place,
     pub header: Image,
@@ -44,7 +44,7 @@ pub struct BoxMoment {
 
 /// How packets leave a place: all go on, all have arrived, or all are stopped. In each case the moment
 /// has what the network remembers afterwards.
-#[derive(Clone, Debug, Drop)]
+#[derive(Clone, Drop)]
 pub enum BoxNext {
     Go(BoxMoment),
     Arrived(End, BoxMoment),

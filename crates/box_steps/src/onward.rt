@@ -7,7 +7,7 @@ use box_images::{Image, Part};
 use vpc_model::{End, Place, Stop};
 
 /// What comes next for all headers of a body, where the step leaves them as they are.
-#[derive(Clone, Copy, Debug)]
+#[derive(Clone, Copy)]
 pub enum Onward {
     Go(Place),
     Arrive(End),

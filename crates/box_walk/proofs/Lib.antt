@@ -1,3 +1,4 @@
 pub mod Rests
 pub mod Telling
 pub mod Texts
+pub mod Missed

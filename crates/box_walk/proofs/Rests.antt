@@ -25,6 +25,7 @@ use Rattle.header_boxes.proofs.CellNumbers.{aligned_through}
 use Rattle.header_boxes.proofs.Held.{holds_low, valid_if_within}
 use Rattle.header_boxes.specs.Boxes.{holds, low_of}
 use Rattle.header_boxes.specs.Cells.{IsAligned}
+use Rattle.header_boxes.specs.declared.boxes.Box5.{Box5}
 use Rattle.vpc_base.specs.Cuts.{AreAmong, CutLists}
 use Rattle.vpc_base.specs.declared.headers.Dir.TheVariants as dirs
 use Rattle.vpc_base.specs.declared.headers.Header.{Header}
@@ -59,7 +60,7 @@ pub is_visited-at : (hops : List Hop) (places : List Place) (p : Place) (v : Boo
 is_visited-at hops places p v at e = sym (is_among-places_of hops p) ∙ (ap (λ (ps : List Place). is_among ps p) at ∙ e)
 
 -- one more hop
-pushed_at : (d : Description) (a : Appliances) (label : Label) (hops : List Hop) (places : List Place) (m : Moment) → places_of hops ≡ places
+pub pushed_at : (d : Description) (a : Appliances) (label : Label) (hops : List Hop) (places : List Place) (m : Moment) → places_of hops ≡ places
     → places_of (hops ++ hop_at d a label m ∷ []) ≡ places ++ m.place ∷ []
 pushed_at d a label hops places m at = places_of-push hops (hop_at d a label m) ∙ ap (λ (ps : List Place). ps ++ m.place ∷ []) at
 
@@ -91,7 +92,7 @@ walk_on-hops d a label n hops h next conns nats hop has =
     (walk_on-keeps d a label (λ x hs cs ts. Contains hs hop) (λ hs m new there. Contains-append_left hs (hop_at d a label m ∷ []) hop there) n hops h next conns nats has).1
 
 -- so the cuts of the first place are among those of the rest
-first_among : (d : Description) (a : Appliances) (label : Label) (left n : ℕ) (hops : List Hop) (m : Moment) → left ≡ n + 1 → is_visited hops m.place ≡ false
+pub first_among : (d : Description) (a : Appliances) (label : Label) (left n : ℕ) (hops : List Hop) (m : Moment) → left ≡ n + 1 → is_visited hops m.place ≡ false
     → let w = rest_of d a label left hops m in AreAmong (cuts_at d m.place) (cuts_of_hops d w.hops)
 first_among d a label left n hops m one new =
     let s = step_of d a label m in
@@ -233,41 +234,47 @@ rest_arrives d a label left n places old mid new end one fresh from step is =
       };
     })
 
+-- the rest by the rest after its first step
+pub rest_of-goes_on : (d : Description) (a : Appliances) (label : Label) (left n : ℕ) (places : List Place) (old mid : BoxMoment) (p : Place) (h : Header) (hops : List Hop)
+    → left ≡ n + 1 → is_among places old.place ≡ false → IsStepOn d a label old mid (onwards.Go p) → holds h mid.header.part ≡ true → places_of hops ≡ places
+    → rest_of d a label left hops (moment_at h old) ≡ rest_of d a label n (hops ++ hop_at d a label (moment_at h old) ∷ []) (moment_at h mid)
+rest_of-goes_on d a label left n places old mid p h hops one fresh step inside at =
+    let m = moment_at h old in
+    let s = step.step h inside in
+    rest_of-step d a label left n hops m (next_at h mid (onwards.Go p)) (connections_at h mid.conns.items) (translations_at h mid.nats.items) one (is_visited-at hops places old.place false at fresh) s.next s.conns s.nats
+    ∙ walk_on-last d a label n (hops ++ hop_at d a label m ∷ []) m.header (header_at mid.header h) (header_at mid.header h) mid.place (connections_at h mid.conns.items) (translations_at h mid.nats.items)
+
+-- what is aligned after the first step is aligned
+pub rest_aligned : (d : Description) (a : Appliances) (label : Label) (left n : ℕ) (places longer : List Place) (old mid : BoxMoment) (body : Box5) (p : Place)
+    → left ≡ n + 1 → is_among places old.place ≡ false → IsStepOn d a label old mid (onwards.Go p) → longer ≡ places ++ old.place ∷ []
+    → ((cuts : CutLists) (hops : List Hop) → places_of hops ≡ longer
+    → AreAmong (cuts_of_hops d (rest_of d a label n hops (moment_at (low_of mid.header.part) mid)).hops) cuts → IsAligned cuts body mid.header.part)
+    → (cuts : CutLists) (hops : List Hop) → places_of hops ≡ places
+    → AreAmong (cuts_of_hops d (rest_of d a label left hops (moment_at (low_of old.header.part) old)).hops) cuts → IsAligned cuts body old.header.part
+rest_aligned d a label left n places longer old mid body p one fresh step are aligned cuts hops at among =
+    let low = low_of old.header.part in
+    let low_inside = subst (λ (g : Header). holds g mid.header.part ≡ true) step.body.low (holds_low mid.header.part (valid_if_within mid.header.part old.header.part step.body.within)) in
+    let longer_hops = hops ++ hop_at d a label (moment_at low old) ∷ [] in
+    aligned_through cuts body mid.header.part old.header.part
+    (aligned cuts longer_hops (pushed_at d a label hops places (moment_at low old) at ∙ sym are)
+    (subst (λ (g : Header). AreAmong (cuts_of_hops d (rest_of d a label n longer_hops (moment_at g mid)).hops) cuts) (sym step.body.low)
+    (subst (λ (w : Walk). AreAmong (cuts_of_hops d w.hops) cuts) (rest_of-goes_on d a label left n places old mid p low hops one fresh step low_inside at) among)))
+    (step_aligned d a label left n places old mid (onwards.Go p) one fresh step cuts hops at among)
+
 -- the rest of the rest
 pub rest_goes_on : (d : Description) (a : Appliances) (label : Label) (left n : ℕ) (places longer : List Place) (old mid new : BoxMoment) (p : Place) (ending : Ending)
-    → left ≡ n + 1 → is_among places old.place ≡ false → IsBoxMoment d label old → IsStepOn d a label old mid (onwards.Go p)
+    → left ≡ n + 1 → is_among places old.place ≡ false → IsStepOn d a label old mid (onwards.Go p)
     → longer ≡ places ++ old.place ∷ [] → IsRestOn d a label n longer mid new ending
     → IsRestOn d a label left places old new ending
-rest_goes_on d a label left n places longer old mid new p ending one fresh from step are rest = record {
+rest_goes_on d a label left n places longer old mid new p ending one fresh step are rest = record {
   walk = λ h inside hops at.
-      subst (λ (w : Walk). IsWalkTo w h new ending) (sym (after h (within_holds new.header.part mid.header.part h rest.body.within inside) hops at))
-      (rest.walk h inside (longer_hops h hops) (pushed_at d a label hops places (moment_at h old) at ∙ sym are));
+      subst (λ (w : Walk). IsWalkTo w h new ending)
+      (sym (rest_of-goes_on d a label left n places old mid p h hops one fresh step (within_holds new.header.part mid.header.part h rest.body.within inside) at))
+      (rest.walk h inside (hops ++ hop_at d a label (moment_at h old) ∷ []) (pushed_at d a label hops places (moment_at h old) at ∙ sym are));
   body = body_through new.header.part mid.header.part old.header.part rest.body step.body;
-  aligned = λ cuts hops at among.
-      aligned_through cuts new.header.part mid.header.part old.header.part
-      (rest.aligned cuts (longer_hops low hops) (pushed_at d a label hops places (moment_at low old) at ∙ sym are)
-      (subst (λ (g : Header). AreAmong (cuts_of_hops d (rest_of d a label n (longer_hops low hops) (moment_at g mid)).hops) cuts) (sym step.body.low)
-      (subst (λ (w : Walk). AreAmong (cuts_of_hops d w.hops) cuts) (after low low_inside hops at) among)))
-      (step_aligned d a label left n places old mid (onwards.Go p) one fresh step cuts hops at among);
+  aligned = rest_aligned d a label left n places longer old mid new.header.part p one fresh step are rest.aligned;
   moment = rest.moment;
 }
-  where
-    low : Header
-    low = low_of old.header.part
-
-    low_inside : holds low mid.header.part ≡ true
-    low_inside = subst (λ (g : Header). holds g mid.header.part ≡ true) step.body.low (holds_low mid.header.part (valid_if_within mid.header.part old.header.part step.body.within))
-
-    longer_hops : Header → List Hop → List Hop
-    longer_hops h hops = hops ++ hop_at d a label (moment_at h old) ∷ []
-
-    after : (h : Header) → holds h mid.header.part ≡ true → (hops : List Hop) → places_of hops ≡ places
-        → rest_of d a label left hops (moment_at h old) ≡ rest_of d a label n (longer_hops h hops) (moment_at h mid)
-    after h inside hops at =
-        let m = moment_at h old in
-        let s = step.step h inside in
-        rest_of-step d a label left n hops m (next_at h mid (onwards.Go p)) (connections_at h mid.conns.items) (translations_at h mid.nats.items) one (is_visited-at hops places old.place false at fresh) s.next s.conns s.nats
-        ∙ walk_on-last d a label n (longer_hops h hops) m.header (header_at mid.header h) (header_at mid.header h) mid.place (connections_at h mid.conns.items) (translations_at h mid.nats.items)
 
 -- a whole walk
 pub walk_from_rest : (d : Description) (a : Appliances) (label : Label) (places : List Place) (old new : BoxMoment) (ending : Ending)

@@ -295,7 +295,7 @@ hops_at-arrival d appliances goal end m h w k =
     ∙ ap (λ (hops : List Hop). cond (same_end end goal) hops []) (hops-left d appliances goal w (arrival_at end m h) (reply_of (header_at m.header h)) k.conns k.nats)
 
 -- the cuts at the places of the low corner's walk
-request_among : (d : Description) (appliances : Appliances) (start goal : End) (old : BoxMoment) → AreRequests start old
+pub request_among : (d : Description) (appliances : Appliances) (start goal : End) (old : BoxMoment) → AreRequests start old
     → (cuts : CutLists) → AreAmong (near_cuts d appliances start goal (low_of old.header.part)) cuts
     → let walk = walk_of d appliances labels.Opening (moment_at (low_of old.header.part) old) in AreAmong (cuts_of_hops d walk.hops) cuts
 request_among d appliances start goal old requests cuts e =

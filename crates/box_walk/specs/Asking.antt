@@ -29,3 +29,11 @@ stop_of (verdicts.Stopped phase s) = Some (phase, s)
 -- the same of a request with this header
 abbrev pub word_of : Asking → Header → Option (Phase × Stop)
 word_of a h = stop_of (verdict_of a.network (appliances_of a.network) a.start a.goal h)
+
+-- whether something does; none where the request gets through
+abbrev pub whether : Option (Phase × Stop) → Option (Unit {0})
+whether None = None
+whether (Some told) = Some tt
+
+abbrev pub stopped_of : Asking → Header → Option (Unit {0})
+stopped_of a h = whether (word_of a h)

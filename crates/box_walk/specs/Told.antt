@@ -24,6 +24,10 @@ use Rattle.box_walk.specs.Asking.{stop_of}
 abbrev pub Tells : (CutLists → Type 0) → (Header → Option (Phase × Stop)) → BoxMoment → BoxMoment → Option (Phase × Stop) → Type 0
 Tells divide_enough word old new told = Answers divide_enough word old.header.part (record { body = new.header.part; told = told })
 
+-- whether something stops them
+abbrev pub TellsWhether : (CutLists → Type 0) → (Header → Option (Unit {0})) → BoxMoment → BoxMoment → Option (Unit {0}) → Type 0
+TellsWhether divide_enough stopped old new told = Answers divide_enough stopped old.header.part (record { body = new.header.part; told = told })
+
 -- ---- requests at the start
 
 -- with nothing remembered

@@ -4,10 +4,13 @@
 
 mod laws;
 mod probe;
+mod seeking;
+mod through;
 mod verdict;
 mod walks;
 
 pub use box_steps::{BoxMoment, BoxNext, ImageNat, step_on};
-pub use laws::words_have_texts;
+pub use laws::{misses_never_arrive, nothing_stops_through, words_have_texts};
 pub use probe::RoundProbe;
+pub use through::ThroughProbe;
 pub use walks::{Ending, walk_on};

@@ -9,9 +9,9 @@ ghost use Rattle.vpc_model.specs.Appliances.{appliances_of};
 ghost use Rattle.vpc_model.specs.Near.{near_cuts};
 ghost use Rattle.vpc_model.specs.Place.{start_of};
 ghost use Rattle.vpc_model.specs.Sound.{is_end};
-ghost use Rattle.box_walk.specs.Asking.{IsAsking, asked, word_of};
+ghost use Rattle.box_walk.specs.Asking.{IsAsking, asked, stopped_of, word_of};
 
-use crate::verdict::{Word, word_of_request};
+use crate::verdict::{Word, is_stopped, word_of_request};
 use appliances::Deciders;
 use box_images::{Image, Part};
 use box_steps::BoxMoment;
@@ -90,6 +90,53 @@ impl<'a> RoundProbe<'a> {
             told,
         }
     }
+
+    // The same by a moment of its own, which a function clears where it begins: so no other one holds it.
+    fn follow_apart(&self, sides: &Box5) -> Part<Word>
+        requires { IsValid sides.now }
+        ensures { Answers
+            (AreAmong (near_cuts self.now.fabric.now (appliances_of self.now.fabric.now) self.now.start self.now.goal (low_of sides.now)))
+            (word_of (asked self.now.fabric.now self.now.start self.now.goal)) sides.now result }
+    {
+        self.follow(sides, &mut moment_at(self.start, sides))
+    }
+
+    // Whether something stops the requests of a part of the sides, or their replies.
+    fn ask(&self, sides: &Box5, m: &mut BoxMoment) -> Part<Option<()>>
+        requires { IsValid sides.now }
+        ensures { Answers
+            (AreAmong (near_cuts self.now.fabric.now (appliances_of self.now.fabric.now) self.now.start self.now.goal (low_of sides.now)))
+            (stopped_of (asked self.now.fabric.now self.now.start self.now.goal)) sides.now result }
+    {
+        begin(m, self.start, sides);
+        let told = is_stopped(self.fabric, self.deciders, self.start, self.goal, m);
+        let body = m.header.part;
+        Part { body, told }
+    }
+
+    // The same by a moment of its own.
+    fn ask_apart(&self, sides: &Box5) -> Part<Option<()>>
+        requires { IsValid sides.now }
+        ensures { Answers
+            (AreAmong (near_cuts self.now.fabric.now (appliances_of self.now.fabric.now) self.now.start self.now.goal (low_of sides.now)))
+            (stopped_of (asked self.now.fabric.now self.now.start self.now.goal)) sides.now result }
+    {
+        self.ask(sides, &mut moment_at(self.start, sides))
+    }
+
+    /// Whether something stops the requests of a part of the sides, or their replies, without what: the part is larger
+    /// than one of which that is told.
+    pub fn is_stopped_on(&self, sides: &Box5) -> Part<Option<()>>
+        requires { IsValid sides.now }
+        ensures { Answers
+            (AreAmong (near_cuts self.now.fabric.now (appliances_of self.now.fabric.now) self.now.start self.now.goal (low_of sides.now)))
+            (stopped_of (asked self.now.fabric.now self.now.start self.now.goal)) sides.now result }
+    {
+        match self.followed.try_borrow_mut() {
+            Ok(mut m) => self.ask(sides, &mut m),
+            Err(_) => self.ask_apart(sides),
+        }
+    }
 }
 
 impl<'a> Probe for RoundProbe<'a> {
@@ -120,7 +167,7 @@ impl<'a> Probe for RoundProbe<'a> {
             }
             // It is lent while another probe is asked.
             Err(_) => {
-                let answer = self.follow(sides, &mut moment_at(self.start, sides));
+                let answer = self.follow_apart(sides);
                 (answer.body, answer.told)
             }
         }

@@ -9,10 +9,11 @@ ghost use Rattle.cut_laws.specs.Dividing.{DivideAddresses};
 ghost use Rattle.vpc_model.specs.Appliances.{appliances_of};
 ghost use Rattle.vpc_model.specs.Near.{near_cuts};
 ghost use Rattle.vpc_model.specs.Sound.{is_end};
-ghost use Rattle.box_walk.specs.Asking.{word_of};
-ghost use Rattle.box_walk.specs.Told.{AreRequests, DivideArrival, DivideReply, Tells, word_of_answer, word_of_arrival, word_of_return};
+ghost use Rattle.box_walk.specs.Asking.{stopped_of, whether, word_of};
+ghost use Rattle.box_walk.specs.Told.{AreRequests, DivideArrival, DivideReply, Tells, TellsWhether, word_of_answer, word_of_arrival, word_of_return};
 ghost use Rattle.box_walk.specs.Walks.{BeginsFresh};
 
+use crate::seeking::seek_on;
 use crate::walks::{Ending, walk_on};
 use appliances::Deciders;
 use box_images::Image;
@@ -107,5 +108,39 @@ pub fn word_of_request(
     match walk_on(f, deciders, Label::Opening, m) {
         Ending::Stopped(stop) => Some((Phase::Request, stop)),
         Ending::Arrived(end) => word_of_arrival(f, deciders, start, goal, end, m),
+    }
+}
+
+// Whether a word tells of a stop.
+fn whether(word: Word) -> Option<()>
+    ensures { result ≡ whether word }
+{
+    match word {
+        Some(_) => Some(()),
+        None => None,
+    }
+}
+
+/// Whether something stops the requests of a moment at the start, or their replies. Requests are followed as long as
+/// they may arrive at the goal, replies to their end.
+pub fn is_stopped(
+    f: &Fabric,
+    deciders: &Deciders,
+    start: End,
+    goal: End,
+    m: &mut BoxMoment,
+) -> Option<()>
+    requires appliances { deciders.now.appliances ≡ appliances_of f.now }
+    requires goal { IsTrue (is_end f.now goal) }
+    requires moment { IsBoxMoment f.now labels.Opening m.old }
+    requires fresh { BeginsFresh labels.Opening m.old }
+    requires requests { AreRequests start m.old }
+    ensures { TellsWhether
+        (AreAmong (near_cuts f.now (appliances_of f.now) start goal (low_of m.old.header.part)))
+        (stopped_of (record { network = f.now; start = start; goal = goal })) m.old m.new result }
+{
+    match seek_on(f, deciders, goal, m) {
+        Some(end) => whether(word_of_arrival(f, deciders, start, goal, end, m)),
+        None => Some(()),
     }
 }

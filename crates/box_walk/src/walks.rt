@@ -14,16 +14,17 @@ use vpc_base::Label;
 use vpc_model::{End, Place, Stop};
 
 // At most so many places are visited.
-const FARTHEST: usize = 64;
+pub const FARTHEST: usize = 64;
 
 /// How the walks of all headers of a part end.
-#[derive(Clone, Copy, Debug)]
+#[derive(Clone, Copy)]
 pub enum Ending {
     Arrived(End),
     Stopped(Stop),
 }
 
-fn is_among(places: &[Place], place: Place) -> bool
+/// Whether a place was visited.
+pub fn is_among(places: &[Place], place: Place) -> bool
     ensures { result ≡ is_among places.now place }
 {
     places.iter().any(|p| same_place(*p, place))

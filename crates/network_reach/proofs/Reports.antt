@@ -1,15 +1,16 @@
 -- What a search answers about the stops of requests is a report about their verdicts.
-use Rattle.std.proofs.Common.{◌∙◌, ◌<◌, Err, IfOk, List, None, Ok, Option, Result, Some, subst, sym, ℕ}
+use Rattle.std.proofs.Common.{◌≡◌, ◌∙◌, ◌<◌, Err, IfOk, List, None, Ok, Option, Result, Some, ap, refl, subst, sym, ℕ}
 use Rattle.std.specs.Global.{Vec}
-use Rattle.std.specs.Prelude.{slice_index_or}
+use Rattle.std.specs.Prelude.{option_map, slice_index_or}
 use Rattle.std.proofs.lemmas.List.{length-map}
 use Rattle.header_boxes.proofs.Held.{holds_low, valid_if_within}
 use Rattle.header_boxes.specs.Boxes.{low_of}
-use Rattle.header_boxes.specs.Rows.{AreTrueRows, IsFirst, IsFirstThrough, NoneThrough}
+use Rattle.header_boxes.specs.Rows.{AreTrueRows, IsFirst, NoneThrough}
+use Rattle.header_boxes.specs.declared.boxes.Box5.{Box5}
 use Rattle.header_boxes.specs.declared.rows.Row.{Row}
 use Rattle.block_report.specs.Reports.{HaveText, told_row, told_rows}
 use Rattle.box_walk.proofs.Texts.{ending_of-stop, stop_told}
-use Rattle.box_walk.specs.Asking.{asked, word_of}
+use Rattle.box_walk.specs.Asking.{Asking, asked, stopped_of, whether, word_of}
 use Rattle.ordered_cover.specs.Cover.{IsBlocked, IsMore}
 use Rattle.query_words.specs.declared.queries.Query.{Query}
 use Rattle.vpc_laws.proofs.Telling.{verdicts_are_told}
@@ -46,16 +47,41 @@ have-text d query rows accepted asked are = λ k none below.
     (verdicts_are_told d (appliances_of d) query.start query.goal low accepted asked.start asked.goal)
     (are.word k none below low (holds_low row.part (valid_if_within row.part query.sides (are.within k none below))))
 
--- ---- reports
+-- ---- headers that get through
 
-pub through_is : (d : Description) (query : Query) (h : Header) → IsFirstThrough (stops_of d query) query.sides h → IsReached d query (answers.Through h)
-through_is d query h found = first_told (tell d) (stops_of d query) (meaning_in d query) query.sides h (tells d query) found
+-- nothing stops it
+unstopped : (o : Option (Phase × Stop)) → whether o ≡ None → o ≡ None
+unstopped None e = refl
+unstopped (Some told) e = absurd cc
+
+first_unstopped : (word : Header → Option (Phase × Stop)) (box : Box5) (o : Option Header) → IsFirst (λ h. whether (word h)) box o → IsFirst word box o
+first_unstopped word box (Some h) found = record {
+  inside = found.inside;
+  through = unstopped (word h) found.through;
+  first = λ k held before e. found.first k held before (ap whether e);
+}
+first_unstopped word box None none = λ h held e. none h held (ap whether e)
+
+first_is : (d : Description) (query : Query) (o : Option Header) → IsFirst (stops_of d query) query.sides o → IsFirst (meaning_in d query) query.sides o
+first_is d query (Some h) found = first_told (tell d) (stops_of d query) (meaning_in d query) query.sides h (tells d query) found
+first_is d query None none = none_through_told (tell d) (stops_of d query) (meaning_in d query) query.sides (tells d query) none
 
 -- the first header that gets through, if one does
-pub first_is : {E : Type 0} (d : Description) (query : Query) (r : Result (Option Header) E) → IfOk r (IsFirst (stops_of d query) query.sides) → IfOk r (IsFirst (meaning_in d query) query.sides)
-first_is d query (Ok (Some h)) found = through_is d query h found
-first_is d query (Ok None) none = none_through_told (tell d) (stops_of d query) (meaning_in d query) query.sides (tells d query) none
-first_is d query (Err e) found = tt
+pub first_by_stops : {E : Type 0} (d : Description) (query : Query) (a : Asking) (r : Result (Option Header) E) → a ≡ asked d query.start query.goal
+    → IfOk r (IsFirst (stopped_of a) query.sides) → IfOk r (IsFirst (meaning_in d query) query.sides)
+first_by_stops d query a (Ok o) is found =
+    first_is d query o (first_unstopped (stops_of d query) query.sides o (subst (λ (b : Asking). IsFirst (stopped_of b) query.sides o) is found))
+first_by_stops d query a (Err e) is found = tt
+
+-- what is told where something stops a header
+untold : (d : Description) (o : Option (Phase × Stop)) → o ≡ None → option_map (tell d) o ≡ None
+untold d o e = ap (option_map (tell d)) e
+
+-- none gets through
+pub none_unstopped : (d : Description) (query : Query) → NoneThrough (meaning_in d query) query.sides → NoneThrough (stops_of d query) query.sides
+none_unstopped d query none h held e = none h held (tells d query h held ∙ untold d (stops_of d query h) e)
+
+-- ---- reports
 
 report : (d : Description) (query : Query) (rows : List (Row (Phase × Stop))) → IsBlocked (stops_of d query) (cuts_of d) query.sides query.max rows → IsReportIn d query (told_rows d rows)
 report d query rows is = record {

@@ -1,11 +1,12 @@
 // The answer to a query.
 ghost use Rattle.std.specs.Prelude.{◌≡◌, IfOk};
-ghost use Rattle.header_boxes.specs.Rows.{IsFirst};
+ghost use Rattle.box_walk.specs.Asking.{asked};
+ghost use Rattle.header_boxes.specs.Rows.{IsFirst, NoneThrough};
 ghost use Rattle.vpc_model.specs.Appliances.{appliances_of};
 ghost use Rattle.network_reach.specs.Reached.{IsQueryIn, IsReached, meaning_in};
 
 use appliances::Deciders;
-use box_walk::RoundProbe;
+use box_walk::{RoundProbe, ThroughProbe};
 use cut_points::cells_in;
 use fabric::Fabric;
 use header_boxes::Row;
@@ -17,7 +18,7 @@ use vpc_base::{Header, NoMemory};
 use vpc_model::{Phase, Stop};
 
 /// What is known of the requests of a query.
-#[derive(Debug, Drop)]
+#[derive(Drop)]
 pub enum Reached {
     /// The first header that gets through.
     Through(Header),
@@ -28,9 +29,49 @@ pub enum Reached {
     More(Vec<Row<(Phase, Stop)>>, Header, u128),
 }
 
-/// Which requests of a query get through, with their replies, or what stops each of them. The number of rows
-/// limits the report alone: where there is no room for all rows, the search goes on for a header that gets
-/// through.
+// The first request of a query that gets through, if one does, by the walks between its ends.
+fn first_by(
+    alloc: Global,
+    f: &Fabric,
+    round: &RoundProbe,
+    query: &Query,
+) -> Result<Option<Header>, NoMemory>
+    requires query { IsQueryIn f.now query.now }
+    requires round { asked round.now.fabric.now round.now.start round.now.goal
+        ≡ asked f.now query.now.start query.now.goal }
+    ensures { IfOk result (IsFirst (meaning_in f.now query.now) query.now.sides) }
+{
+    first(alloc, &ThroughProbe::of(round), query.sides)
+}
+
+// The report of a query of which no request gets through. As many rows are asked for as it may have, and what comes
+// after them isn't.
+fn blocked(
+    alloc: Global,
+    f: &Fabric,
+    round: &RoundProbe,
+    query: &Query,
+) -> Result<Reached, NoMemory>
+    requires query { IsQueryIn f.now query.now }
+    requires round { asked round.now.fabric.now round.now.start round.now.goal
+        ≡ asked f.now query.now.start query.now.goal }
+    requires none { NoneThrough (meaning_in f.now query.now) query.now.sides }
+    ensures { IfOk result (IsReached f.now query.now) }
+{
+    let d = f.network().description();
+    match cover(alloc, round, query.sides, query.max)? {
+        Cover::Found(_) => unreachable!(),
+        Cover::Blocked(rows) => Ok(Reached::Blocked(rows)),
+        Cover::More(rows, next) => {
+            let cells = cells_in(alloc, d, &query.sides)?;
+            Ok(Reached::More(rows, next, cells))
+        }
+    }
+}
+
+/// Which requests of a query get through, with their replies, or what stops each of them. The first header that gets
+/// through is searched for first, by a probe that doesn't tell apart what stops the others; only where there is none
+/// are rows made, and their number limits the report alone.
 ///
 /// Each part that is asked is as large as the rows on its two walks let it be. Only where rows are left out are
 /// the cuts of the description gathered, and those that divide a side of the query sorted. Fails for want of
@@ -45,23 +86,15 @@ pub fn reach(
     requires query { IsQueryIn f.now query.now }
     ensures { IfOk result (IsReached f.now query.now) }
 {
-    let d = f.network().description();
     let probe = RoundProbe::of(f, deciders, query.start, query.goal);
-    match cover(alloc, &probe, query.sides, query.max)? {
-        Cover::Found(h) => Ok(Reached::Through(h)),
-        Cover::Blocked(rows) => Ok(Reached::Blocked(rows)),
-        Cover::More(rows, next) => match first(alloc, &probe, query.sides)? {
-            Some(h) => Ok(Reached::Through(h)),
-            None => {
-                let cells = cells_in(alloc, d, &query.sides)?;
-                Ok(Reached::More(rows, next, cells))
-            }
-        },
+    match first_by(alloc, f, &probe, query)? {
+        Some(h) => Ok(Reached::Through(h)),
+        None => blocked(alloc, f, &probe, query),
     }
 }
 
-/// The first request of a query that gets through, with its reply, if one does: the same search, which keeps
-/// no rows. Fails for want of memory alone.
+/// The first request of a query that gets through, with its reply, if one does: the same search. Fails for want of
+/// memory alone.
 pub fn first_through(
     alloc: Global,
     f: &Fabric,
@@ -73,5 +106,5 @@ pub fn first_through(
     ensures { IfOk result (IsFirst (meaning_in f.now query.now) query.now.sides) }
 {
     let round = RoundProbe::of(f, deciders, query.start, query.goal);
-    first(alloc, &round, query.sides)
+    first_by(alloc, f, &round, query)
 }

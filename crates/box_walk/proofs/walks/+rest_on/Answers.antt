@@ -39,6 +39,6 @@ returns-in-Stop g t c =
 pub returns-else-left-eq1 : goal.returns-else-left-eq1
 returns-else-left-eq1 g t c =
     let some = c.requires.some in
-    rest_goes_on c.args.f.now (appliances_of c.args.f.now) c.args.label c.args.left (c.args.left - 1) c.args.visited.now.items c.push.new.self.items c.args.m.now c.step_in_place.new.m c.rest_on.new.m c.in-Go.place c.rest_on.result (omega arith) c.requires.fresh c.requires.moment
+    rest_goes_on c.args.f.now (appliances_of c.args.f.now) c.args.label c.args.left (c.args.left - 1) c.args.visited.now.items c.push.new.self.items c.args.m.now c.step_in_place.new.m c.rest_on.new.m c.in-Go.place c.rest_on.result (omega arith) c.requires.fresh
     (subst (λ (o : Onward). IsStepOn c.args.f.now (appliances_of c.args.f.now) c.args.label c.args.m.now c.step_in_place.new.m o) c.in-Go.is c.step_in_place.ensures)
     c.push.ensures.items c.rest_on.ensures

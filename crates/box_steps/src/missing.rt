@@ -1,0 +1,191 @@
+// Opens that can no longer arrive at their goal, told before an ACL or the groups of an interface are asked.
+ghost use Rattle.std.specs.Prelude.{◌≡◌, IsTrue, Some};
+ghost use Rattle.box_images.specs.Images.{IsImageOfWalk, IsValidImage, header_at};
+ghost use Rattle.box_steps.specs.Cuts.{AtPlace, Standing};
+ghost use Rattle.box_steps.specs.Missing.{HoldsOver, is_away, is_elsewhere, misses, misses_at};
+ghost use Rattle.box_steps.specs.Moments.{IsBoxMoment, moment_at};
+ghost use Rattle.vpc_base.specs.declared.headers.Label.TheVariants as labels;
+ghost use Rattle.vpc_laws.specs.Accepted.{HasTarget};
+ghost use Rattle.vpc_model.specs.Appliances.{appliances_of};
+ghost use Rattle.vpc_model.specs.Lookup.{host_of, table_at, table_of};
+ghost use Rattle.vpc_model.specs.Routes.{chosen_route};
+ghost use Rattle.vpc_model.specs.Sound.{is_eni, is_route, is_subnet, is_vpc};
+ghost use Rattle.vpc_model.specs.Step.Router.{by_route, to_interface, to_target};
+ghost use Rattle.vpc_model.specs.Verdict.{same_end};
+ghost use Rattle.vpc_model.specs.declared.places.Came.{Came};
+ghost use Rattle.vpc_model.specs.declared.places.End.TheVariants as ends;
+ghost use Rattle.vpc_model.specs.declared.places.Place.TheVariants as places;
+
+use crate::choosing::route_on;
+use crate::hosts::host_on;
+use crate::moment::BoxMoment;
+use appliances::Deciders;
+use box_images::Image;
+use fabric::Fabric;
+use fabric::rows::{eni_named, table_at, vpc_of};
+use header_boxes::Box5;
+use vpc_model::{End, EniNo, Place, SubnetNo, TableNo, Target, VpcNo};
+
+fn is_goal(goal: End, e: EniNo) -> bool
+    ensures { result ≡ same_end (ends.Interface e) goal }
+{
+    match goal {
+        End::Interface(i) => e.0 == i.0,
+        End::Internet => false,
+    }
+}
+
+// What is delivered to an interface goes no further, unless it is an appliance's.
+fn is_elsewhere(deciders: &Deciders, goal: End, e: EniNo) -> bool
+    ensures { result ≡ is_elsewhere deciders.now.appliances goal e }
+{
+    match deciders.number(e) {
+        Some(_) => false,
+        None => !is_goal(goal, e),
+    }
+}
+
+// The same of the interface that has a destination, if one has it.
+fn is_away(deciders: &Deciders, goal: End, host: Option<EniNo>) -> bool
+    ensures { result ≡ is_away deciders.now.appliances goal host }
+{
+    match host {
+        Some(e) => is_elsewhere(deciders, goal, e),
+        None => true,
+    }
+}
+
+// Packets for a VPC, where no interface of it that is the goal's or an appliance's has the destination.
+fn host_away_on(f: &Fabric, deciders: &Deciders, goal: End, v: VpcNo, i: &Image) -> Option<Box5>
+    requires vpc { IsTrue (is_vpc f.now v) }
+    requires valid { IsValidImage i.now }
+    requires walk { IsImageOfWalk i.now }
+    ensures { HoldsOver (Standing f.now)
+        (λ h. is_away deciders.now.appliances goal (host_of f.now v (header_at i.now h).dst))
+        i.now.part result }
+{
+    let host = host_on(f, v, i);
+    if is_away(deciders, goal, host.told) {
+        Some(host.body)
+    } else {
+        None
+    }
+}
+
+// A route to an interface that is neither the goal nor an appliance's.
+fn to_interface_away(
+    f: &Fabric,
+    deciders: &Deciders,
+    goal: End,
+    s: SubnetNo,
+    i: &Image,
+    e: EniNo,
+) -> Option<Box5>
+    requires valid { IsValidImage i.now }
+    ensures { HoldsOver (Standing f.now)
+        (λ h. misses deciders.now.appliances goal (to_interface f.now s (header_at i.now h) e))
+        i.now.part result }
+{
+    if is_elsewhere(deciders, goal, e) {
+        Some(i.part)
+    } else {
+        None
+    }
+}
+
+// By the target of the route; of what goes on to a gateway nothing is known.
+fn to_target_away(
+    f: &Fabric,
+    deciders: &Deciders,
+    goal: End,
+    s: SubnetNo,
+    i: &Image,
+    t: TableNo,
+    k: u32,
+    target: &Target,
+) -> Option<Box5>
+    requires subnet { IsTrue (is_subnet f.now s) }
+    requires there { let table = table_at f.now t in HasTarget f.now table.vpc target.now }
+    requires valid { IsValidImage i.now }
+    requires walk { IsImageOfWalk i.now }
+    ensures { HoldsOver (Standing f.now)
+        (λ h. misses deciders.now.appliances goal
+        (to_target f.now s (header_at i.now h) t k target.now)) i.now.part result }
+{
+    match target {
+        Target::Local => host_away_on(f, deciders, goal, vpc_of(f, s), i),
+        Target::Interface(id) => {
+            to_interface_away(f, deciders, goal, s, i, eni_named(f.network(), id))
+        }
+        _ => None,
+    }
+}
+
+// By the chosen route; of a blackhole nothing is told here.
+fn by_route_away(
+    f: &Fabric,
+    deciders: &Deciders,
+    goal: End,
+    s: SubnetNo,
+    i: &Image,
+    t: TableNo,
+    k: u32,
+) -> Option<Box5>
+    requires subnet { IsTrue (is_subnet f.now s) }
+    requires route { IsTrue (is_route f.now t k) }
+    requires valid { IsValidImage i.now }
+    requires walk { IsImageOfWalk i.now }
+    ensures { HoldsOver (Standing f.now)
+        (λ h. misses deciders.now.appliances goal (by_route f.now s (header_at i.now h) t (Some k)))
+        i.now.part result }
+{
+    let _ = f.network().description();
+    let route = &table_at(f, t).routes.as_slice()[k as usize];
+    if route.blackhole {
+        return None;
+    }
+    to_target_away(f, deciders, goal, s, i, t, k, &route.target)
+}
+
+// From the router of a subnet, by its table.
+fn router_away_on(
+    f: &Fabric,
+    deciders: &Deciders,
+    goal: End,
+    s: SubnetNo,
+    i: &Image,
+) -> Option<Box5>
+    requires subnet { IsTrue (is_subnet f.now s) }
+    requires valid { IsValidImage i.now }
+    requires walk { IsImageOfWalk i.now }
+    ensures { (came : Came) → let t = table_of f.now s in let table = table_at f.now t in
+        HoldsOver (AtPlace f.now (places.Router s came)) (λ h. let k = header_at i.now h in
+        misses deciders.now.appliances goal
+        (by_route f.now s k t (chosen_route f.now table.routes k.dst))) i.now.part result }
+{
+    let n = f.network();
+    let _ = n.description();
+    let t = n.table_of(s);
+    let chosen = route_on(f, s, i);
+    match chosen.told {
+        Some(k) => by_route_away(f, deciders, goal, s, &i.within(&chosen.body), t, k),
+        None => None,
+    }
+}
+
+/// A body of the packets of a moment, opens, that can't arrive at the goal: their next step delivers them to an
+/// interface that is neither the goal nor an appliance's, or stops them. No ACL and no groups are asked, so the body is as
+/// large as routes and addresses let it be. Where none is told, nothing is known.
+pub fn misses_on(f: &Fabric, deciders: &Deciders, goal: End, m: &BoxMoment) -> Option<Box5>
+    requires appliances { deciders.now.appliances ≡ appliances_of f.now }
+    requires moment { IsBoxMoment f.now labels.Opening m.now }
+    ensures { HoldsOver (AtPlace f.now m.now.place)
+        (λ h. misses_at f.now (appliances_of f.now) goal (moment_at h m.now))
+        m.now.header.part result }
+{
+    match m.place {
+        Place::Router(s, _) => router_away_on(f, deciders, goal, s, &m.header),
+        Place::Enter(v, _) => host_away_on(f, deciders, goal, v, &m.header),
+        _ => None,
+    }
+}

@@ -1,0 +1,5 @@
+use Rattle.box_walk.proofs.Missed.{nothing_stops_through}
+use Rattle.box_walk.proofs.laws.nothing_stops_through.Goals as goal
+
+pub returns : goal.returns
+returns c = nothing_stops_through
