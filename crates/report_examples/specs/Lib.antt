@@ -1,4 +1,5 @@
 pub mod Printed
 pub mod Reported
 pub mod Stops
+pub mod Refusals
 pub mod Middleboxes

@@ -2,5 +2,6 @@
 #![tactic(auto)]
 
 pub mod middleboxes;
+pub mod refusals;
 pub mod stops;
 pub mod texts;

@@ -1,5 +1,5 @@
 -- What packets do in small networks.
-use Rattle.std.specs.Prelude.{◌∷◌, ◌≡◌, [], List, None, Some, codes, false, map, true, ℕ}
+use Rattle.std.specs.Prelude.{◌∷◌, ◌≡◌, [], Bool, List, None, Some, codes, false, map, true, ℕ}
 use Rattle.vpc_examples.specs.Types.{AttNo, By, Description, Dir, End, EniNo, Header, Hop, Label, NatNo, Outcome, Place, SubnetNo, Verdict, VpcNo}
 use Rattle.vpc_model.specs.declared.outcomes.By.TheVariants as bys
 use Rattle.vpc_base.specs.declared.headers.Dir.TheVariants as dirs
@@ -17,7 +17,7 @@ use Rattle.vpc_examples.specs.Networks.{acl_1, anywhere, behind_nat, block, equa
 use Rattle.vpc_model.specs.Acls.{acl_verdict}
 use Rattle.vpc_model.specs.Appliances.{appliances_of}
 use Rattle.vpc_model.specs.Connections.{Connection, is_tracked}
-use Rattle.vpc_model.specs.Nat.{Translation, new_translation}
+use Rattle.vpc_model.specs.Nat.{Translation, new_translation, shares}
 use Rattle.vpc_model.specs.Routes.{chosen_route}
 use Rattle.vpc_model.specs.Verdict.{verdict_of}
 use Rattle.vpc_model.specs.Walk.{Walk, walk_of}
@@ -281,6 +281,36 @@ PortsAreGivenInOrder =
     × ((port_after (taken_by_b 65535 ∷ taken_by_b 1024 ∷ []) 65535 ≡ 1025)
     × ((port_after (record (taken_by_b 5000) { nat = nat 1 } ∷ []) 5000 ≡ 5000)
     × (port_after (record (taken_by_b 5000) { after = record (translated 5000) { q = 80 } } ∷ []) 5000 ≡ 5000))))
+
+-- translations share their ports where gateway, protocol, destination and q are the same, whatever was sent from where
+abbrev pub PortsAreSharedByFlow : Type 0
+PortsAreSharedByFlow =
+    let sharing : Translation → Bool = shares (nat 0) (a_to_server 5000) in
+    let of_header : Header → Translation = (λ h. record { nat = nat 0; before = b_to_server 5000; after = h }) in
+    map sharing (taken_by_b 5000
+    ∷ of_header (record (translated 6000) { src = v4 10 0 3 6 })
+    ∷ record (taken_by_b 5000) { nat = nat 1 }
+    ∷ of_header (record (translated 5000) { proto = 17 })
+    ∷ of_header (record (translated 5000) { dst = v4 198 51 100 8 })
+    ∷ of_header (record (translated 5000) { q = 80 })
+    ∷ [])
+    ≡ true ∷ true ∷ false ∷ false ∷ false ∷ false ∷ []
+
+-- a port that is taken for one server is free for another one, and for another protocol: two hosts that send from it both keep it,
+-- and each answer finds its host
+abbrev pub PortsAreOfOneServer : Type 0
+PortsAreOfOneServer =
+    let d : Description = behind_nat open_rows in
+    let to_other : Header = record (b_to_server 5000) { dst = v4 198 51 100 8 } in
+    let by_udp : Header = record (b_to_server 5000) { proto = 17 } in
+    let sent_by_a : Walk = first_walk d labels.Opening (places.OutOf (eni 0)) (a_to_server 5000) in
+    let other : Walk = walk_after d labels.Opening sent_by_a (places.OutOf (eni 1)) to_other in
+    let answered : Walk → Header → Outcome = (λ w h. outcome_of (walk_after d labels.Answer w places.Internet h)) in
+    (outcome_of sent_by_a ≡ outcomes.Arrived ends.Internet (published 5000))
+    × ((outcome_of other ≡ outcomes.Arrived ends.Internet (record (published 5000) { dst = v4 198 51 100 8 }))
+    × ((answered other (record (from_server 5000) { src = v4 198 51 100 8 }) ≡ outcomes.Arrived (ends.Interface (eni 1)) (tcp (v4 198 51 100 8) (v4 10 0 2 20) 443 5000))
+    × ((answered other (from_server 5000) ≡ outcomes.Arrived (ends.Interface (eni 0)) (tcp (v4 198 51 100 7) (v4 10 0 1 10) 443 5000))
+    × (outcome_of (walk_after d labels.Opening sent_by_a (places.OutOf (eni 1)) by_udp) ≡ outcomes.Arrived ends.Internet (record (published 5000) { proto = 17 })))))
 
 -- the ACL of the gateway's subnet lets in answers to ports up to 2047
 abbrev pub AnswersMeetTheAcl : Type 0

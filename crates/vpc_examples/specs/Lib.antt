@@ -3,8 +3,11 @@ pub mod Networks
 pub mod Examples
 pub mod Stops
 pub mod Choices
+pub mod Firsts
 pub mod Crossings
 pub mod Middleboxes
 pub mod CutRows
+pub mod NearRows
+pub mod ReportRows
 pub mod Refused
 pub mod Replayed

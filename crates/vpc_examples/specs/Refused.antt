@@ -1,14 +1,15 @@
 -- Descriptions that make a network, and descriptions that don't, each with its first cause.
-use Rattle.std.specs.Prelude.{◌∷◌, ◌≡◌, [], List, None, Option, Some, codes, ℕ}
-use Rattle.vpc_examples.specs.Types.{Description, Interface, NatLife, Refusal, Route, RouteTable, Target}
+use Rattle.std.specs.Prelude.{◌∷◌, ◌≡◌, [], List, None, Option, Some, codes, true, ℕ}
+use Rattle.vpc_examples.specs.Types.{Acl, Appliance, Association, Attachment, Description, Group, Interface, InternetGateway, ListName, NatGateway, NatLife, Peering, PrefixList, Refusal, Route, RouteTable, Subnet, Target, TgwTable, Vpc}
 use Rattle.vpc_model.specs.declared.rows.ApplianceKind.TheVariants as forwards
 use Rattle.vpc_model.specs.declared.rows.NatLife.TheVariants as lives
+use Rattle.vpc_model.specs.declared.refusals.ListName.TheVariants as named
 use Rattle.vpc_model.specs.declared.refusals.Refusal.TheVariants as refusals
 use Rattle.vpc_model.specs.declared.rows.Target.TheVariants as targets
 use Rattle.vpc_examples.specs.Middleboxes.{with_appliance}
 use Rattle.vpc_examples.specs.Networks.{acl, acl_1, allow_all, anywhere, bare, behind_nat, gone_route, group, https_from_group, list_route, low_ports_in, main_table, open_rows, peered, route, site_host, site_table, subnet_table, transit, two_subnets, v4, vpc_1}
 use Rattle.vpc_examples.specs.Stops.{eni_a, eni_b, plain_vpc, with_hosts, with_route}
-use Rattle.vpc_model.specs.Accepted.{refusal_of}
+use Rattle.vpc_model.specs.Accepted.{is_long, refusal_of, too_many_rows}
 
 -- the first cause against a description, if there is one
 abbrev pub cause : Description → Option Refusal
@@ -82,6 +83,19 @@ TellsForeignTargets =
     × ((cause (from_c (targets.Nat (codes "nat-1")) (nat_in (lives.Live (codes "subnet-x") (codes "eni-a") (v4 10 1 1 10)))) ≡ missing (codes "rtb-c") (codes "nat-1"))
     × (cause (from_c (targets.Nat (codes "nat-1")) (nat_in lives.Gone)) ≡ None)))))
 
+-- a route names its peering from either side, the VPC that asked for it or the one that accepted it, and a NAT gateway that isn't
+-- followed from any VPC
+abbrev pub AcceptsTargetsOfEitherSide : Type 0
+AcceptsTargetsOfEitherSide =
+    let to_pcx : List Route = route anywhere (targets.Peer (codes "pcx-1")) ∷ [] in
+    let over : List ℕ → List ℕ → Option Refusal = (λ asked accepted. cause (record peered { tables = site_table (codes "a") 1 to_pcx ∷ site_table (codes "b") 2 to_pcx ∷ site_table (codes "c") 3 [] ∷ []; peerings = record { id = codes "pcx-1"; pair = Some (asked, accepted) } ∷ [] })) in
+    let to_nat : List Route = route anywhere (targets.Nat (codes "nat-1")) ∷ [] in
+    (over (codes "vpc-a") (codes "vpc-b") ≡ None)
+    × ((over (codes "vpc-b") (codes "vpc-a") ≡ None)
+    × ((over (codes "vpc-a") (codes "vpc-c") ≡ missing (codes "rtb-b") (codes "pcx-1"))
+    × ((over (codes "vpc-c") (codes "vpc-b") ≡ missing (codes "rtb-a") (codes "pcx-1"))
+    × (cause (record peered { tables = site_table (codes "a") 1 to_nat ∷ site_table (codes "b") 2 [] ∷ site_table (codes "c") 3 to_nat ∷ []; nats = record { id = codes "nat-1"; life = lives.Unmodelled } ∷ [] }) ≡ None))))
+
 -- of a live NAT gateway, and of an attachment whose VPC is described
 abbrev pub TellsMissingAtGateways : Type 0
 TellsMissingAtGateways =
@@ -125,3 +139,29 @@ TellsFirstCause =
     × ((cause (record worst { vpcs = vpc_1 ∷ []; interfaces = twice ∷ [] }) ≡ Some (refusals.DuplicatePublic (v4 203 0 113 1)))
     × ((cause (record worst { vpcs = vpc_1 ∷ []; interfaces = [] }) ≡ Some (refusals.NoRouteTable (codes "subnet-a")))
     × (cause (record plain_vpc { acls = []; igws = record { id = codes "igw-1"; vpcs = codes "vpc-1" ∷ [] } ∷ record { id = codes "igw-2"; vpcs = codes "vpc-1" ∷ [] } ∷ [] }) ≡ Some (refusals.NoAcl (codes "subnet-a")))))))
+
+-- ---- lists that are too long
+
+-- nothing is described but what is added here
+abbrev pub nothing : Description
+nothing = bare [] []
+
+abbrev pub too_many : Description → ListName → Type 0
+too_many d name = too_many_rows d ≡ refusals.TooManyRows name ∷ []
+
+-- a list with more than 100,000 rows is told by its own name
+pub record LongListsAreNamed : Type 0 where
+  pub vpcs : (xs : List Vpc) → is_long xs ≡ true → too_many (record nothing { vpcs = xs }) named.Vpcs
+  pub subnets : (xs : List Subnet) → is_long xs ≡ true → too_many (record nothing { subnets = xs }) named.Subnets
+  pub interfaces : (xs : List Interface) → is_long xs ≡ true → too_many (record nothing { interfaces = xs }) named.NetworkInterfaces
+  pub tables : (xs : List RouteTable) → is_long xs ≡ true → too_many (record nothing { tables = xs }) named.RouteTables
+  pub lists : (xs : List PrefixList) → is_long xs ≡ true → too_many (record nothing { lists = xs }) named.PrefixLists
+  pub acls : (xs : List Acl) → is_long xs ≡ true → too_many (record nothing { acls = xs }) named.NetworkAcls
+  pub groups : (xs : List Group) → is_long xs ≡ true → too_many (record nothing { groups = xs }) named.SecurityGroups
+  pub igws : (xs : List InternetGateway) → is_long xs ≡ true → too_many (record nothing { igws = xs }) named.InternetGateways
+  pub nats : (xs : List NatGateway) → is_long xs ≡ true → too_many (record nothing { nats = xs }) named.NatGateways
+  pub peerings : (xs : List Peering) → is_long xs ≡ true → too_many (record nothing { peerings = xs }) named.VpcPeeringConnections
+  pub attachments : (xs : List Attachment) → is_long xs ≡ true → too_many (record nothing { attachments = xs }) named.TransitGatewayVpcAttachments
+  pub associations : (xs : List Association) → is_long xs ≡ true → too_many (record nothing { associations = xs }) named.TransitGatewayAttachments
+  pub tgw_tables : (xs : List TgwTable) → is_long xs ≡ true → too_many (record nothing { tgw_tables = xs }) named.TransitGatewayRoutes
+  pub appliances : (xs : List Appliance) → is_long xs ≡ true → too_many (record nothing { appliances = xs }) named.Appliances

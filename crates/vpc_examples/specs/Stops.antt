@@ -1,5 +1,5 @@
 -- Where packets are stopped in small networks: each stop at least once.
-use Rattle.std.specs.Prelude.{◌∷◌, ◌≡◌, ◌+◌, [], List, None, Option, Some, codes, false, length, map, true, ℕ}
+use Rattle.std.specs.Prelude.{◌++◌, ◌∷◌, ◌≡◌, ◌+◌, [], Bool, List, None, Option, Some, codes, false, length, map, true, ℕ}
 use Rattle.vpc_examples.specs.Types.{Description, Header, Interface, NatLife, Outcome, Peering, Route, RuleRef, SubnetNo}
 use Rattle.vpc_model.specs.declared.outcomes.By.TheVariants as bys
 use Rattle.vpc_base.specs.declared.headers.Dir.TheVariants as dirs
@@ -14,9 +14,9 @@ use Rattle.vpc_model.specs.declared.places.Place.TheVariants as places
 use Rattle.vpc_model.specs.declared.stops.Stop.TheVariants as stops
 use Rattle.vpc_model.specs.declared.rows.Target.TheVariants as targets
 use Rattle.vpc_model.specs.declared.outcomes.Verdict.TheVariants as verdicts
-use Rattle.vpc_examples.specs.Examples.{a_to_c, a_to_server, att, eni, first_walk, from_server, hop, hop_by, nat, outcome_of, subnet, tcp, verdict_in, vpc}
+use Rattle.vpc_examples.specs.Examples.{a_to_c, a_to_server, att, eni, first_walk, from_server, hop, hop_by, nat, outcome_of, subnet, tcp, verdict_in, vpc, walk_after}
 use Rattle.vpc_examples.specs.Networks.{acl, acl_1, allow_all, allow_row, anywhere, attached, bare, behind_nat, block, eni_n, gone_route, group, host, host_with, https_from, https_from_group, local_1, main_table, open_rows, peered, public_hosts, route, site_group, site_host, site_subnet, tcp_row, tgw_route, transit, transit_subnet, two_subnets, v4}
-use Rattle.vpc_model.specs.Groups.{first_rule}
+use Rattle.vpc_model.specs.Groups.{first_rule, reference_counts}
 use Rattle.vpc_model.specs.Internet.{is_unroutable}
 use Rattle.vpc_model.specs.Lookup.{interface_at}
 use Rattle.vpc_model.specs.Transit.{attachment_for, chosen_tgw_route, leave_subnet}
@@ -124,6 +124,21 @@ CountsReferences =
     × ((inward_rule (refers_across (record { id = codes "pcx-ab"; pair = None } ∷ [])) 1 h ≡ None)
     × ((inward_rule (refers_across (record { id = codes "pcx-ac"; pair = Some (codes "vpc-a", codes "vpc-c") } ∷ [])) 1 h ≡ None)
     × (inward_rule (refers_across (record { id = codes "pcx-ab"; pair = Some (codes "vpc-a", codes "vpc-b") } ∷ [])) 1 (tcp (v4 10 1 9 9) (v4 10 2 1 10) 0 443) ≡ None))))
+
+-- whether the second site's rule may name the first one's group, where peerings of these pairs are active
+abbrev pub counts_over : List (List ℕ × List ℕ) → Bool
+counts_over pairs = reference_counts (refers_across (map (λ pair. record { id = pair.0 ++ pair.1; pair = Some pair }) pairs)) (codes "vpc-b") (codes "sg-a")
+
+-- an active peering counts where it is of exactly these two VPCs: not one of either with a third, whichever asked for it, nor
+-- one with each, nor one of a VPC with itself
+abbrev pub OtherPeeringsDontCount : Type 0
+OtherPeeringsDontCount =
+    let a : List ℕ = codes "vpc-a" in
+    let b : List ℕ = codes "vpc-b" in
+    let c : List ℕ = codes "vpc-c" in
+    (map counts_over (((a, b) ∷ []) ∷ ((b, a) ∷ []) ∷ ((a, c) ∷ (c, b) ∷ (b, a) ∷ []) ∷ []) ≡ true ∷ true ∷ true ∷ [])
+    × ((map counts_over (((a, c) ∷ []) ∷ ((c, a) ∷ []) ∷ ((b, c) ∷ []) ∷ ((c, b) ∷ []) ∷ []) ≡ false ∷ false ∷ false ∷ false ∷ [])
+    × (map counts_over ([] ∷ ((a, c) ∷ (c, b) ∷ []) ∷ ((a, a) ∷ []) ∷ ((b, b) ∷ []) ∷ []) ≡ false ∷ false ∷ false ∷ false ∷ []))
 
 -- an interface without groups is judged by none, and makes no connection
 abbrev pub NeedsNoGroups : Type 0
@@ -294,6 +309,30 @@ ChecksReturnedHeader =
       groups = group (codes "sg-a") (codes "vpc-1") (allow_all ∷ []) (allow_all ∷ []) ∷ group (codes "sg-b") (codes "vpc-1") (https_from anywhere ∷ []) [] ∷ [];
     } in
     verdict_in d (ends.Interface (eni 0)) (ends.Interface (eni 1)) (tcp (v4 203 0 113 10) (v4 10 0 2 20) 5000 443) ≡ verdicts.Stopped phases.Reply (stops.WrongReturn (ends.Interface (eni 0)))
+
+-- three hosts: the first, whose check is off, may send from the third's address; that one lets everything pass
+abbrev pub neighbours : Description
+neighbours = record plain_vpc {
+  interfaces = record eni_a { checked = false } ∷ eni_b ∷ record (host (codes "eni-c") (codes "subnet-a") (v4 10 0 1 11) (codes "sg-b")) { groups = []; checked = false } ∷ [];
+  groups = group (codes "sg-a") (codes "vpc-1") [] (allow_all ∷ []) ∷ group (codes "sg-b") (codes "vpc-1") (https_from anywhere ∷ []) [] ∷ [];
+}
+
+-- a reply that arrives at another end than the start isn't returned, also where it is the very reply of what was sent; it is
+-- where that end sent it
+abbrev pub RepliesReturnToTheStart : Type 0
+RepliesReturnToTheStart =
+    let h : Header = tcp (v4 10 0 1 11) (v4 10 0 2 20) 5000 443 in
+    (verdict_in neighbours (ends.Interface (eni 0)) (ends.Interface (eni 1)) h ≡ verdicts.Stopped phases.Reply (stops.WrongReturn (ends.Interface (eni 2))))
+    × (verdict_in neighbours (ends.Interface (eni 2)) (ends.Interface (eni 1)) h ≡ verdicts.Through)
+
+-- a request that arrives at another end than the target is stopped there, also where a reply from the target would return
+abbrev pub RequestsReachTheirTarget : Type 0
+RequestsReachTheirTarget =
+    let h : Header = tcp (v4 10 0 1 10) (v4 10 0 2 20) 5000 443 in
+    let back : Header = tcp (v4 10 0 2 20) (v4 10 0 1 10) 443 5000 in
+    (verdict_in neighbours (ends.Interface (eni 0)) (ends.Interface (eni 2)) h ≡ verdicts.Stopped phases.Request (stops.WrongPlace (ends.Interface (eni 1))))
+    × ((outcome_of (walk_after neighbours labels.Answer (first_walk neighbours labels.Opening (places.OutOf (eni 0)) h) (places.OutOf (eni 2)) back) ≡ outcomes.Arrived (ends.Interface (eni 0)) back)
+    × (verdict_in neighbours (ends.Interface (eni 0)) (ends.Interface (eni 1)) h ≡ verdicts.Through))
 
 -- ---- long walks
 

@@ -1,5 +1,5 @@
 // What packets do at NAT gateways, peerings and transit gateways.
-ghost use Rattle.vpc_examples.specs.Examples.{ReturnsThroughNat, LeavesThroughNat, ComesBackThroughNat, PortsDiffer, PortsAreGivenInOrder, AnswersMeetTheAcl, AnswersFindTheirHosts, PeeringIsNotTransitive, TransitForwards, TransitDrops, TransitLoops, LoopsByPlace, AttachmentIsJudged};
+ghost use Rattle.vpc_examples.specs.Examples.{ReturnsThroughNat, LeavesThroughNat, ComesBackThroughNat, PortsDiffer, PortsAreGivenInOrder, PortsAreOfOneServer, PortsAreSharedByFlow, AnswersMeetTheAcl, AnswersFindTheirHosts, PeeringIsNotTransitive, TransitForwards, TransitDrops, TransitLoops, LoopsByPlace, AttachmentIsJudged};
 
 /// A request to the internet gets through a NAT gateway, and its reply returns.
 pub fn returns_through_nat()
@@ -59,6 +59,16 @@ pub fn judges_at_the_attachment()
 /// Which port a NAT gateway gives.
 pub fn gives_ports_in_order()
     ensures { PortsAreGivenInOrder }
+{}
+
+/// Whose ports a NAT gateway keeps apart.
+pub fn shares_ports_by_flow()
+    ensures { PortsAreSharedByFlow }
+{}
+
+/// Two hosts that send from one port to two servers, or by two protocols, both keep it.
+pub fn keeps_ports_of_other_servers()
+    ensures { PortsAreOfOneServer }
 {}
 
 /// The ACL of a NAT gateway's subnet judges answers by their translated port.

@@ -4,9 +4,12 @@
 pub mod choices;
 pub mod crossings;
 pub mod cuts;
+pub mod firsts;
 pub mod gateways;
 pub mod middleboxes;
+pub mod near;
 pub mod refusals;
 pub mod refused;
 pub mod replayed;
+pub mod reports;
 pub mod subnets;

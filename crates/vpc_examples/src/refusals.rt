@@ -1,5 +1,5 @@
 // Where packets are stopped in small networks.
-ghost use Rattle.vpc_examples.specs.Stops.{ChecksInterfaces, GatewaysHostNothing, OwnsAllAddresses, JudgesExit, JudgesEveryEntry, PublicAddressesAreOfOneVpc, UnroutableBlocksEnd, EntersNamedGateway, ChecksRoutes, JudgesEntry, FindsFirstRule, CountsReferences, NeedsNoGroups, ChecksInternetGateways, ChecksNatGateways, ChecksPeerings, ChecksTransitEntry, ChecksTransitExit, LeavesByZone, StaticRouteIsChosen, ChecksReturns, ChecksReturnedHeader, LongWalksEnd};
+ghost use Rattle.vpc_examples.specs.Stops.{ChecksInterfaces, GatewaysHostNothing, OwnsAllAddresses, JudgesExit, JudgesEveryEntry, PublicAddressesAreOfOneVpc, UnroutableBlocksEnd, EntersNamedGateway, ChecksRoutes, JudgesEntry, FindsFirstRule, CountsReferences, OtherPeeringsDontCount, NeedsNoGroups, ChecksInternetGateways, ChecksNatGateways, ChecksPeerings, ChecksTransitEntry, ChecksTransitExit, LeavesByZone, StaticRouteIsChosen, ChecksReturns, ChecksReturnedHeader, RepliesReturnToTheStart, RequestsReachTheirTarget, LongWalksEnd};
 
 /// Idle interfaces, and the source/destination check.
 pub fn checks_interfaces()
@@ -29,6 +29,11 @@ pub fn finds_the_first_rule()
 /// Which groups a rule may name.
 pub fn counts_references()
     ensures { CountsReferences }
+{}
+
+/// Peerings of other VPCs than the two.
+pub fn counts_no_other_peerings()
+    ensures { OtherPeeringsDontCount }
 {}
 
 /// Interfaces without groups.
@@ -114,4 +119,14 @@ pub fn enters_the_named_gateway()
 /// A reply that comes back changed.
 pub fn checks_the_returned_header()
     ensures { ChecksReturnedHeader }
+{}
+
+/// A reply that arrives at another end than the start isn't returned.
+pub fn returns_to_the_start()
+    ensures { RepliesReturnToTheStart }
+{}
+
+/// A request that arrives at another end than the target doesn't get through.
+pub fn reaches_the_target()
+    ensures { RequestsReachTheirTarget }
 {}

@@ -1,5 +1,5 @@
 // Which descriptions make a network.
-ghost use Rattle.vpc_examples.specs.Refused.{NetworksAreAccepted, TellsDuplicates, TellsMissingRows, TellsMissingTargets, TellsForeignTargets, TellsMissingAtGateways, TellsTablesAndAcls, TellsFirstCause};
+ghost use Rattle.vpc_examples.specs.Refused.{AcceptsTargetsOfEitherSide, LongListsAreNamed, NetworksAreAccepted, TellsDuplicates, TellsMissingRows, TellsMissingTargets, TellsForeignTargets, TellsMissingAtGateways, TellsTablesAndAcls, TellsFirstCause};
 
 /// The networks of the other examples are accepted.
 pub fn accepts_networks()
@@ -26,6 +26,11 @@ pub fn tells_foreign_targets()
     ensures { TellsForeignTargets }
 {}
 
+/// Peerings from either side, and NAT gateways that aren't followed.
+pub fn accepts_targets_of_either_side()
+    ensures { AcceptsTargetsOfEitherSide }
+{}
+
 /// What gateways name.
 pub fn tells_missing_at_gateways()
     ensures { TellsMissingAtGateways }
@@ -39,4 +44,9 @@ pub fn tells_tables_and_acls()
 /// Of several causes the first in the order is told.
 pub fn tells_the_first_cause()
     ensures { TellsFirstCause }
+{}
+
+/// Lists that are too long, each by its own name.
+pub fn names_long_lists()
+    ensures { LongListsAreNamed }
 {}
