@@ -1,5 +1,6 @@
 #!/bin/sh
-# Tests of collect-bundle over a stand-in for the command line of AWS. The last line is 'N passed, M failed'.
+# Tests of collect-bundle over a stand-in for the command line of AWS, with the jq that is in PATH. The last line is
+# 'N passed, M failed'.
 here=$(cd -- "$(dirname -- "$0")" && pwd)
 room=$(mktemp -d)
 trap 'rm -rf "$room"' EXIT
@@ -29,14 +30,24 @@ told() {
     jq -rc "$1" "$room/out"
 }
 
+# What stands on standard error beside the line of each call and what survey tells.
+said() {
+    grep -v -e '^collect-bundle: asking aws ' -e '^not followed: ' "$room/err"
+}
+
+# The names of the calls that were made, each once.
+names() {
+    sed 's/.* ec2 \([a-z-]*\).*/\1/' "$CALLS" | sort -u
+}
+
 collect=$here/../collect-bundle
 
 # One account: one object, with all lists, whose rows are those of the answers.
 collect "$collect"
 is 'one account: status' $status 0
-is 'one account: errors' "$(cat "$room/err")" ''
+is 'one account: errors' "$(said)" ''
 is 'one account: lists' "$(told 'keys_unsorted | join(" ")')" \
-    'Vpcs Subnets NetworkInterfaces RouteTables PrefixLists NetworkAcls SecurityGroups SecurityGroupRules InternetGateways NatGateways VpcPeeringConnections TransitGatewayVpcAttachments TransitGatewayAttachments PrefixListEntries TransitGatewayRoutes'
+    'Vpcs Subnets NetworkInterfaces RouteTables PrefixLists NetworkAcls SecurityGroups SecurityGroupRules InternetGateways NatGateways VpcPeeringConnections TransitGatewayVpcAttachments TransitGatewayAttachments Reservations PrefixListEntries TransitGatewayRoutes'
 for it in vpcs:Vpcs subnets:Subnets network-interfaces:NetworkInterfaces route-tables:RouteTables \
     prefix-lists:PrefixLists network-acls:NetworkAcls security-groups:SecurityGroups \
     internet-gateways:InternetGateways nat-gateways:NatGateways vpc-peering-connections:VpcPeeringConnections \
@@ -55,26 +66,58 @@ is 'all routes were asked for' "$(grep search-transit "$CALLS")" \
 is 'no entries of a list whose blocks are told' "$(told .PrefixListEntries)" '[]'
 is 'no filters' "$(grep -c vpc-id "$CALLS")" 0
 
-# Entries, wrapped, and a note where a table is missing.
+# Of instances what an interface is found by, and nothing else.
+is 'instances' "$(told '.Reservations | map(.Instances | map([.InstanceId, .State.Name, .Tags[].Value, .NetworkInterfaces[].NetworkInterfaceId]))')" \
+    '[[["i-web","running","web-1","eni-web"],["i-app","running","app-1","eni-app"]],[["i-db","running","db-1","eni-db"]]]'
+is 'instances: no more' "$(told '[.Reservations[] | keys, (.Instances[] | keys, (.State, .Tags[], .NetworkInterfaces[] | keys))] | unique')" \
+    '[["InstanceId","NetworkInterfaces","State","Tags"],["Instances"],["Key","Value"],["Name"],["NetworkInterfaceId"]]'
+
+# Each call has its line where standard error is no terminal, and survey's lines come last.
+is 'a line for each call' "$(sed -n 's/^collect-bundle: asking //p' "$room/err")" "$(sed 's/--output json //' "$CALLS")"
+is 'what is not followed' "$(sed -n '/^not followed: /,$p' "$room/err")" "$("$here/../survey" "$room/out")"
+is 'and there is something' "$(grep -c '^not followed: ' "$room/err")" 4
+if command -v script >/dev/null; then
+    : >"$CALLS"
+    script -qec "'$collect' >/dev/null" /dev/null >"$room/typed" </dev/null
+    is 'on a terminal no such lines' "$(grep -c asking "$room/typed")" 0
+    is 'on a terminal one that moves' "$(tr '\r' '\n' <"$room/typed" | grep -c 'aws ec2 ')" "$(wc -l <"$CALLS")"
+fi
+
+# Entries, wrapped, and a note where a table is missing. A list that nothing names is left out.
 collect "$collect" --profile tools
 is 'tools: status' $status 0
 is 'tools: entries' "$(told '.PrefixListEntries | map([.PrefixListId, .Entries[].Cidr])')" \
     '[["pl-corp","192.0.2.0/24","198.51.100.0/24"]]'
-is 'tools: note' "$(cat "$room/err")" \
+is 'tools: no list that nothing names' "$(told .PrefixLists)" '[]'
+is 'tools: note' "$(said)" \
     'collect-bundle: note: no route table is seen of attachment tgw-attach-tools of tgw-hub: what goes there will look blocked. Add a profile of its owner'
 
 # Two accounts: an array.
 collect "$collect" --region us-east-1 --profile shop --profile tools
 is 'two accounts: status' $status 0
-is 'two accounts: errors' "$(cat "$room/err")" ''
+is 'two accounts: errors' "$(said)" ''
 is 'two accounts: VPCs' "$(told 'map(.Vpcs[].VpcId)')" '["vpc-shop","vpc-tools"]'
 is 'two accounts: the region' "$(grep -c -- '--region us-east-1' "$CALLS")" "$(wc -l <"$CALLS")"
+is 'two accounts: lists that either names' "$(told 'map([(.PrefixLists, .PrefixListEntries)[].PrefixListId])')" \
+    '[["pl-s3"],["pl-s3","pl-corp"]]'
+cp "$room/out" "$room/both" && cp "$CALLS" "$room/both-calls"
+collect "$collect" --region=us-east-1 --profile=shop --profile=tools
+is 'words with =' "$status $(cmp "$room/out" "$room/both" && cmp "$CALLS" "$room/both-calls")" '0 '
+
+# The policy in --help allows the calls that were made, and no others.
+pascal_case() {
+    sed 's/^/-/; s/-\([a-z]\)/\U\1/g; s/^/ec2:/'
+}
+calls=$(names)
+is 'the policy' "$("$collect" --help | sed -n '/^{$/,/^}$/p' |
+    jq -r '.Statement[] | select(.Effect == "Allow" and .Resource == "*") | .Action[]' | sort)" "$(echo "$calls" | pascal_case)"
 
 # Some VPCs alone: each call that can be is kept to them.
 collect "$collect" --vpc vpc-shop vpc-tools --profile shop --profile tools
 is 'VPCs: status' $status 0
 is 'VPCs: filters' "$(sed -n 's/.* ec2 \([a-z-]*\) \(--filters\{0,1\}\) Name=\(.*\),Values=vpc-shop,vpc-tools$/\1 \2 \3/p' "$CALLS" | sort -u)" \
-    'describe-internet-gateways --filters attachment.vpc-id
+    'describe-instances --filters vpc-id
+describe-internet-gateways --filters attachment.vpc-id
 describe-nat-gateways --filter vpc-id
 describe-network-acls --filters vpc-id
 describe-network-interfaces --filters vpc-id
@@ -87,29 +130,65 @@ describe-vpc-peering-connections --filters accepter-vpc-info.vpc-id
 describe-vpc-peering-connections --filters requester-vpc-info.vpc-id
 describe-vpcs --filters vpc-id'
 is 'a peering that was told twice' "$(told '.[0].VpcPeeringConnections | length')" 1
-collect "$collect" --vpc vpc-none
-is 'no such VPC' "$status $(cat "$room/out") $(cat "$room/err")" \
-    '1  collect-bundle: no VPC vpc-none was found; nothing is printed'
+is 'VPCs: no other calls' "$(names)" "$calls"
 
-# Each call in turn fails, is cut short or is odd: nothing is printed, status 1, and the line names the call.
-for it in $(sed -n 's/.* ec2 \([a-z-]*\).*/\1/p' "$CALLS" | sort -u) get-managed-prefix-list-entries; do
-    for how in FAILS CUT ODD; do
-        collect env $how="$it" "$collect" --profile shop --profile tools
-        is "$how $it" "$status $(cat "$room/out") $(tail -n 1 "$room/err" | grep -c "^collect-bundle: .*aws ec2 $it .*; nothing is printed$")" '1  1'
+# One that isn't there is refused before any other call, and so are profiles of two regions.
+collect "$collect" --vpc vpc-none
+is 'no such VPC' "$status $(cat "$room/out") $(said)" \
+    '1  collect-bundle: no VPC vpc-none was found; nothing is printed'
+is 'no such VPC: calls' "$(cat "$CALLS")" 'aws --output json ec2 describe-vpcs --filters Name=vpc-id,Values=vpc-none'
+collect "$collect" --vpc=vpc-none --vpc=vpc-some vpc-more
+is 'VPCs with =' "$status $(cat "$CALLS")" \
+    '1 aws --output json ec2 describe-vpcs --filters Name=vpc-id,Values=vpc-none,vpc-some,vpc-more'
+collect "$collect" --vpc vpc-shop vpc-none --profile shop --profile tools
+is 'one of two' "$status $(cat "$room/out") $(said) $(names)" \
+    '1  collect-bundle: no VPC vpc-none was found; nothing is printed describe-vpcs'
+collect env ELSEWHERE=tools "$collect" --profile shop --profile tools
+is 'two regions' "$status $(cat "$room/out") $(said)" \
+    '1  collect-bundle: profile shop has its subnets in us-east-1, profile tools in eu-west-1: --region names one region; nothing is printed'
+is 'two regions: calls' "$(names | tr '\n' ' ')" 'describe-subnets describe-vpcs '
+collect env ELSEWHERE=tools "$collect" --profile tools
+is 'another region' "$status $(told '.Subnets[].SubnetArn')" '0 arn:aws:ec2:eu-west-1:444455556666:subnet/subnet-tools'
+
+# Each call in turn fails, is cut short, is odd or answers nothing: nothing is printed, status 1, and the line names the
+# call.
+for it in $calls; do
+    for how in FAILS CUT ODD EMPTY; do
+        case "$how $it" in
+        FAILS*) who='--profile shop --profile tools' ;;
+        *' get-managed-prefix-list-entries') who='--profile tools' ;;
+        *) who='--profile shop' ;;
+        esac
+        (
+            # shellcheck disable=SC2086 # (these are several words)
+            env CALLS=/dev/null $how="$it" "$collect" $who >"$room/out-$how" 2>"$room/err-$how"
+            echo $? >"$room/status-$how"
+        ) &
+    done
+    wait
+    for how in FAILS CUT ODD EMPTY; do
+        is "$how $it" "$(cat "$room/status-$how") $(cat "$room/out-$how") $(tail -n 1 "$room/err-$how" | grep -c "^collect-bundle: .*aws ec2 $it .*; nothing is printed$")" '1  1'
     done
 done
+collect env TWICE=describe-vpcs "$collect"
+is 'two answers' "$status $(cat "$room/out") $(said)" \
+    '1  collect-bundle: aws ec2 describe-vpcs answered without its list Vpcs; nothing is printed'
 collect env MORE=1 "$collect"
-is 'more routes' "$status $(cat "$room/out") $(cat "$room/err")" \
+is 'more routes' "$status $(cat "$room/out") $(said)" \
     '1  collect-bundle: the answer to aws ec2 search-transit-gateway-routes --transit-gateway-route-table-id tgw-rtb-hub --filters Name=state,Values=active,blackhole was cut short; nothing is printed'
 collect "$collect" --profile shop --profile nobody
 is 'no such profile' "$status $(cat "$room/out")" '1 '
 
 # Words.
-for it in '--profile' '--profile --vpc' '--region' '--vpc' '--vpc subnet-1' '--vpc vpc-1,vpc-2' 'shop' '--all'; do
+for it in '--profile' '--profile --vpc' '--region' '--vpc' '--vpc subnet-1' '--vpc vpc-1,vpc-2' 'shop' '--all' \
+    '--profile=' '--region=' '--vpc=' '--vpc=subnet-1' '--vpc=vpc-1,vpc-2' '--help=all' \
+    '--profile shop --profile shop' '--profile shop --profile=tools --profile=shop' '--region a --region b'; do
     # shellcheck disable=SC2086 # (these are several words)
     collect "$collect" $it
     is "words: $it" "$status $(cat "$room/out") $(wc -l <"$room/err") $(wc -l <"$CALLS")" '2  1 0'
 done
+collect "$collect" --profile shop --profile shop
+is 'twice' "$(cat "$room/err")" 'collect-bundle: profile shop is named twice; --help says more'
 collect "$collect" --help
 is '--help' "$status $(head -n 1 "$room/out")" \
     '0 usage: collect-bundle [--profile NAME].. [--region REGION] [--vpc VPC-ID..]'
@@ -118,6 +197,22 @@ mkdir "$room/bin"
 for it in bash cat env; do ln -s "$(command -v $it)" "$room/bin/$it"; done
 collect env PATH="$room/bin" "$collect"
 is 'no aws' "$status $(cat "$room/err")" '2 collect-bundle: there is no aws in PATH; --help says more'
+# Without python3, and where it was copied alone, survey isn't asked.
+for it in dirname jq mkdir mktemp mv readlink rm sed sh; do ln -s "$(command -v $it)" "$room/bin/$it"; done
+note='collect-bundle: note: what of it is not followed is not told: that takes python3, and survey beside collect-bundle'
+collect env PATH="$here/account:$room/bin" "$collect"
+is 'no python3' "$status $(told '.Vpcs | length') $(tail -n 1 "$room/err")" "0 1 $note"
+cp "$collect" "$room/alone"
+collect "$room/alone"
+is 'copied alone' "$status $(told '.Vpcs | length') $(tail -n 1 "$room/err")" "0 1 $note"
+ln -s "$collect" "$room/link"
+collect "$room/link"
+is 'by a link' "$status $(grep -c '^not followed: ' "$room/err")" '0 4'
+# Where the output takes nothing, it says so.
+if [ -w /dev/full ]; then
+    "$collect" >/dev/full 2>"$room/err"
+    is 'no room' "$? $(tail -n 1 "$room/err")" '1 collect-bundle: the bundle could not be written'
+fi
 
 echo "$passed passed, $failed failed"
 [ "$failed" = 0 ]

@@ -1,12 +1,12 @@
 """Runs each `$` line of README.md and of the pages of docs/, and compares what it prints with what stands below it.
 
-    python3 tests/readme.py [PAGE..]
+    python3 tests/readme.py [--program PROGRAM] [PAGE..]
 
 A line that begins with four blanks and `$` is a command; it goes on after a `\\` at its end, and while a quotation is
 open. The lines below it, up to the next command or an empty line, are what it prints on standard output. The commands of
 one page run in turn in one folder, which has links to this checkout's scripts and examples, so what they write is gone
 afterwards. A stand-in for the command line of AWS answers collect-bundle. The program must be built, or be built by the
-first command.
+first command; with --program, PROGRAM stands in the place of `vpc`.
 """
 
 import os
@@ -16,7 +16,7 @@ import sys
 import tempfile
 
 TOP = os.path.dirname(os.path.dirname(os.path.abspath(__file__)))
-LINKED = ("vpc", "collect-bundle", "examples")
+LINKED = ("vpc", "collect-bundle", "survey", "examples")
 
 
 def is_unfinished(text):
@@ -50,12 +50,12 @@ def commands(page):
     return [(number, "\n".join(text), printed) for number, text, printed in found]
 
 
-def run(page):
+def run(page, program):
     """Runs the commands of a page, and gives how many printed what they should and how many did not."""
     passed, failed = 0, 0
     with tempfile.TemporaryDirectory() as room:
         for name in LINKED:
-            os.symlink(os.path.join(TOP, name), os.path.join(room, name))
+            os.symlink(program if name == "vpc" else os.path.join(TOP, name), os.path.join(room, name))
         path = os.pathsep.join([os.path.join(TOP, "tests", "account"), os.environ["PATH"]])
         for number, text, printed in commands(page):
             ran = subprocess.run(
@@ -71,11 +71,14 @@ def run(page):
 
 
 def main(words):
+    program = os.path.join(TOP, "vpc")
+    if words[:1] == ["--program"] and len(words) > 1:
+        program, words = os.path.abspath(words[1]), words[2:]
     pages = words or [
         os.path.join(TOP, "README.md"),
         *sorted(os.path.join(TOP, "docs", it) for it in os.listdir(os.path.join(TOP, "docs")) if it.endswith(".md")),
     ]
-    results = [run(it) for it in pages]
+    results = [run(it, program) for it in pages]
     passed, failed = (sum(it) for it in zip(*results))
     print(f"{passed} passed, {failed} failed")
     # (a page whose commands are no longer found would pass)

@@ -1,15 +1,16 @@
 #!/usr/bin/env python3
-"""Each allocation refused in turn: tests/refused_memory.py [PROGRAM]
+"""Each allocation refused in turn: tests/refused_memory.py [PROGRAM] [--every N]
 
 One command line of each kind is run again and again, by PROGRAM (without it out/vpc): first with ample memory, then with its
 first allocation refused, its second, and so on to its last; and once more with all from that one on refused. Each run is to
 end with the answer that ample memory gives, or with status 8 and `want of memory`. Nothing may stand on standard error. Prints
-a table.
+a table. With --every N only the first allocation is refused so, and each Nth after it.
 
 `malloc` and `realloc` are the only calls by which the program gets memory. A library of a few lines that counts and refuses
 them is compiled by `cc` and loaded before the C library, so PROGRAM must be linked to that at its start, as out/vpc is.
 """
 
+import argparse
 import json
 import os
 import random
@@ -129,7 +130,7 @@ def ran(words, first, last):
 def swept(words, due, count, ever):
     """What came of refusing each allocation in turn, and what is wrong."""
     came, wrong = [], []
-    for number in range(1, count + 1):
+    for number in range(1, count + 1, EVERY):
         ending, errors, _ = ran(words, number, EVER if ever else number)
         came.append(ending)
         if errors or ending not in (due, WANT):
@@ -160,5 +161,9 @@ def main():
 
 
 if __name__ == "__main__":
-    PROGRAM = os.path.abspath(sys.argv[1] if len(sys.argv) > 1 else os.path.join(TOP, "out/vpc"))
+    parser = argparse.ArgumentParser(description=__doc__.splitlines()[0])
+    parser.add_argument("program", nargs="?", default=os.path.join(TOP, "out/vpc"))
+    parser.add_argument("--every", type=int, default=1)
+    told = parser.parse_args()
+    PROGRAM, EVERY = os.path.abspath(told.program), told.every
     main()

@@ -1,0 +1,302 @@
+#!/usr/bin/env python3
+"""What `survey` tells of small bundles, and whether the program answers as it says: tests/survey.py [PROGRAM]
+
+Each row of ROWS is one bundle: a small network and what the row puts into it. Its lines are all that survey prints of it, without
+`not followed: `. Where a row has a packet and PROGRAM is given, PROGRAM traces the packet in the same bundle, and its last line is
+the row's: so a line that says how packets end is true of the program. The last line is 'N passed, M failed'.
+"""
+
+import copy
+import json
+import os
+import subprocess
+import sys
+import tempfile
+
+TOP = os.path.dirname(os.path.dirname(os.path.abspath(__file__)))
+
+# vpc-a, attached to igw-a and to tgw-1, and vpc-b of another account, attached to tgw-1: a host and a table in each of the subnets.
+BASE = json.loads("""{
+"Vpcs": [{"VpcId": "vpc-a", "CidrBlock": "10.1.0.0/16"}, {"VpcId": "vpc-b", "CidrBlock": "10.2.0.0/16"}],
+"Subnets": [
+  {"SubnetId": "subnet-a", "VpcId": "vpc-a", "AvailabilityZone": "us-east-1a", "AvailabilityZoneId": "use1-az6", "OwnerId": "111122223333"},
+  {"SubnetId": "subnet-b", "VpcId": "vpc-b", "AvailabilityZone": "us-east-1a", "AvailabilityZoneId": "use1-az6", "OwnerId": "444455556666"}],
+"NetworkInterfaces": [
+  {"NetworkInterfaceId": "eni-a", "SubnetId": "subnet-a", "PrivateIpAddress": "10.1.1.10", "Groups": [{"GroupId": "sg-a"}],
+   "PrivateIpAddresses": [{"PrivateIpAddress": "10.1.1.10"}]},
+  {"NetworkInterfaceId": "eni-b", "SubnetId": "subnet-b", "PrivateIpAddress": "10.2.1.10", "Groups": [{"GroupId": "sg-b"}]}],
+"RouteTables": [
+  {"RouteTableId": "rtb-a", "VpcId": "vpc-a", "Associations": [{"Main": true}],
+   "Routes": [{"DestinationCidrBlock": "10.1.0.0/16", "GatewayId": "local"}, {"DestinationCidrBlock": "10.2.0.0/16", "TransitGatewayId": "tgw-1"},
+              {"DestinationCidrBlock": "198.51.100.0/24", "GatewayId": "igw-a"}]},
+  {"RouteTableId": "rtb-b", "VpcId": "vpc-b", "Associations": [{"Main": false, "SubnetId": "subnet-b"}],
+   "Routes": [{"DestinationCidrBlock": "10.2.0.0/16", "GatewayId": "local"}, {"DestinationCidrBlock": "10.1.0.0/16", "TransitGatewayId": "tgw-1"}]}],
+"NetworkAcls": [{"NetworkAclId": "acl-1", "Associations": [{"SubnetId": "subnet-a"}, {"SubnetId": "subnet-b"}], "Entries": [
+  {"RuleNumber": 100, "Egress": false, "Protocol": "-1", "RuleAction": "allow", "CidrBlock": "0.0.0.0/0"},
+  {"RuleNumber": 100, "Egress": true, "Protocol": "-1", "RuleAction": "allow", "CidrBlock": "0.0.0.0/0"}]}],
+"SecurityGroups": [
+  {"GroupId": "sg-a", "VpcId": "vpc-a", "IpPermissions": [{"IpProtocol": "-1", "IpRanges": [{"CidrIp": "0.0.0.0/0"}]}],
+   "IpPermissionsEgress": [{"IpProtocol": "-1", "IpRanges": [{"CidrIp": "0.0.0.0/0"}]}]},
+  {"GroupId": "sg-b", "VpcId": "vpc-b", "IpPermissions": [{"IpProtocol": "udp", "IpRanges": [{"CidrIp": "0.0.0.0/0"}]}], "IpPermissionsEgress": []}],
+"InternetGateways": [{"InternetGatewayId": "igw-a", "Attachments": [{"State": "available", "VpcId": "vpc-a"}]}],
+"TransitGatewayVpcAttachments": [
+  {"TransitGatewayAttachmentId": "att-a", "TransitGatewayId": "tgw-1", "VpcId": "vpc-a", "SubnetIds": ["subnet-a"], "State": "available"},
+  {"TransitGatewayAttachmentId": "att-b", "TransitGatewayId": "tgw-1", "VpcId": "vpc-b", "SubnetIds": ["subnet-b"], "State": "available"}],
+"TransitGatewayAttachments": [
+  {"TransitGatewayAttachmentId": "att-a", "TransitGatewayId": "tgw-1", "ResourceType": "vpc", "Association": {"TransitGatewayRouteTableId": "tgw-rtb"}},
+  {"TransitGatewayAttachmentId": "att-b", "TransitGatewayId": "tgw-1", "ResourceType": "vpc", "Association": {"TransitGatewayRouteTableId": "tgw-rtb"}}],
+"TransitGatewayRoutes": [{"TransitGatewayRouteTableId": "tgw-rtb", "Routes": [
+  {"DestinationCidrBlock": "10.2.0.0/16", "Type": "propagated", "State": "active", "TransitGatewayAttachments": [{"TransitGatewayAttachmentId": "att-b"}]}]}]
+}""")
+
+# How rows say where they put something: the list, the row of BASE, and its list.
+PLACES = {
+    "route": ("RouteTables", "rtb-a", "Routes"),
+    "tied": ("RouteTables", "rtb-a", "Associations"),
+    "acl": ("NetworkAcls", "acl-1", "Entries"),
+    "in": ("SecurityGroups", "sg-b", "IpPermissions"),
+    "out": ("SecurityGroups", "sg-a", "IpPermissionsEgress"),
+    "transit": ("TransitGatewayRoutes", "tgw-rtb", "Routes"),
+    "eni": ("NetworkInterfaces", "eni-a", None),
+    "vpc": ("Vpcs", "vpc-a", None),
+    "subnet": ("Subnets", "subnet-b", None),
+    "attachment": ("TransitGatewayVpcAttachments", "att-b", None),
+}
+
+TO_B = "open from eni-a tcp 10.1.1.10 10.2.1.10 5000 443"
+TO_9 = "open from eni-a tcp 10.1.1.10 10.9.0.1 5000 443"
+OUT = "open from eni-a tcp 10.1.1.10 198.51.100.7 5000 443"
+STOPS = "packets stop there as Unmodelled"
+IPV4 = "every answer is about IPv4 alone"
+BEHIND = "packets from behind it can't be asked about"
+ZONES = "a packet between accounts may cross the ACL and table of the wrong subnet"
+HIDDEN = "packets from it stop as NoPublic, and none to it comes to the interface"
+LACKS = "its addresses that PrivateIpAddresses lacks stop as NoHost, and as sources as SourceCheck"
+
+# Name, what is put in by its place or list, the lines, the packet, the last line of its trace.
+ROWS = [
+    ("nothing", {}, [], TO_B, "stopped GroupsIn eni-b -"),
+
+    # routes
+    ("a virtual private gateway", {"route": '{"DestinationCidrBlock": "10.9.0.0/16", "GatewayId": "vgw-1"}'},
+     [f"route rtb-a 10.9.0.0/16 to vgw-1: {STOPS}", f"vgw-1: {BEHIND}"], TO_9, "stopped Unmodelled vgw-1 -"),
+    ("a firewall's endpoint", {"route": '{"DestinationCidrBlock": "10.9.0.0/16", "GatewayId": "vpce-1", "State": "active"}'},
+     [f"route rtb-a 10.9.0.0/16 to vpce-1: {STOPS}"], TO_9, "stopped Unmodelled vpce-1 -"),
+    ("an endpoint for a prefix list", {"route": '{"DestinationPrefixListId": "pl-s3", "GatewayId": "vpce-s3"}',
+                                      "PrefixLists": '{"PrefixListId": "pl-s3", "Cidrs": ["10.9.0.0/24"]}'},
+     [f"route rtb-a pl-s3 to vpce-s3: {STOPS}"], TO_9, "stopped Unmodelled vpce-s3 -"),
+    ("a local gateway", {"route": '{"DestinationCidrBlock": "10.9.0.0/16", "LocalGatewayId": "lgw-1"}'},
+     [f"route rtb-a 10.9.0.0/16 to lgw-1: {STOPS}", f"lgw-1: {BEHIND}"], TO_9, "stopped Unmodelled lgw-1 -"),
+    ("a carrier gateway", {"route": '{"DestinationCidrBlock": "10.9.0.0/16", "CarrierGatewayId": "cagw-1"}'},
+     [f"route rtb-a 10.9.0.0/16 to cagw-1: {STOPS}", f"cagw-1: {BEHIND}"], TO_9, "stopped Unmodelled cagw-1 -"),
+    ("Cloud WAN", {"route": '{"DestinationCidrBlock": "10.9.0.0/16", "CoreNetworkArn": "arn:core-1"}'},
+     [f"route rtb-a 10.9.0.0/16 to arn:core-1: {STOPS}", f"arn:core-1: {BEHIND}"], TO_9, "stopped Unmodelled arn:core-1 -"),
+    ("an instance without its interface", {"route": '{"DestinationCidrBlock": "10.9.0.0/16", "InstanceId": "i-1"}'},
+     [f"route rtb-a 10.9.0.0/16 to i-1: {STOPS}"], TO_9, "stopped Unmodelled i-1 -"),
+    ("no target that is known", {"route": '{"DestinationCidrBlock": "10.9.0.0/16", "OdbNetworkArn": "arn:odb-1"}'},
+     [f"route rtb-a 10.9.0.0/16 to none: {STOPS}"], TO_9, "stopped Unmodelled none -"),
+    ("a target that is gone", {"route": '{"DestinationCidrBlock": "10.9.0.0/16", "GatewayId": "vpce-1", "State": "blackhole"}'},
+     [], TO_9, "stopped Blackhole rtb-a 10.9.0.0/16"),
+    ("a table that no subnet has", {"RouteTables": '{"RouteTableId": "rtb-c", "VpcId": "vpc-a", "Routes": [{"DestinationCidrBlock": "10.9.0.0/16", "GatewayId": "vpce-1"}]}'},
+     [], TO_9, "stopped NoRoute rtb-a -"),
+    ("a NAT gateway without a subnet", {"route": '{"DestinationCidrBlock": "10.9.0.0/16", "NatGatewayId": "nat-1"}', "NatGateways": '{"NatGatewayId": "nat-1", "State": "available"}'},
+     [f"route rtb-a 10.9.0.0/16 to nat-1, which has no subnet: {STOPS}"], TO_9, "stopped Unmodelled nat-1 -"),
+    ("a NAT gateway that is gone", {"route": '{"DestinationCidrBlock": "10.9.0.0/16", "NatGatewayId": "nat-1"}', "NatGateways": '{"NatGatewayId": "nat-1", "State": "deleted"}'},
+     [], TO_9, "stopped NatNotAvailable nat-1 -"),
+    ("a peering to a VPC that isn't there", {"route": '{"DestinationCidrBlock": "10.9.0.0/16", "VpcPeeringConnectionId": "pcx-1"}',
+                                            "VpcPeeringConnections": '{"VpcPeeringConnectionId": "pcx-1", "Status": {"Code": "active"}, "RequesterVpcInfo": {"VpcId": "vpc-9"}, "AccepterVpcInfo": {"VpcId": "vpc-a"}}'},
+     [f"route rtb-a 10.9.0.0/16 to pcx-1, whose other VPC vpc-9 isn't described: {STOPS}"], TO_9, "stopped Unmodelled pcx-1 -"),
+    ("a peering to a VPC that is", {"route": '{"DestinationCidrBlock": "10.9.0.0/16", "VpcPeeringConnectionId": "pcx-1"}',
+                                   "VpcPeeringConnections": '{"VpcPeeringConnectionId": "pcx-1", "Status": {"Code": "active"}, "RequesterVpcInfo": {"VpcId": "vpc-a"}, "AccepterVpcInfo": {"VpcId": "vpc-b"}}'},
+     [], TO_9, "stopped PeerDestination pcx-1 -"),
+    ("a peering that isn't active", {"route": '{"DestinationCidrBlock": "10.9.0.0/16", "VpcPeeringConnectionId": "pcx-1"}',
+                                    "VpcPeeringConnections": '{"VpcPeeringConnectionId": "pcx-1", "Status": {"Code": "deleted"}}'},
+     [], TO_9, "stopped PeerNotActive pcx-1 -"),
+    ("an appliance's interface", {"route": '{"DestinationCidrBlock": "10.9.0.0/16", "NetworkInterfaceId": "eni-a", "InstanceId": "i-1"}'},
+     [], TO_9, "stopped DestCheck eni-a -"),
+    ("a filtered route", {"route": '{"DestinationCidrBlock": "10.2.0.0/24", "GatewayId": "igw-a", "State": "filtered"}'},
+     ["state filtered of route rtb-a 10.2.0.0/24 to igw-a: AWS doesn't use the route, and answers do"], "open from eni-a tcp 10.1.1.10 10.2.0.9 1 2", "stopped NoPublic igw-a -"),
+    ("a route of a route server", {"route": '{"DestinationCidrBlock": "10.9.0.0/16", "NetworkInterfaceId": "eni-a", "Origin": "Advertisement"}'},
+     ["origin Advertisement of route rtb-a 10.9.0.0/16 to eni-a: of routes as long as it, answers may go by another than AWS does"], TO_9, "stopped DestCheck eni-a -"),
+    ("an internet gateway's table", {"RouteTables": '{"RouteTableId": "rtb-edge", "VpcId": "vpc-a", "Associations": [{"Main": false, "GatewayId": "igw-a"}], "Routes": [{"DestinationCidrBlock": "10.1.0.0/16", "GatewayId": "vpce-1"}]}',
+                                    "eni": '{"PrivateIpAddresses": [{"PrivateIpAddress": "10.1.1.10", "Association": {"PublicIp": "203.0.113.10"}}]}'},
+     ["route table rtb-edge of gateway igw-a: packets that come in by igw-a go straight to their host"], "open from internet tcp 198.51.100.7 203.0.113.10 1 2", "arrived eni-a"),
+    ("a VPN gateway's table", {"tied": '{"Main": false, "GatewayId": "vgw-1"}'}, [f"route table rtb-a of gateway vgw-1: {BEHIND}"], TO_B, "stopped GroupsIn eni-b -"),
+
+    # IPv6
+    ("routes of IPv6", {"route": '{"DestinationIpv6CidrBlock": "2001:db8::/56", "GatewayId": "local"}, {"DestinationIpv6CidrBlock": "::/0", "EgressOnlyInternetGatewayId": "eigw-1"}'},
+     [f"IPv6 routes of rtb-a, 2001:db8::/56 to local, ::/0 to eigw-1: {IPV4}"], TO_B, "stopped GroupsIn eni-b -"),
+    ("transit routes of IPv6", {"transit": '{"DestinationCidrBlock": "2001:db8::/56", "Type": "static", "State": "active"}'},
+     [f"IPv6 routes of tgw-rtb, 2001:db8::/56: {IPV4}"], TO_B, "stopped GroupsIn eni-b -"),
+    ("members of a group", {"in": '{"IpProtocol": "tcp", "Ipv6Ranges": [{"CidrIpv6": "::/0"}]}'}, [f"IPv6 rules of sg-b, in 2: {IPV4}"], TO_B, "stopped GroupsIn eni-b -"),
+    ("rows of their own", {"SecurityGroupRules": '{"SecurityGroupRuleId": "sgr-6", "GroupId": "sg-b", "IsEgress": true, "IpProtocol": "-1", "CidrIpv6": "::/0"}',
+                           "in": '{"IpProtocol": "tcp", "Ipv6Ranges": [{"CidrIpv6": "::/0"}]}'}, [f"IPv6 rules of sg-b, sgr-6: {IPV4}"], TO_B, "stopped GroupsIn eni-b -"),
+    ("rows of a group that isn't there", {"SecurityGroupRules": '{"SecurityGroupRuleId": "sgr-6", "GroupId": "sg-9", "IsEgress": true, "IpProtocol": "-1", "CidrIpv6": "::/0"}'}, [], None, None),
+    ("rows of an ACL", {"acl": '{"RuleNumber": 101, "Egress": false, "Protocol": "-1", "RuleAction": "allow", "Ipv6CidrBlock": "::/0"}, {"RuleNumber": 9, "Egress": true, "Protocol": "-1", "RuleAction": "deny", "Ipv6CidrBlock": "::/0"}'},
+     [f"IPv6 rows of acl-1, in 101, out 9: {IPV4}"], TO_B, "stopped GroupsIn eni-b -"),
+    ("blocks of prefix lists", {"PrefixLists": '{"PrefixListId": "pl-1", "Cidrs": ["10.9.0.0/16", "2001:db8::/56"]}', "PrefixListEntries": '{"PrefixListId": "pl-2", "Entries": [{"Cidr": "2001:db9::/56"}]}'},
+     [f"IPv6 blocks of pl-1, 2001:db8::/56: {IPV4}", f"IPv6 blocks of pl-2, 2001:db9::/56: {IPV4}"], TO_B, "stopped GroupsIn eni-b -"),
+
+    # interfaces
+    ("a delegated prefix, as a destination", {"eni": '{"Ipv4Prefixes": [{"Ipv4Prefix": "10.1.1.16/28"}]}'}, [f"prefix 10.1.1.16/28 of eni-a: {LACKS}"], "open from eni-a tcp 10.1.1.10 10.1.1.17 1 2", "stopped NoHost vpc-a -"),
+    ("a delegated prefix, as a source", {"eni": '{"Ipv4Prefixes": [{"Ipv4Prefix": "10.1.1.16/28"}]}'}, [f"prefix 10.1.1.16/28 of eni-a: {LACKS}"], "open from eni-a tcp 10.1.1.17 10.2.1.10 1 2", "stopped SourceCheck eni-a -"),
+    ("a public address in both places", {"eni": '{"Association": {"PublicIp": "203.0.113.10"}, "PrivateIpAddresses": [{"PrivateIpAddress": "10.1.1.10", "Association": {"PublicIp": "203.0.113.10"}}]}'},
+     [], OUT, "arrived internet"),
+    ("in the own association alone", {"eni": '{"Association": {"PublicIp": "203.0.113.10"}}'}, [f"public address 203.0.113.10 of eni-a, which its own Association alone has: {HIDDEN}"], OUT, "stopped NoPublic igw-a -"),
+    ("and to it", {"eni": '{"Association": {"PublicIp": "203.0.113.10"}}'}, [f"public address 203.0.113.10 of eni-a, which its own Association alone has: {HIDDEN}"],
+     "open from internet tcp 198.51.100.7 203.0.113.10 1 2", "arrived internet"),
+    ("a carrier address", {"eni": '{"PrivateIpAddresses": [{"PrivateIpAddress": "10.1.1.10", "Association": {"CarrierIp": "203.0.113.10"}}]}'}, [f"carrier address 203.0.113.10 of eni-a: {HIDDEN}"], OUT, "stopped NoPublic igw-a -"),
+    ("a customer-owned address", {"eni": '{"Association": {"CustomerOwnedIp": "203.0.113.10"}}'}, [f"customer-owned address 203.0.113.10 of eni-a: {HIDDEN}"], OUT, "stopped NoPublic igw-a -"),
+    ("a network load balancer", {"eni": '{"InterfaceType": "network_load_balancer"}'}, ["what the load balancer of eni-a sends on: packets end there; ask on from it to its targets"],
+     "open from eni-b udp 10.2.1.10 10.1.1.10 1 2", "stopped GroupsOut eni-b -"),
+    ("an application load balancer", {"eni": '{"InterfaceType": "interface", "Description": "ELB app/shop/50dc6c495c0c9188"}'},
+     ["what the load balancer of eni-a sends on: packets end there; ask on from it to its targets"], TO_B, "stopped GroupsIn eni-b -"),
+    ("a stopped instance", {"Reservations": '{"Instances": [{"InstanceId": "i-1", "State": {"Name": "stopped"}, "NetworkInterfaces": [{"NetworkInterfaceId": "eni-a"}]}]}'},
+     ["state stopped of instance i-1: eni-a takes and sends packets all the same"], "open from eni-a udp 10.1.1.10 10.2.1.10 1 2", "arrived eni-b"),
+    ("a running one", {"Reservations": '{"Instances": [{"InstanceId": "i-1", "State": {"Name": "running"}, "NetworkInterfaces": [{"NetworkInterfaceId": "eni-a"}]}]}'}, [], None, None),
+
+    # gateways
+    ("a NAT gateway of two addresses", {"NatGateways": '{"NatGatewayId": "nat-1", "State": "available", "SubnetId": "subnet-a", "NatGatewayAddresses": [{"NetworkInterfaceId": "eni-n", "PrivateIp": "10.1.1.5"}, {"NetworkInterfaceId": "eni-n", "PrivateIp": "10.1.1.6", "IsPrimary": true}]}',
+                                       "NetworkInterfaces": '{"NetworkInterfaceId": "eni-n", "SubnetId": "subnet-a", "InterfaceType": "nat_gateway", "PrivateIpAddresses": [{"PrivateIpAddress": "10.1.1.5"}, {"PrivateIpAddress": "10.1.1.6"}]}',
+                                       "route": '{"DestinationCidrBlock": "10.2.1.0/24", "NatGatewayId": "nat-1"}'},
+     ["secondary addresses of nat-1, 10.1.1.5: it sends packets on from 10.1.1.6 alone"], TO_B, "stopped Loop nat-1 -"),
+    ("public access that is blocked, by VPC", {"vpc": '{"BlockPublicAccessStates": {"InternetGatewayBlockMode": "block-bidirectional"}}', "eni": '{"PrivateIpAddresses": [{"PrivateIpAddress": "10.1.1.10", "Association": {"PublicIp": "203.0.113.10"}}]}'},
+     ["block public access (block-bidirectional) of vpc-a: packets pass its internet gateway all the same"], OUT, "arrived internet"),
+    ("by subnet", {"subnet": '{"BlockPublicAccessStates": {"InternetGatewayBlockMode": "block-ingress"}}'}, ["block public access (block-ingress) of vpc-b, subnet-b: packets pass its internet gateway all the same"], None, None),
+    ("off", {"vpc": '{"BlockPublicAccessStates": {"InternetGatewayBlockMode": "off"}}', "VpcBlockPublicAccessOptions": '{"AwsAccountId": "111122223333", "InternetGatewayBlockMode": "off"}'}, [], None, None),
+    ("by account", {"VpcBlockPublicAccessOptions": '{"AwsAccountId": "111122223333", "InternetGatewayBlockMode": "block-ingress"}', "VpcBlockPublicAccessExclusions": '{"ExclusionId": "vpcbpa-exclude-1"}'},
+     ["block public access (block-ingress) of account 111122223333, which excludes vpcbpa-exclude-1: packets pass its internet gateways all the same"], None, None),
+
+    # transit gateways
+    ("an attachment of another kind", {"TransitGatewayAttachments": '{"TransitGatewayAttachmentId": "att-vpn", "TransitGatewayId": "tgw-1", "ResourceType": "vpn", "State": "available"}'},
+     [f"vpn attachment att-vpn of tgw-1: {BEHIND}"], None, None),
+    ("one that is gone", {"TransitGatewayAttachments": '{"TransitGatewayAttachmentId": "att-vpn", "TransitGatewayId": "tgw-1", "ResourceType": "vpn", "State": "deleted"}'}, [], None, None),
+    ("a transit route to a VPN", {"transit": '{"DestinationCidrBlock": "10.2.1.0/24", "Type": "static", "State": "active", "TransitGatewayAttachments": [{"TransitGatewayAttachmentId": "att-vpn", "ResourceType": "vpn"}]}'},
+     [f"route tgw-rtb 10.2.1.0/24 to att-vpn, whose kind is vpn: {STOPS}"], TO_B, "stopped Unmodelled att-vpn -"),
+    ("to a VPC's that isn't there", {"transit": '{"DestinationCidrBlock": "10.2.1.0/24", "Type": "static", "State": "active", "TransitGatewayAttachments": [{"TransitGatewayAttachmentId": "att-9", "ResourceType": "vpc"}]}'},
+     [f"route tgw-rtb 10.2.1.0/24 to att-9, which isn't described: {STOPS}"], TO_B, "stopped Unmodelled att-9 -"),
+    ("to one of a VPC that isn't", {"transit": '{"DestinationCidrBlock": "10.2.1.0/24", "Type": "static", "State": "active", "TransitGatewayAttachments": [{"TransitGatewayAttachmentId": "att-9"}]}',
+                                   "TransitGatewayVpcAttachments": '{"TransitGatewayAttachmentId": "att-9", "TransitGatewayId": "tgw-1", "VpcId": "vpc-9", "SubnetIds": ["subnet-9"], "State": "available"}'},
+     [f"route tgw-rtb 10.2.1.0/24 to att-9, whose VPC vpc-9 isn't described: {STOPS}"], TO_B, "stopped Unmodelled att-9 -"),
+    ("to one without a subnet", {"attachment": '{"SubnetIds": []}'}, [f"route tgw-rtb 10.2.0.0/16 to att-b, which has no subnet: {STOPS}"], TO_B, "stopped Unmodelled att-b -"),
+    ("without an attachment", {"transit": '{"DestinationCidrBlock": "10.2.1.0/24", "Type": "static", "State": "active"}'}, [f"route tgw-rtb 10.2.1.0/24 without an attachment: {STOPS}"], TO_B, "stopped Unmodelled tgw-rtb -"),
+    ("one that is a blackhole", {"transit": '{"DestinationCidrBlock": "10.2.1.0/24", "Type": "static", "State": "blackhole"}'}, [], TO_B, "stopped TgwBlackhole tgw-rtb 10.2.1.0/24"),
+    ("appliance mode", {"attachment": '{"Options": {"ApplianceModeSupport": "enable"}}'}, ["appliance mode of att-b: a packet leaves in the zone where it entered"], TO_B, "stopped GroupsIn eni-b -"),
+    ("an attachment listed twice", {"TransitGatewayVpcAttachments": '{"TransitGatewayAttachmentId": "att-b", "TransitGatewayId": "tgw-1", "VpcId": "vpc-b", "SubnetIds": [], "State": "available"}'},
+     ["another row of att-b, with other subnets: the first row counts"], TO_B, "stopped GroupsIn eni-b -"),
+    ("a reference over a transit gateway", {"in": '{"IpProtocol": "tcp", "UserIdGroupPairs": [{"GroupId": "sg-a"}]}'},
+     ["reference sg-b in 2 to sg-a over tgw-1: what it alone allows stops as GroupsIn"], TO_B, "stopped GroupsIn eni-b -"),
+    ("outward, as a row of its own", {"SecurityGroupRules": '{"SecurityGroupRuleId": "sgr-1", "GroupId": "sg-a", "IsEgress": true, "IpProtocol": "-1", "ReferencedGroupInfo": {"GroupId": "sg-b"}}'},
+     ["reference sg-a sgr-1 to sg-b over tgw-1: what it alone allows stops as GroupsOut"], TO_B, "stopped GroupsOut eni-a -"),
+    ("over an active peering", {"in": '{"IpProtocol": "tcp", "UserIdGroupPairs": [{"GroupId": "sg-a"}]}',
+                                "VpcPeeringConnections": '{"VpcPeeringConnectionId": "pcx-1", "Status": {"Code": "active"}, "RequesterVpcInfo": {"VpcId": "vpc-a"}, "AccepterVpcInfo": {"VpcId": "vpc-b"}}'},
+     [], TO_B, "arrived eni-b"),
+    ("where an attachment forbids it", {"in": '{"IpProtocol": "tcp", "UserIdGroupPairs": [{"GroupId": "sg-a"}]}', "attachment": '{"Options": {"SecurityGroupReferencingSupport": "disable"}}'}, [], TO_B, "stopped GroupsIn eni-b -"),
+    ("to a group that isn't there", {"in": '{"IpProtocol": "tcp", "UserIdGroupPairs": [{"GroupId": "sg-9"}]}'}, [], TO_B, "stopped GroupsIn eni-b -"),
+    ("one name of two zones", {"subnet": '{"AvailabilityZoneId": "use1-az1"}'}, [f"zone us-east-1a at tgw-1, use1-az6 of subnet-a, use1-az1 of subnet-b: {ZONES}"], None, None),
+    ("two names of one zone", {"subnet": '{"AvailabilityZone": "us-east-1b"}'}, [f"zone use1-az6 at tgw-1, us-east-1a of subnet-a, us-east-1b of subnet-b: {ZONES}"], None, None),
+    ("zone ids in the place of names", {"subnet": '{"AvailabilityZone": "use1-az1", "AvailabilityZoneId": "use1-az1"}'}, [], None, None),
+    ("a zone whose id isn't known", {"subnet": '{"AvailabilityZoneId": null}'}, [f"zones of accounts 111122223333, 444455556666 at tgw-1, whose ids subnet-b doesn't tell: {ZONES}"], None, None),
+    ("zones of one account", {"subnet": '{"AvailabilityZoneId": null, "OwnerId": "111122223333"}'}, [], None, None),
+]
+
+# Files, the status, and the line on standard error behind 'survey: FILE '.
+FILES = [
+    ("no file", None, 2, "can't be read: No such file or directory"),
+    ("an empty file", b"", 2, "is no bundle: it is not one JSON value in UTF-8"),
+    ("a file that breaks off", b'{"Vpcs": [', 2, "is no bundle: it is not one JSON value in UTF-8"),
+    ("two values", b'{"Vpcs": []}{"Vpcs": []}', 2, "is no bundle: it is not one JSON value in UTF-8"),
+    ("UTF-16", '{"Vpcs": []}'.encode("utf-16"), 2, "is no bundle: it is not one JSON value in UTF-8"),
+    ("no JSON number", b'{"Vpcs": [], "a": NaN}', 2, "is no bundle: it is not one JSON value in UTF-8"),
+    ("deep nesting", b"[" * 100_000, 2, "is no bundle: it is not one JSON value in UTF-8"),
+    ("a number", b"7", 2, "is no bundle: it is neither an object nor an array of objects"),
+    ("an array of numbers", b"[1]", 2, "is no bundle: it is neither an object nor an array of objects"),
+    ("another object", b'{"Version": "2012-10-17"}', 2, "is no bundle: it has none of a bundle's lists"),
+    ("a list that is none", b'{"Vpcs": {}}', 2, "is no bundle: its Vpcs is no list"),
+    ("odd rows", b'{"Vpcs": [1, {}], "RouteTables": [{"Routes": 7, "Associations": [null]}], "Subnets": null}', 0, None),
+]
+
+
+def put(bundle, place, texts):
+    """Puts rows into a list of a bundle, or members into a row of it."""
+    rows = json.loads(f"[{texts}]")
+    if place not in PLACES:
+        bundle.setdefault(place, []).extend(rows)
+        return
+    name, wanted, inner = PLACES[place]
+    row = next(it for it in bundle[name] if wanted in it.values())
+    if inner:
+        row[inner] += rows
+    else:
+        row.update(rows[0])
+
+
+def survey(path):
+    ran = subprocess.run([os.path.join(TOP, "survey"), path], capture_output=True, text=True, check=False)
+    return ran.returncode, ran.stdout.splitlines(), ran.stderr.splitlines()
+
+
+class Results:
+    def __init__(self):
+        self.passed = self.failed = 0
+
+    def add(self, name, found, wanted):
+        if found == wanted:
+            self.passed += 1
+            return
+        self.failed += 1
+        print(f"FAILED: {name}\n  wanted: {wanted}\n  found:  {found}")
+
+
+def run_row(results, row, path, program):
+    name, parts, lines, packet, last = row
+    bundle = copy.deepcopy(BASE)
+    for place, texts in parts.items():
+        put(bundle, place, texts)
+    with open(path, "w", encoding="utf-8") as file:
+        json.dump(bundle, file)
+    results.add(name, survey(path), (1 if lines else 0, [f"not followed: {it}" for it in lines], []))
+    if program and packet:
+        ran = subprocess.run([program, "trace", path, *packet.split()], capture_output=True, text=True, check=False)
+        results.add(f"{name}, traced", ran.stdout.splitlines()[-1:], [last])
+
+
+def run_file(results, row, path):
+    name, data, status, why = row
+    if data is None:
+        os.remove(path)
+    else:
+        with open(path, "wb") as file:
+            file.write(data)
+    results.add(name, survey(path), (status, [], [f"survey: {path} {why}"] if why else []))
+
+
+def run_others(results, path):
+    """An array, where each line stands once, and the words."""
+    vpn = '{"RouteTables": [{"RouteTableId": "rtb-1", "Associations": [{"Main": true}], "Routes": [{"DestinationCidrBlock": "10.9.0.0/16", "GatewayId": "vpce-\\u001b"}]}]}'
+    with open(path, "w", encoding="utf-8") as file:
+        file.write(f"[{vpn}, {{}}, {vpn}]")
+    results.add("an array", survey(path), (1, [f'not followed: route rtb-1 10.9.0.0/16 to "vpce-\\u001b": {STOPS}'], []))
+    for words in ([], [path, path], ["--all"]):
+        ran = subprocess.run([os.path.join(TOP, "survey"), *words], capture_output=True, text=True, check=False)
+        results.add(f"words {words}", (ran.returncode, ran.stdout, ran.stderr), (2, "", "survey: one BUNDLE is meant; --help says more\n"))
+
+
+def main(words):
+    if len(words) > 1:
+        sys.exit(__doc__)
+    program = os.path.abspath(words[0]) if words else None
+    results = Results()
+    with tempfile.TemporaryDirectory() as room:
+        path = os.path.join(room, "bundle.json")
+        for row in ROWS:
+            run_row(results, row, path, program)
+        for row in FILES:
+            run_file(results, row, path)
+        run_others(results, path)
+    print(f"{results.passed} passed, {results.failed} failed")
+    return 1 if results.failed else 0
+
+
+if __name__ == "__main__":
+    sys.exit(main(sys.argv[1:]))
