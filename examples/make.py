@@ -1,8 +1,9 @@
 #!/usr/bin/env python3
-"""Writes the example bundles beside this page: three-tiers.json, two-accounts.json and hub.json.
+"""Writes the example bundles beside this page: shop.json, three-tiers.json, two-accounts.json and hub.json.
 
-Their rows have the members that `aws ec2 describe-*` prints, with made-up ids that are readable. Nothing is random: the
-same bundles come out each time. A list has a row a line."""
+Their rows have the members that `aws ec2 describe-*` prints, with made-up ids that are readable. Those of shop.json are
+the answers stored in tests/account, joined as collect-bundle joins them. Nothing is random: the same bundles come out
+each time. A list has a row a line."""
 import json
 import os
 
@@ -281,6 +282,28 @@ def peering(name, code, requester, accepter, message):
     if code == 'pending-acceptance':
         row['ExpirationTime'] = '2026-12-04T09:30:00+00:00'
     return row
+
+
+# ---- a small account, of the answers that stand in for those of AWS in the tests
+
+def shop():
+    folder = os.path.join(HERE, os.pardir, 'tests', 'account', 'answers', 'shop')
+    # (what collect-bundle asks for in order to know what else to ask for)
+    not_kept = ('describe-managed-prefix-lists', 'describe-transit-gateway-route-tables')
+    told = {'PrefixListEntries': [], 'TransitGatewayRoutes': []}
+    for name in sorted(os.listdir(folder)):
+        with open(os.path.join(folder, name), encoding='utf-8') as file:
+            answer = json.load(file)
+        call, _, asked = name.removesuffix('.json').partition('.')
+        if call == 'get-managed-prefix-list-entries':
+            told['PrefixListEntries'].append({'PrefixListId': asked, 'Entries': answer['Entries']})
+        elif call == 'search-transit-gateway-routes':
+            told['TransitGatewayRoutes'].append({'TransitGatewayRouteTableId': asked, 'Routes': answer['Routes']})
+        elif call not in not_kept:
+            told.update((key, rows) for key, rows in answer.items() if isinstance(rows, list))
+    groups = {group['GroupId'] for group in told['SecurityGroups']}
+    told['SecurityGroupRules'] = [rule for rule in told['SecurityGroupRules'] if rule['GroupId'] in groups]
+    return told
 
 
 # ---- an account with three tiers in three zones
@@ -587,7 +610,7 @@ def lines(account, indent=''):
 
 
 def main():
-    for name, bundle in (('three-tiers', three_tiers()), ('two-accounts', two_accounts()), ('hub', hub())):
+    for name, bundle in (('shop', shop()), ('three-tiers', three_tiers()), ('two-accounts', two_accounts()), ('hub', hub())):
         text = '[\n' + ',\n'.join(lines(account, ' ') for account in bundle) + '\n]\n' if isinstance(bundle, list) else lines(bundle) + '\n'
         assert json.loads(text) == bundle
         with open(os.path.join(HERE, name + '.json'), 'w', encoding='utf-8') as file:
