@@ -3,12 +3,16 @@
 
 Each row of ROWS is one bundle: a small network and what the row puts into it. Its lines are all that survey prints of it, without
 `not followed: `. Where a row has a packet and PROGRAM is given, PROGRAM traces the packet in the same bundle, and its last line is
-the row's: so a line that says how packets end is true of the program. The last line is 'N passed, M failed'.
+the row's: so a line that says how packets end is true of the program. The rows call survey within this process, and a few more run
+it as one of its own. The last line is 'N passed, M failed'.
 """
 
+import contextlib
 import copy
+import io
 import json
 import os
+import runpy
 import subprocess
 import sys
 import tempfile
@@ -55,7 +59,6 @@ PLACES = {
     "tied": ("RouteTables", "rtb-a", "Associations"),
     "acl": ("NetworkAcls", "acl-1", "Entries"),
     "in": ("SecurityGroups", "sg-b", "IpPermissions"),
-    "out": ("SecurityGroups", "sg-a", "IpPermissionsEgress"),
     "transit": ("TransitGatewayRoutes", "tgw-rtb", "Routes"),
     "eni": ("NetworkInterfaces", "eni-a", None),
     "vpc": ("Vpcs", "vpc-a", None),
@@ -178,6 +181,7 @@ ROWS = [
     ("to one of a VPC that isn't", {"transit": '{"DestinationCidrBlock": "10.2.1.0/24", "Type": "static", "State": "active", "TransitGatewayAttachments": [{"TransitGatewayAttachmentId": "att-9"}]}',
                                    "TransitGatewayVpcAttachments": '{"TransitGatewayAttachmentId": "att-9", "TransitGatewayId": "tgw-1", "VpcId": "vpc-9", "SubnetIds": ["subnet-9"], "State": "available"}'},
      [f"route tgw-rtb 10.2.1.0/24 to att-9, whose VPC vpc-9 isn't described: {STOPS}"], TO_B, "stopped Unmodelled att-9 -"),
+    ("to one that is being deleted", {"attachment": '{"State": "deleting"}'}, [f"route tgw-rtb 10.2.0.0/16 to att-b, which isn't described: {STOPS}"], TO_B, "stopped Unmodelled att-b -"),
     ("to one without a subnet", {"attachment": '{"SubnetIds": []}'}, [f"route tgw-rtb 10.2.0.0/16 to att-b, which has no subnet: {STOPS}"], TO_B, "stopped Unmodelled att-b -"),
     ("without an attachment", {"transit": '{"DestinationCidrBlock": "10.2.1.0/24", "Type": "static", "State": "active"}'}, [f"route tgw-rtb 10.2.1.0/24 without an attachment: {STOPS}"], TO_B, "stopped Unmodelled tgw-rtb -"),
     ("one that is a blackhole", {"transit": '{"DestinationCidrBlock": "10.2.1.0/24", "Type": "static", "State": "blackhole"}'}, [], TO_B, "stopped TgwBlackhole tgw-rtb 10.2.1.0/24"),
@@ -231,8 +235,17 @@ def put(bundle, place, texts):
         row.update(rows[0])
 
 
-def survey(path):
-    ran = subprocess.run([os.path.join(TOP, "survey"), path], capture_output=True, text=True, check=False)
+def survey(*words):
+    """The status of survey, called within this process, and its lines on standard output and standard error."""
+    out, err = io.StringIO(), io.StringIO()
+    with contextlib.redirect_stdout(out), contextlib.redirect_stderr(err):
+        status = MAIN(list(words))
+    return status, out.getvalue().splitlines(), err.getvalue().splitlines()
+
+
+def process(*words):
+    """The same of survey as a process."""
+    ran = subprocess.run([os.path.join(TOP, "survey"), *words], capture_output=True, text=True, check=False)
     return ran.returncode, ran.stdout.splitlines(), ran.stderr.splitlines()
 
 
@@ -276,10 +289,14 @@ def run_others(results, path):
     vpn = '{"RouteTables": [{"RouteTableId": "rtb-1", "Associations": [{"Main": true}], "Routes": [{"DestinationCidrBlock": "10.9.0.0/16", "GatewayId": "vpce-\\u001b"}]}]}'
     with open(path, "w", encoding="utf-8") as file:
         file.write(f"[{vpn}, {{}}, {vpn}]")
-    results.add("an array", survey(path), (1, [f'not followed: route rtb-1 10.9.0.0/16 to "vpce-\\u001b": {STOPS}'], []))
+    lines = [f'not followed: route rtb-1 10.9.0.0/16 to "vpce-\\u001b": {STOPS}']
+    results.add("an array", survey(path), (1, lines, []))
+    results.add("as a process, something", process(path), (1, lines, []))
+    results.add("as a process, nothing", process(os.path.join(TOP, "examples", "one-subnet.json")), (0, [], []))
+    results.add("as a process, no bundle", process(os.devnull), (2, [], [f"survey: {os.devnull} is no bundle: it is not one JSON value in UTF-8"]))
     for words in ([], [path, path], ["--all"]):
-        ran = subprocess.run([os.path.join(TOP, "survey"), *words], capture_output=True, text=True, check=False)
-        results.add(f"words {words}", (ran.returncode, ran.stdout, ran.stderr), (2, "", "survey: one BUNDLE is meant; --help says more\n"))
+        results.add(f"words {words}", survey(*words), (2, [], ["survey: one BUNDLE is meant; --help says more"]))
+    results.add("--help", (survey("--help")[0], survey("--help")[1][:1]), (0, ["Tells what a bundle has that vpc doesn't follow: survey BUNDLE"]))
 
 
 def main(words):
@@ -299,4 +316,5 @@ def main(words):
 
 
 if __name__ == "__main__":
+    MAIN = runpy.run_path(os.path.join(TOP, "survey"))["main"]
     sys.exit(main(sys.argv[1:]))
