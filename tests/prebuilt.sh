@@ -5,8 +5,8 @@
 #   tests/prebuilt.sh --write [GATE]   makes it anew of what GATE made
 #
 # GATE is a checkout of the same sources in which `rt ci` passed; without one it is this checkout's own build, by
-# `VPC_PROVE=1 ./vpc`. The program is stripped, since symbols name the folder that it was built in. The last line is
-# 'N passed, M failed'.
+# `VPC_PROVE=1 ./vpc`. The program is stripped, which makes it smaller: two builds in different folders were equal without that
+# too. The last line is 'N passed, M failed'.
 unset CDPATH
 top=$(cd -- "$(dirname -- "$0")/.." && pwd)
 room=$(mktemp -d)
