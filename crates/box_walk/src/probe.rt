@@ -1,5 +1,5 @@
 // The probe that is asked of the requests from one end to another.
-ghost use Rattle.std.specs.Prelude.{◌≡◌, [], IsTrue, List, ℕ};
+ghost use Rattle.std.specs.Prelude.{◌≡◌, ◌↔◌, [], IsTrue, List, ℕ};
 ghost use Rattle.vpc_base.specs.Cuts.{AreAmong};
 ghost use Rattle.vpc_base.specs.declared.headers.Header.{Header};
 ghost use Rattle.header_boxes.specs.Boxes.{IsValid, low_of};
@@ -154,7 +154,7 @@ impl<'a> Probe for RoundProbe<'a> {
     ghost near_among = { λ p h. near_cuts_are_among_all p.fabric.now (appliances_of p.fabric.now) p.start p.goal h };
 
     fn is_same(one: (Phase, Stop), other: (Phase, Stop)) -> bool
-        ensures { IsTrue result → one ≡ other }
+        ensures { IsTrue result ↔ (one ≡ other) }
     {
         one.0 == other.0 && same_stop(&one.1, &other.1)
     }

@@ -1,5 +1,5 @@
 // The probe that asks whether requests get through, and not what stops the others.
-ghost use Rattle.std.specs.Prelude.{◌≡◌, IsTrue};
+ghost use Rattle.std.specs.Prelude.{◌≡◌, ◌↔◌, IsTrue};
 ghost use Rattle.box_walk.specs.Asking.{asked, stopped_of};
 
 use crate::probe::RoundProbe;
@@ -41,7 +41,7 @@ impl<'a, 'b> Probe for ThroughProbe<'a, 'b> {
     ghost near_among = { λ p h. near_cuts_are_among_all p.round.now.fabric.now (appliances_of p.round.now.fabric.now) p.round.now.start p.round.now.goal h };
 
     fn is_same(one: (), other: ()) -> bool
-        ensures { IsTrue result → one ≡ other }
+        ensures { IsTrue result ↔ (one ≡ other) }
     {
         true
     }

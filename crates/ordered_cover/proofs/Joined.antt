@@ -1,13 +1,11 @@
 -- The last two rows are joined.
-use Rattle.std.proofs.Common.{◌≡◌, ◌<◌, ◌≤◌, ◌+◌, ◌&&◌, ◌⊎◌, ℕ, Bool, true, false, List, [], ◌∷◌, ◌++◌, Option, Some, All, AllPairs, get_or, length, inl, inr, refl, ap, sym, ◌∙◌, subst, arith}
+use Rattle.std.proofs.Common.{◌≡◌, ◌≤◌, ◌+◌, ◌&&◌, ◌⊎◌, ℕ, Bool, true, false, List, [], ◌∷◌, ◌++◌, Option, Some, All, length, inl, inr, refl, ap, sym, ◌∙◌, subst, arith}
 use Rattle.std.proofs.lemmas.Bool.Decides.{nat_tests}
 use Rattle.std.proofs.lemmas.Grind.{common_steps}
 use Rattle.std.proofs.lemmas.List.{length-append}
 use Rattle.std.proofs.lemmas.List.Elements.{All-push}
 use Rattle.std.proofs.lemmas.List.Quantifiers.{all_pairs_push}
 use Rattle.std.proofs.lemmas.List.Sums.{sum_by-append}
-use Rattle.std.proofs.Math.ListN.{get_or-append}
-use Rattle.std.proofs.Math.Seq.{get_or-append_seam}
 use Rattle.vpc_base.specs.Header.{IsBefore}
 use Rattle.vpc_base.specs.Cuts.{CutLists}
 use Rattle.vpc_base.specs.declared.headers.Header.{Header}
@@ -17,33 +15,10 @@ use Rattle.header_boxes.specs.Rows.{HasWord}
 use Rattle.header_boxes.specs.declared.boxes.Box5.{Box5}
 use Rattle.header_boxes.specs.declared.rows.Row.{Row}
 use Rattle.header_boxes.proofs.Held.{valid_if_within}
-use Rattle.ordered_cover.specs.Kept.{GoesOn, IsKept, up_to}
+use Rattle.ordered_cover.specs.Joined.{AreJoined, CanJoin, GoesOn}
+use Rattle.ordered_cover.specs.Kept.{IsKept, up_to}
 use Rattle.ordered_cover.specs.Open.{one_if, AreSplit}
-
--- ---- lists with a last element
-module _ {X : Type 0} where
-  inside_push : (xs : List X) (y : X) (k : ℕ) → k < length xs → k < length (xs ++ y ∷ [])
-  inside_push xs y k lt = let l = length-append xs (y ∷ []) in omega (arith, l, lt)
-
-  last_push : (xs : List X) (y : X) → length xs < length (xs ++ y ∷ [])
-  last_push xs y = let l = length-append xs (y ∷ []) in omega (arith, l)
-
-  all_before : (P : X → Type 0) (xs : List X) (y : X) → All P (xs ++ y ∷ []) → All P xs
-  all_before P xs y all k d lt = subst P (get_or-append xs (y ∷ []) d k lt) (all k d (inside_push xs y k lt))
-
-  of_last : (P : X → Type 0) (xs : List X) (y : X) → All P (xs ++ y ∷ []) → P y
-  of_last P xs y all = subst P (get_or-append_seam xs y [] y) (all (length xs) y (last_push xs y))
-
-  pairs_before : (R : X → X → Type 0) (xs : List X) (y : X) → AllPairs R (xs ++ y ∷ []) → AllPairs R xs
-  pairs_before R xs y all i j d lt inside =
-      let before : i < length xs = omega (arith, lt, inside) in
-      subst (λ v. R v (get_or xs j d)) (get_or-append xs (y ∷ []) d i before)
-      (subst (λ v. R (get_or (xs ++ y ∷ []) i d) v) (get_or-append xs (y ∷ []) d j inside) (all i j d lt (inside_push xs y j inside)))
-
-  pairs_with_last : (R : X → X → Type 0) (xs : List X) (y : X) → AllPairs R (xs ++ y ∷ []) → All (λ x. R x y) xs
-  pairs_with_last R xs y all k d lt =
-      subst (λ v. R v y) (get_or-append xs (y ∷ []) d k lt)
-      (subst (λ v. R (get_or (xs ++ y ∷ []) k d) v) (get_or-append_seam xs y [] d) (all k (length xs) d lt (last_push xs y)))
+use Rattle.ordered_cover.proofs.Lists.{adjacent_changed, adjacent_one, adjacent_push, all_before, of_last, pairs_before, pairs_with_last}
 
 -- ---- two boxes
 one_both : (x x2 y y1 y2 : Bool) → x ≡ x2 → one_if y ≡ one_if y1 + one_if y2 → one_if (x && y) ≡ one_if (x && y1) + one_if (x2 && y2)
@@ -148,3 +123,25 @@ kept_few old new row (inr j) =
     let e = ap length j.ends in let l = length-append j.before (record { part = up_to j.last.part row.part; word = j.last.word } ∷ []) in
     let f = ap length j.ended in let m = length-append j.before (j.last ∷ []) in
     omega (arith, e, l, f, m)
+
+-- ---- no row could be one with the next
+
+module _ {W : Type 0} where
+  -- the first one
+  pub joined_first : (On : Box5 → Box5 → Type 0) (rows : List (Row W)) (row : Row W) → rows ≡ [] → AreJoined On (rows ++ row ∷ [])
+  joined_first On rows row none = adjacent_one (λ a b. ¬ (CanJoin On a b)) rows row none
+
+  -- one more, which doesn't go on from the last one with its word
+  pub joined_more : (On : Box5 → Box5 → Type 0) (rows before : List (Row W)) (last row : Row W) → rows ≡ before ++ last ∷ [] → ¬ (CanJoin On last row) → AreJoined On rows
+      → AreJoined On (rows ++ row ∷ [])
+  joined_more On rows before last row ended apart joined =
+      subst (λ v. AreJoined On (v ++ row ∷ [])) (sym ended)
+      (adjacent_push (λ a b. ¬ (CanJoin On a b)) before last row (subst (AreJoined On) ended joined) apart)
+
+  -- what doesn't go on to the last row doesn't go on to it with a later last port
+  pub joined_up_to : (rows before : List (Row W)) (last row : Row W) → rows ≡ before ++ last ∷ [] → AreJoined GoesOn rows
+      → AreJoined GoesOn (before ++ record { part = up_to last.part row.part; word = last.word } ∷ [])
+  joined_up_to rows before last row ended joined =
+      adjacent_changed (λ a b. ¬ (CanJoin GoesOn a b)) before last (record { part = up_to last.part row.part; word = last.word })
+      (λ x apart can. apart (record { proto = can.0.proto; src = can.0.src; dst = can.0.dst; p = can.0.p; q = can.0.q }, can.1))
+      (subst (AreJoined GoesOn) ended joined)

@@ -5,3 +5,5 @@ pub mod Rests
 pub mod Cells
 pub mod Splits
 pub mod Joined
+pub mod Passing
+pub mod OpenRanges

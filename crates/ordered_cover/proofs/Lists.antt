@@ -1,11 +1,13 @@
 -- Counting the elements of a list that pass a test.
-use Rattle.std.proofs.Common.{◌≡◌, ◌≢◌, All, ℕ, ◌≤◌, ◌<◌, ◌+◌, ◌-◌, Bool, set, true, false, List, [], ◌∷◌, ◌++◌, length, get_or, take, suc, zero, refl, arith, append_assoc, subst, ◌||◌, ap, sym, ◌∙◌, sum_by}
+use Rattle.std.proofs.Common.{◌≡◌, ◌≢◌, All, AllPairs, ℕ, ◌≤◌, ◌<◌, ◌+◌, ◌-◌, Bool, set, true, false, List, [], ◌∷◌, ◌++◌, length, get_or, take, suc, zero, refl, arith, append_assoc, subst, ◌||◌, ap, sym, ◌∙◌, sum_by, ⊎_elim}
+use Rattle.std.proofs.lemmas.Bool.{cases_lt}
 use Rattle.std.proofs.lemmas.List.Sums.{sum_by-cons}
-use Rattle.std.proofs.lemmas.List.{take_more, take_more_set, length-set}
-use Rattle.std.proofs.Math.Seq.{take-length}
+use Rattle.std.proofs.lemmas.List.{length-append, take_more, take_more_set, length-set}
+use Rattle.std.proofs.Math.ListN.{get_or-append}
+use Rattle.std.proofs.Math.Seq.{get_or-append_seam, take-length}
 use Rattle.std.proofs.lemmas.List.Elements.{All-head, All-tail}
 use Rattle.std.proofs.lemmas.List.Sorted.{Contains-permutation, length_permutation, IsPermutation-push_more}
-use Rattle.std.specs.List.{list_any}
+use Rattle.std.specs.List.{AllAdjacentBelow, list_any}
 use Rattle.std.specs.List.Sorted.{IsPermutation}
 use Rattle.ordered_cover.specs.Open.{one_if}
 
@@ -82,6 +84,88 @@ module _ {X : Type 0} where
       let m : length (set xs (n - 1) y) ≡ n - 1 + 1 = omega (arith, count, some, l) in
       sym (take-length (set xs (n - 1) y)) ∙ (ap (λ k. take k (set xs (n - 1) y)) m ∙ take_more_set xs (n - 1) y (omega (arith, count, some)))
 
+  -- a list without a last element has none
+  pub none_at_all : (xs : List X) (n : ℕ) → n ≡ length xs → (0 < n → ⊥) → xs ≡ []
+  none_at_all [] n count none = refl
+  none_at_all (x ∷ xs) n count none = absurd (none (omega (arith, count)))
+
   -- the last element put in its own place
   pub last_put_back : (xs : List X) (n : ℕ) (y : X) → n ≡ length xs → 0 < n → y ≡ get_or xs (n - 1) y → set xs (n - 1) y ≡ xs
   last_put_back xs n y count some last = last_replaced xs n y count some ∙ sym (with_last xs n y count some last)
+
+  inside_push : (xs : List X) (y : X) (k : ℕ) → k < length xs → k < length (xs ++ y ∷ [])
+  inside_push xs y k lt = let l = length-append xs (y ∷ []) in omega (arith, l, lt)
+
+  last_push : (xs : List X) (y : X) → length xs < length (xs ++ y ∷ [])
+  last_push xs y = let l = length-append xs (y ∷ []) in omega (arith, l)
+
+  pub all_before : (P : X → Type 0) (xs : List X) (y : X) → All P (xs ++ y ∷ []) → All P xs
+  all_before P xs y all k d lt = subst P (get_or-append xs (y ∷ []) d k lt) (all k d (inside_push xs y k lt))
+
+  pub of_last : (P : X → Type 0) (xs : List X) (y : X) → All P (xs ++ y ∷ []) → P y
+  of_last P xs y all = subst P (get_or-append_seam xs y [] y) (all (length xs) y (last_push xs y))
+
+  pub pairs_before : (R : X → X → Type 0) (xs : List X) (y : X) → AllPairs R (xs ++ y ∷ []) → AllPairs R xs
+  pairs_before R xs y all i j d lt inside =
+      let before : i < length xs = omega (arith, lt, inside) in
+      subst (λ v. R v (get_or xs j d)) (get_or-append xs (y ∷ []) d i before)
+      (subst (λ v. R (get_or (xs ++ y ∷ []) i d) v) (get_or-append xs (y ∷ []) d j inside) (all i j d lt (inside_push xs y j inside)))
+
+  pub pairs_with_last : (R : X → X → Type 0) (xs : List X) (y : X) → AllPairs R (xs ++ y ∷ []) → All (λ x. R x y) xs
+  pairs_with_last R xs y all k d lt =
+      subst (λ v. R v y) (get_or-append xs (y ∷ []) d k lt)
+      (subst (λ v. R (get_or (xs ++ y ∷ []) k d) v) (get_or-append_seam xs y [] d) (all k (length xs) d lt (last_push xs y)))
+
+-- ---- each element and the next
+
+abbrev pub AllAdjacent : {X : Type 0} → (X → X → Type 0) → List X → Type 0
+AllAdjacent R xs = AllAdjacentBelow R xs (length xs)
+
+module _ {X : Type 0} (R : X → X → Type 0) where
+  pub adjacent_before : (xs : List X) (y : X) → AllAdjacent R (xs ++ y ∷ []) → AllAdjacent R xs
+  adjacent_before xs y all k d lt =
+      subst (λ v. R v (get_or xs (k + 1) d)) (get_or-append xs (y ∷ []) d k (omega (arith, lt)))
+      (subst (λ v. R (get_or (xs ++ y ∷ []) k d) v) (get_or-append xs (y ∷ []) d (k + 1) lt) (all k d (inside_push xs y (k + 1) lt)))
+
+  -- one more element, which has R to the last one
+  pub adjacent_push : (xs : List X) (y z : X) → AllAdjacent R (xs ++ y ∷ []) → R y z → AllAdjacent R ((xs ++ y ∷ []) ++ z ∷ [])
+  adjacent_push xs y z all one k d lt =
+      let long = length-append (xs ++ y ∷ []) (z ∷ []) in
+      let m = length-append xs (y ∷ []) in
+      ⊎_elim
+      (λ inside.
+      subst (λ v. R v (get_or ((xs ++ y ∷ []) ++ z ∷ []) (k + 1) d)) (sym (get_or-append (xs ++ y ∷ []) (z ∷ []) d k (omega (arith, inside))))
+      (subst (λ v. R (get_or (xs ++ y ∷ []) k d) v) (sym (get_or-append (xs ++ y ∷ []) (z ∷ []) d (k + 1) inside)) (all k d inside)))
+      (λ past.
+      let e : k ≡ length xs = omega (arith, long, m, lt, past) in
+      let f : k + 1 ≡ length (xs ++ y ∷ []) = omega (arith, m, e) in
+      let at_y : get_or ((xs ++ y ∷ []) ++ z ∷ []) k d ≡ y =
+      get_or-append (xs ++ y ∷ []) (z ∷ []) d k (omega (arith, f)) ∙ (ap (λ n. get_or (xs ++ y ∷ []) n d) e ∙ get_or-append_seam xs y [] d) in
+      let at_z : get_or ((xs ++ y ∷ []) ++ z ∷ []) (k + 1) d ≡ z = ap (λ n. get_or ((xs ++ y ∷ []) ++ z ∷ []) n d) f ∙ get_or-append_seam (xs ++ y ∷ []) z [] d in
+      subst (λ v. R v (get_or ((xs ++ y ∷ []) ++ z ∷ []) (k + 1) d)) (sym at_y) (subst (R y) (sym at_z) one))
+      (cases_lt (k + 1) (length (xs ++ y ∷ [])))
+
+  -- a single element
+  pub adjacent_one : (xs : List X) (y : X) → xs ≡ [] → AllAdjacent R (xs ++ y ∷ [])
+  adjacent_one [] y none k d lt = absurd (omega (arith, lt))
+  adjacent_one (x ∷ xs) y none k d lt = absurd cc
+
+  -- another last element
+  pub adjacent_changed : (xs : List X) (y z : X) → ((x : X) → R x y → R x z) → AllAdjacent R (xs ++ y ∷ []) → AllAdjacent R (xs ++ z ∷ [])
+  adjacent_changed xs y z weaker all k d lt =
+      let m = length-append xs (z ∷ []) in
+      let n = length-append xs (y ∷ []) in
+      let inside : k + 1 < length (xs ++ y ∷ []) = omega (arith, m, n, lt) in
+      let first : k < length xs = omega (arith, m, lt) in
+      let before : R (get_or xs k d) (get_or (xs ++ y ∷ []) (k + 1) d) =
+      subst (λ v. R v (get_or (xs ++ y ∷ []) (k + 1) d)) (get_or-append xs (y ∷ []) d k first) (all k d inside) in
+      subst (λ v. R v (get_or (xs ++ z ∷ []) (k + 1) d)) (sym (get_or-append xs (z ∷ []) d k first))
+      (⊎_elim
+      (λ lower.
+      subst (R (get_or xs k d)) (sym (get_or-append xs (z ∷ []) d (k + 1) lower)) (subst (R (get_or xs k d)) (get_or-append xs (y ∷ []) d (k + 1) lower) before))
+      (λ past.
+      let e : k + 1 ≡ length xs = omega (arith, m, lt, past) in
+      let at_y : get_or (xs ++ y ∷ []) (k + 1) d ≡ y = ap (λ n. get_or (xs ++ y ∷ []) n d) e ∙ get_or-append_seam xs y [] d in
+      let at_z : get_or (xs ++ z ∷ []) (k + 1) d ≡ z = ap (λ n. get_or (xs ++ z ∷ []) n d) e ∙ get_or-append_seam xs z [] d in
+      subst (R (get_or xs k d)) (sym at_z) (weaker (get_or xs k d) (subst (R (get_or xs k d)) at_y before)))
+      (cases_lt (k + 1) (length xs)))

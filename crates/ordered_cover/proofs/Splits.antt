@@ -18,6 +18,7 @@ use Rattle.header_boxes.proofs.CellNumbers.{aligned_through, aligned_to_itself}
 use Rattle.header_boxes.proofs.Held.{holds_low, holds_whole, valid_if_within, within_itself}
 use Rattle.header_boxes.specs.Rows.{IsFirstThrough, NoneThrough, HasWord, is_covered, AreWhole}
 use Rattle.ordered_cover.specs.Cover.{IsBlocked, IsMore}
+use Rattle.ordered_cover.specs.Joined.{AreJoined, GoesOn}
 use Rattle.ordered_cover.specs.Open.{one_if, holders, row_holders, IsLeast, IsAsked, AreSplit, AreSplitBySome}
 use Rattle.header_boxes.specs.declared.rows.Row.{Row}
 use Rattle.ordered_cover.proofs.Lists.{one_at, any_from_one, none_from_zero, zero_from_all}
@@ -218,14 +219,14 @@ module _ {W : Type 0} {meaning : Header → Option W} {cuts : CutLists} {sides :
 
 -- ---- a search that keeps rows
 module _ {W : Type 0} {meaning : Header → Option W} {cuts : CutLists} {sides : Box5} where
-  pub blocked_from_split : {open_boxes : List Box5} {rows : List (Row W)} (max : ℕ) → AreSplit meaning cuts sides open_boxes rows → open_boxes ≡ [] → length rows ≤ max
+  pub blocked_from_split : {open_boxes : List Box5} {rows : List (Row W)} (max : ℕ) → AreSplit meaning cuts sides open_boxes rows → open_boxes ≡ [] → length rows ≤ max → AreJoined GoesOn rows
       → IsBlocked meaning cuts sides max rows
-  blocked_from_split {open_boxes = open_boxes} {rows = rows} max s none few = record { are_true = s.are_true; ordered = s.ordered; whole = whole_from_split open_boxes rows none s; few = few }
+  blocked_from_split {open_boxes = open_boxes} {rows = rows} max s none few joined = record { are_true = s.are_true; ordered = s.ordered; whole = whole_from_split open_boxes rows none s; few = few; joined = joined }
 
   -- the first open box begins at the first header outside the rows
   pub more_from_split : {open_boxes others : List Box5} {rows : List (Row W)} (max : ℕ) (b : Box5) → AreSplit meaning cuts sides open_boxes rows
-      → IsPermutation open_boxes (b ∷ others) → IsLeast b open_boxes → length rows ≡ max → IsMore meaning cuts sides max rows (low_of b)
-  more_from_split {open_boxes = open_boxes} {others = others} {rows = rows} max b s taken least count =
+      → IsPermutation open_boxes (b ∷ others) → IsLeast b open_boxes → length rows ≡ max → AreJoined GoesOn rows → IsMore meaning cuts sides max rows (low_of b)
+  more_from_split {open_boxes = open_boxes} {others = others} {rows = rows} max b s taken least count joined =
       let within : IsWithin b sides = All-head (λ o. IsWithin o sides) b others (All-permutation (λ o. IsWithin o sides) open_boxes (b ∷ others) taken s.within) in
       let here : holds (low_of b) b ≡ true = holds_low b (valid_if_within b sides within) in
       let e = s.each (low_of b) in
@@ -239,6 +240,7 @@ module _ {W : Type 0} {meaning : Header → Option W} {cuts : CutLists} {sides :
         are_true = s.are_true;
         ordered = s.ordered;
         count = count;
+        joined = joined;
         outside = record { inside = holds_whole (low_of b) b sides within here; outside = none_from_zero (λ r. holds (low_of b) r.part) rows zero_rows; first = covered };
         begun = λ k d lt. let P : Box5 → Type 0 = (λ o. IsBefore (low_of (get_or rows k d).part) (low_of o)) in
             All-head P b others (All-permutation P open_boxes (b ∷ others) taken (s.begun k d lt));

@@ -8,21 +8,24 @@ use Rattle.header_boxes.specs.Cells.{cells_of}
 use Rattle.header_boxes.specs.Rows.{IsFirstThrough, AreTrueRows, AreOrdered, AreWhole, IsFirstOutside}
 use Rattle.header_boxes.specs.declared.boxes.Box5.{Box5}
 use Rattle.header_boxes.specs.declared.rows.Row.{Row}
+use Rattle.ordered_cover.specs.Joined.{AreJoined, GoesOn}
 use Rattle.ordered_cover.specs.declared.rows.Cover.{Cover}
 use Rattle.ordered_cover.specs.declared.rows.Cover.TheVariants.{Found, Blocked, More}
 
--- at most max ordered true rows that hold every header
+-- at most max ordered true rows that hold every header; none of them could be one with the next, by the side q
 pub record IsBlocked {W : Type 0} (meaning : Header → Option W) (cuts : CutLists) (sides : Box5) (max : ℕ) (rows : List (Row W)) : Type 0 where
   pub are_true : AreTrueRows meaning sides rows
   pub ordered : AreOrdered cuts sides rows
   pub whole : AreWhole sides rows
   pub few : length rows ≤ max
+  pub joined : AreJoined GoesOn rows
 
 -- exactly max ordered true rows, the first header outside them, which comes after each row's low corner; and more cells than max, by any cuts that have all of these
 pub record IsMore {W : Type 0} (meaning : Header → Option W) (cuts : CutLists) (sides : Box5) (max : ℕ) (rows : List (Row W)) (next : Header) : Type 0 where
   pub are_true : AreTrueRows meaning sides rows
   pub ordered : AreOrdered cuts sides rows
   pub count : length rows ≡ max
+  pub joined : AreJoined GoesOn rows
   pub outside : IsFirstOutside sides rows next
   pub begun : All (λ r. IsBefore (low_of r.part) next) rows
   pub clear : (h : Header) → holds h sides ≡ true → IsBefore h next → meaning h ≢ None

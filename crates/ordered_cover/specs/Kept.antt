@@ -1,15 +1,8 @@
 -- How a row is kept.
-use Rattle.std.specs.Prelude.{◌≡◌, ◌+◌, ◌⊎◌, List, [], ◌∷◌, ◌++◌}
+use Rattle.std.specs.Prelude.{◌≡◌, ◌⊎◌, List, [], ◌∷◌, ◌++◌}
 use Rattle.header_boxes.specs.declared.boxes.Box5.{Box5}
 use Rattle.header_boxes.specs.declared.rows.Row.{Row}
-
--- the other box has the sides of the first, but that it begins one past its last port
-pub record GoesOn (first other : Box5) : Type 0 where
-  pub proto : first.proto ≡ other.proto
-  pub src : first.src ≡ other.src
-  pub dst : first.dst ≡ other.dst
-  pub p : first.p ≡ other.p
-  pub q : first.q.1 + 1 ≡ other.q.0
+use Rattle.ordered_cover.specs.Joined.{GoesOn}
 
 -- a box up to the last port of the other
 abbrev pub up_to : Box5 → Box5 → Box5

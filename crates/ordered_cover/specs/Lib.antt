@@ -1,4 +1,7 @@
 pub mod Cover
 pub mod Corner
 pub mod Open
+pub mod Joined
 pub mod Kept
+pub mod Ports
+pub mod Passed

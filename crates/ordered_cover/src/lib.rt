@@ -1,9 +1,10 @@
-//! Asks a question of every header of a box: the first header that gets through, or disjoint boxes that
-//! hold all headers, each with the one word that all its headers have.
+//! Asks a question of every header of a box: the first header that gets through, disjoint boxes that hold all
+//! headers, each with the one word that all its headers have, or the ports that are open.
 #![tactic(auto)]
 
 mod corner;
 mod open;
+pub mod ports;
 mod probe;
 mod rows;
 pub mod search;

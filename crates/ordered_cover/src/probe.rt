@@ -1,5 +1,5 @@
 // What a cover asks.
-ghost use Rattle.std.specs.Prelude.{◌≡◌, IsTrue, Option, true};
+ghost use Rattle.std.specs.Prelude.{◌≡◌, ◌↔◌, IsTrue, Option, true};
 
 use header_boxes::Box5;
 
@@ -25,7 +25,7 @@ pub trait Probe {
 
     /// Whether two words are one.
     fn is_same(one: Self::Word, other: Self::Word) -> bool
-        ensures { IsTrue result → one ≡ other };
+        ensures { IsTrue result ↔ (one ≡ other) };
 
     /// One answer for all headers of a part of the sides that holds their least header.
     fn probe(&self, sides: &Box5) -> (Box5, Option<Self::Word>)

@@ -1,11 +1,12 @@
 //! The search for the first header that gets through. Boxes that are still open are asked in the order of
 //! their low corners, so what is known always reaches from the least header of the sides up to the least
 //! open low corner.
-ghost use Rattle.std.specs.Prelude.{◌≡◌, ◌≤◌, List, [], Option, All, IfOk, OnOk, IfNone, IfSome, IsTrue};
+ghost use Rattle.std.specs.Prelude.{◌≡◌, ◌≤◌, ◌↔◌, List, [], Option, All, IfOk, OnOk, IfNone, IfSome, IsTrue};
 ghost use Rattle.header_boxes.specs.Boxes.{IsValid};
 ghost use Rattle.header_boxes.specs.Rows.{IsFirst};
 ghost use Rattle.ordered_cover.specs.Cover.{IsCover};
-ghost use Rattle.ordered_cover.specs.Kept.{GoesOn, IsKept};
+ghost use Rattle.ordered_cover.specs.Joined.{AreJoined, CanJoin, GoesOn};
+ghost use Rattle.ordered_cover.specs.Kept.{IsKept};
 ghost use Rattle.ordered_cover.specs.Open.{IsAsked};
 
 use crate::open::OpenBoxes;
@@ -49,7 +50,7 @@ pub fn first<P: Probe>(alloc: Global, p: &P, sides: Box5) -> Result<Option<Heade
 
 // Whether a part has the sides of another one, but that it begins one past the other's last port.
 fn goes_on(part: &Box5, other: &Box5) -> bool
-    ensures { IsTrue result → GoesOn other.now part.now }
+    ensures { IsTrue result ↔ GoesOn other.now part.now }
 {
     other.proto == part.proto
         && other.src == part.src
@@ -58,17 +59,25 @@ fn goes_on(part: &Box5, other: &Box5) -> bool
         && u32::from(other.q.1) + 1 == u32::from(part.q.0)
 }
 
-// One more row, or the last row as far as the part where they have one word and the part goes on from it.
-fn keep<P: Probe>(rows: &mut Vec<Row<P::Word>>, part: Box5, word: P::Word) -> Result<(), AllocError>
-    ensures { OnOk result (IsKept rows.old.items (record { part = part; word = word }) rows.new.items) }
+// Whether a row goes on from another one with its word.
+fn can_join<P: Probe>(last: &Row<P::Word>, row: &Row<P::Word>) -> bool
+    ensures { IsTrue result ↔ CanJoin GoesOn last.now row.now }
+{
+    goes_on(&row.part, &last.part) && P::is_same(last.word, row.word)
+}
+
+// One more row, or the last row as far as the new one where that goes on from it with its word.
+fn keep<P: Probe>(rows: &mut Vec<Row<P::Word>>, row: Row<P::Word>) -> Result<(), AllocError>
+    ensures kept { OnOk result (IsKept rows.old.items row rows.new.items) }
+    ensures joined { OnOk result (AreJoined GoesOn rows.old.items → AreJoined GoesOn rows.new.items) }
 {
     if let Some(last) = rows.last_mut() {
-        if goes_on(&part, &last.part) && P::is_same(last.word, word) {
-            last.part.q.1 = part.q.1;
+        if can_join::<P>(last, &row) {
+            last.part.q.1 = row.part.q.1;
             return Ok(());
         }
     }
-    rows.push(Row { part, word })?;
+    rows.push(row)?;
     Ok(())
 }
 
@@ -93,7 +102,7 @@ pub fn cover<P: Probe>(
         };
         match word {
             None => return Ok(Cover::Found(part.low())),
-            Some(word) => keep::<P>(&mut rows, part, word)?,
+            Some(word) => keep::<P>(&mut rows, Row { part, word })?,
         }
     }
     match boxes.take_first() {

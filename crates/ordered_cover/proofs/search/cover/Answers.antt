@@ -10,13 +10,14 @@ pub kept-init : goal.kept-init
 kept-init g c = record {
   split = rw (c.in_ok-boxes.ensures, c.new-rows.ensures.items) (split_at_start c.requires.valid);
   few = rw c.new-rows.ensures.items (omega arith);
+  joined = rw c.new-rows.ensures.items (λ k d lt. absurd (omega (arith, lt)));
 }
 
 pub ask-requires : goal.ask-requires
 ask-requires g c = valid_from_split c.kept.invariant.split
 
 pub returns-in_default : goal.returns-in_default
-returns-in_default g c = blocked_from_split c.args.max c.kept.invariant.split (rw c.in_default.is at c.in_ok-part.ensures.none) c.kept.invariant.few
+returns-in_default g c = blocked_from_split c.args.max c.kept.invariant.split (rw c.in_default.is at c.in_ok-part.ensures.none) c.kept.invariant.few c.kept.invariant.joined
 
 pub returns-in-None : goal.returns-in-None
 returns-in-None g c =
@@ -31,12 +32,13 @@ kept-preserved g c =
     let asked = rw c.in-Some.is at c.in_ok-part.ensures.asked in
     let after = split_after c.in-Some-word.word c.kept.invariant.split (rw c.in-Some-word.is at asked) in
     record {
-      split = split_kept _ _ _ c.in_ok-keep-in-Some-word.ensures after;
-      few = let more = kept_few _ _ _ c.in_ok-keep-in-Some-word.ensures in omega (arith, more, c.kept-test.true, c.len.ensures);
+      split = split_kept _ _ _ c.in_ok-keep-in-Some-word.ensures.kept after;
+      few = let more = kept_few _ _ _ c.in_ok-keep-in-Some-word.ensures.kept in omega (arith, more, c.kept-test.true, c.len.ensures);
+      joined = c.in_ok-keep-in-Some-word.ensures.joined c.kept.invariant.joined;
     }
 
 pub returns-in-None-take_first : goal.returns-in-None-take_first
-returns-in-None-take_first g c = blocked_from_split c.args.max c.kept.invariant.split c.in-None-take_first.ensures.none c.kept.invariant.few
+returns-in-None-take_first g c = blocked_from_split c.args.max c.kept.invariant.split c.in-None-take_first.ensures.none c.kept.invariant.few c.kept.invariant.joined
 
 pub low-requires-in-Some-take_first : goal.low-requires-in-Some-take_first
 low-requires-in-Some-take_first g c =
@@ -46,4 +48,4 @@ pub returns : goal.returns
 returns g c =
     let count : length c.kept.rows.items ≡ c.args.max = omega (arith, c.kept.invariant.few, c.kept-test.false, c.len.ensures) in
     rw c.low-in-Some-take_first.ensures.value
-    (more_from_split c.args.max c.in-Some-take_first.next c.kept.invariant.split c.in-Some-take_first.ensures.taken c.in-Some-take_first.ensures.least count)
+    (more_from_split c.args.max c.in-Some-take_first.next c.kept.invariant.split c.in-Some-take_first.ensures.taken c.in-Some-take_first.ensures.least count c.kept.invariant.joined)

@@ -1,5 +1,6 @@
 use Rattle.std.proofs.Common.{◌≤◌, length, sum_by}
 use Rattle.header_boxes.specs.Boxes.{volume_of}
+use Rattle.ordered_cover.specs.Joined.{AreJoined, GoesOn}
 use Rattle.ordered_cover.specs.Open.{AreSplit}
 use Rattle.ordered_cover.proofs.search.cover.Given as goal
 
@@ -7,6 +8,7 @@ abbrev pub invariant-kept : goal.invariant-kept
 invariant-kept g l = record {
   split : AreSplit (g.P.Probe.meaning l.p) (g.P.Probe.cuts l.p) l.fn.sides l.boxes l.rows.items;
   few : length l.rows.items ≤ l.max;
+  joined : AreJoined GoesOn l.rows.items;
 }
 
 abbrev pub decreases-kept : goal.decreases-kept
