@@ -90,8 +90,8 @@ fn put_rule(out: &mut Vec<u8>, n: &Network, r: &RuleRef) -> Result<(), NoMemory>
     put_rule_name(out, n, r)
 }
 
-// By what a packet passed groups, if it did.
-fn put_by(out: &mut Vec<u8>, n: &Network, by: &By) -> Result<(), NoMemory>
+/// Appends by what a packet passed groups, if it did.
+pub fn put_by(out: &mut Vec<u8>, n: &Network, by: &By) -> Result<(), NoMemory>
     requires { IsTrue (has_rule n.now by.now) }
     ensures { OnOk result (out.new.items ≡ out.old.items ++ by_text n.now by.now) }
 {

@@ -1,12 +1,12 @@
 // Where packets start and arrive.
-ghost use Rattle.std.specs.Prelude.{◌≡◌, ◌≤◌, IfOk, IsTrue, length, map, string_bytes};
+ghost use Rattle.std.specs.Prelude.{◌≡◌, ◌≤◌, IfOk, IsTrue, length};
 ghost use Rattle.vpc_model.specs.Lookup.{interface_at};
 ghost use Rattle.vpc_model.specs.Sound.{is_end, is_eni};
 ghost use Rattle.query_words.specs.Ends.{AreDescribed, end_at, end_of, ends_of, not_both};
 ghost use Rattle.query_words.specs.Refusal.{Answers};
 
 use crate::QueryRefusal;
-use crate::words::{CommandWords, PacketWords, expect_word};
+use crate::words::{NumberedWords, expect_word};
 use reference_check::Network;
 use std::alloc::Global;
 use vpc_model::{End, EniNo, Interface, InterfaceKind};
@@ -33,7 +33,7 @@ fn end_at(alloc: Global, n: &Network, eni: EniNo) -> Result<End, QueryRefusal>
 
 /// The end that a word names. The word `internet` always means the internet, also where an interface
 /// has that id.
-pub(crate) fn read_end<W: PacketWords>(
+pub(crate) fn read_end<W: NumberedWords>(
     alloc: Global,
     n: &Network,
     words: &W,
@@ -71,12 +71,15 @@ fn not_both(start: End, goal: End) -> Result<Ends, QueryRefusal>
 }
 
 /// The ends that `from END to END` names, from the third word on.
-pub(crate) fn read_ends(alloc: Global, n: &Network, words: &[String]) -> Result<Ends, QueryRefusal>
-    requires { 6 ≤ length words.now }
-    ensures answer { Answers (ends_of n.now (map string_bytes words.now)) result }
+pub(crate) fn read_ends<W: NumberedWords>(
+    alloc: Global,
+    n: &Network,
+    words: &W,
+) -> Result<Ends, QueryRefusal>
+    requires { 6 ≤ length (W.words words.now) }
+    ensures answer { Answers (ends_of n.now (W.words words.now)) result }
     ensures described { IfOk result (λ e. AreDescribed n.now e.start e.goal) }
 {
-    let words = &CommandWords(words);
     expect_word(words, 3, b"from")?;
     let start = read_end(alloc, n, words, 4)?;
     expect_word(words, 5, b"to")?;

@@ -1,12 +1,11 @@
 // Lists of packets, one a line.
-ghost use Rattle.std.specs.Prelude.{◌≡◌, ◌≢◌, ◌==◌, All, IfOk, IfSome, map, take};
-ghost use Rattle.query_words.specs.Events.{AreRead, StartsWell, bad_line, event_of, events_in, events_of, lines_of};
-ghost use Rattle.std.specs.List.{slice_split};
-ghost use Rattle.query_words.specs.Events.{without_last_newline, words_of};
+ghost use Rattle.std.specs.Prelude.{◌≡◌, ◌≢◌, All, IfOk, IfSome, map};
+ghost use Rattle.query_words.specs.Events.{AreRead, StartsWell, bad_line, event_of, events_in, events_of};
 ghost use Rattle.query_words.specs.declared.refusal.QueryRefusal.TheVariants as refusals;
 ghost use Rattle.query_words.specs.declared.events.EventFault.TheVariants.{Memory};
 
 use crate::QueryRefusal;
+use crate::lines::{first_words, lines_of};
 use crate::packets::read_event;
 use crate::words::LineWords;
 use reference_check::Network;
@@ -47,39 +46,6 @@ impl<T: Drop> From<AllocFailed<T>> for EventFault {
     }
 }
 
-// A text without the newline at its end, if there is one.
-fn without_last_newline(text: &[u8]) -> &[u8]
-    ensures { result.now ≡ without_last_newline text.now }
-{
-    match text.split_last() {
-        Some((b'\n', front)) => front,
-        _ => text,
-    }
-}
-
-fn split_lines(alloc: Global, text: &[u8]) -> Result<Vec<&[u8]>, AllocError>
-    ensures { IfOk result (λ v. map (λ l. l.now) v.items ≡ slice_split (λ c. c == 10) text.now) }
-{
-    text.split(|c| *c == b'\n').collect(alloc)
-}
-
-// The lines of a text. A carriage return before a newline belongs to its line.
-fn lines_of(alloc: Global, text: &[u8]) -> Result<Vec<&[u8]>, AllocError>
-    ensures { IfOk result (λ v. map (λ l. l.now) v.items ≡ lines_of text.now) }
-{
-    match text {
-        [] => Ok(Vec::new(alloc)),
-        _ => split_lines(alloc, without_last_newline(text)),
-    }
-}
-
-// The first nine words of a line: more than eight are no packet, however many come after them.
-fn nine_words(alloc: Global, line: &[u8]) -> Result<Vec<&[u8]>, AllocError>
-    ensures { IfOk result (λ v. map (λ w. w.now) v.items ≡ take 9 (words_of line.now)) }
-{
-    line.split(|c| *c == b' ').take(9).collect(alloc)
-}
-
 // Want of memory is no answer; any other refusal says that the words are no packet.
 fn unless_memory(refusal: &QueryRefusal) -> Result<(), NoMemory>
     ensures { IfOk result (λ u. refusal.now ≢ refusals.Memory) }
@@ -95,11 +61,16 @@ fn event_of(alloc: Global, n: &Network, line: &[u8]) -> Result<Option<Event>, No
     ensures event { IfOk result (λ e. e ≡ event_of n.now line.now) }
     ensures start { IfOk result (λ e. IfSome e (StartsWell n.now)) }
 {
-    let words = nine_words(alloc, line)?;
+    // More than eight words are no packet, however many come after the ninth.
+    let words = first_words(alloc, line, 9)?;
     if words.len() != 8 {
         return Ok(None);
     }
-    match read_event(alloc, n, &LineWords(words.as_slice())) {
+    let numbered = LineWords {
+        name: b"trace",
+        words: words.as_slice(),
+    };
+    match read_event(alloc, n, &numbered) {
         Ok(event) => Ok(Some(event)),
         Err(refusal) => {
             unless_memory(&refusal)?;

@@ -6,6 +6,7 @@
 
 mod ends;
 mod events;
+mod lines;
 mod packets;
 mod pairs;
 mod queries;
@@ -15,7 +16,8 @@ mod values;
 mod words;
 
 pub use events::{EventFault, read_events};
+pub use lines::{first_words, lines_of};
 pub use packets::read_packet;
-pub use queries::{Query, read_query};
+pub use queries::{Query, read_line_query, read_query};
 pub use refusal::QueryRefusal;
 pub use words::word;

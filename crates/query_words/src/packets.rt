@@ -8,14 +8,14 @@ ghost use Rattle.query_words.specs.Refusal.{Answers};
 use crate::QueryRefusal;
 use crate::ends::read_end;
 use crate::words::{
-    CommandWords, PacketWords, expect_word, read_address, read_label, read_port, read_proto,
+    CommandWords, NumberedWords, expect_word, read_address, read_label, read_port, read_proto,
 };
 use reference_check::Network;
 use std::alloc::Global;
 use vpc_base::Header;
 use vpc_model::Event;
 
-fn read_header<W: PacketWords>(words: &W) -> Result<Header, QueryRefusal>
+fn read_header<W: NumberedWords>(words: &W) -> Result<Header, QueryRefusal>
     requires { length (W.words words.now) ≡ 10 }
     ensures { result ≡ header_of (W.words words.now) }
 {
@@ -34,7 +34,7 @@ fn read_header<W: PacketWords>(words: &W) -> Result<Header, QueryRefusal>
 }
 
 /// The packet that ten words give, counted as those of `trace`.
-pub(crate) fn read_event<W: PacketWords>(
+pub(crate) fn read_event<W: NumberedWords>(
     alloc: Global,
     n: &Network,
     words: &W,

@@ -1,12 +1,12 @@
 // The pairs of a query: a name and a value each, in one order and each at most once.
-ghost use Rattle.std.specs.Prelude.{◌≡◌, ◌≤◌, ◌<◌, IfOk, IfSome, IsTrue, None, codes, length, map, string_bytes};
+ghost use Rattle.std.specs.Prelude.{◌≡◌, ◌+◌, ◌≤◌, ◌<◌, IfOk, IfSome, IsTrue, None, codes, length};
 ghost use Rattle.query_words.specs.Pairs.{AreTaken, IsSide, has_pair, no_more, pair_or, pairs_of, ports_pair};
 ghost use Rattle.query_words.specs.Pairs.{read_max, read_ports, read_side};
 ghost use Rattle.query_words.specs.Words.{proto_of, read_as};
 
 use crate::QueryRefusal;
 use crate::values::{MOST_BOXES, read_max, read_ports, read_side};
-use crate::words::{CommandWords, has_ports, read_proto, word};
+use crate::words::{NumberedWords, has_ports, read_proto};
 
 const TCP: u8 = 6;
 
@@ -28,37 +28,38 @@ pub(crate) struct Pairs {
     pub max: u32,
 }
 
-fn has_pair(words: &[String], name: &[u8], next: usize) -> bool
-    requires { 1 ≤ next }
-    ensures pair { result ≡ has_pair name.now (map string_bytes words.now) next }
-    ensures within { IsTrue result → next < length words.now }
+fn has_pair<W: NumberedWords>(words: &W, name: &[u8], next: usize) -> bool
+    requires { 3 ≤ next }
+    ensures pair { result ≡ has_pair name.now (W.words words.now) next }
+    ensures within { IsTrue result → next < length (W.words words.now) }
+    ensures room { IsTrue result → next + 1 < usize.MAX }
 {
-    next < words.len() && word(words, next).as_bytes() == name
+    next < words.count() && words.word(next) == name
 }
 
-fn read_proto_pair(words: &[String], next: usize) -> Result<Taken<u8>, QueryRefusal>
+fn read_proto_pair<W: NumberedWords>(words: &W, next: usize) -> Result<Taken<u8>, QueryRefusal>
     requires { 3 ≤ next }
     ensures pair { result
-        ≡ pair_or 6 (codes "proto") (read_as proto_of) (map string_bytes words.now) next }
+        ≡ pair_or 6 (codes "proto") (read_as proto_of) (W.words words.now) next }
     ensures next { IfOk result (λ t. next ≤ t.next) }
 {
     if !has_pair(words, b"proto", next) {
         return Ok(Taken { value: TCP, next });
     }
-    let value = read_proto(&CommandWords(words), next + 1)?;
+    let value = read_proto(words, next + 1)?;
     Ok(Taken {
         value,
         next: next + 2,
     })
 }
 
-fn read_side_pair(
-    words: &[String],
+fn read_side_pair<W: NumberedWords>(
+    words: &W,
     name: &[u8],
     next: usize,
 ) -> Result<Taken<Option<(u32, u32)>>, QueryRefusal>
-    requires { 1 ≤ next }
-    ensures pair { result ≡ pair_or None name.now read_side (map string_bytes words.now) next }
+    requires { 3 ≤ next }
+    ensures pair { result ≡ pair_or None name.now read_side (W.words words.now) next }
     ensures next { IfOk result (λ t. next ≤ t.next) }
     ensures some { IfOk result (λ t. IfSome t.value IsSide) }
 {
@@ -73,14 +74,14 @@ fn read_side_pair(
 }
 
 // A protocol without ports has 0 in their places, and no words for them.
-fn read_ports_pair(
-    words: &[String],
+fn read_ports_pair<W: NumberedWords>(
+    words: &W,
     proto: u8,
     name: &[u8],
     next: usize,
 ) -> Result<Taken<(u16, u16)>, QueryRefusal>
-    requires { 1 ≤ next }
-    ensures pair { result ≡ ports_pair proto name.now (map string_bytes words.now) next }
+    requires { 3 ≤ next }
+    ensures pair { result ≡ ports_pair proto name.now (W.words words.now) next }
     ensures next { IfOk result (λ t. next ≤ t.next) }
     ensures some { IfOk result (λ t. IsSide t.value) }
 {
@@ -103,10 +104,10 @@ fn read_ports_pair(
     })
 }
 
-fn read_max_pair(words: &[String], next: usize) -> Result<Taken<u32>, QueryRefusal>
-    requires { 1 ≤ next }
+fn read_max_pair<W: NumberedWords>(words: &W, next: usize) -> Result<Taken<u32>, QueryRefusal>
+    requires { 3 ≤ next }
     ensures pair { result
-        ≡ pair_or 20000 (codes "max") read_max (map string_bytes words.now) next }
+        ≡ pair_or 20000 (codes "max") read_max (W.words words.now) next }
     ensures next { IfOk result (λ t. next ≤ t.next) }
     ensures some { IfOk result (λ t. (1 ≤ t.value) × (t.value ≤ 20000)) }
 {
@@ -123,10 +124,10 @@ fn read_max_pair(words: &[String], next: usize) -> Result<Taken<u32>, QueryRefus
     })
 }
 
-fn no_more(words: &[String], next: usize) -> Result<(), QueryRefusal>
-    ensures { result ≡ no_more (map string_bytes words.now) next }
+fn no_more<W: NumberedWords>(words: &W, next: usize) -> Result<(), QueryRefusal>
+    ensures { result ≡ no_more (W.words words.now) next }
 {
-    if next <= words.len() {
+    if next <= words.count() {
         Err(QueryRefusal::BadWord(next as u64))
     } else {
         Ok(())
@@ -134,8 +135,8 @@ fn no_more(words: &[String], next: usize) -> Result<(), QueryRefusal>
 }
 
 /// The pairs from the seventh word on.
-pub(crate) fn read_pairs(words: &[String]) -> Result<Pairs, QueryRefusal>
-    ensures value { result ≡ pairs_of (map string_bytes words.now) }
+pub(crate) fn read_pairs<W: NumberedWords>(words: &W) -> Result<Pairs, QueryRefusal>
+    ensures value { result ≡ pairs_of (W.words words.now) }
     ensures taken { IfOk result AreTaken }
 {
     let proto = read_proto_pair(words, 7)?;

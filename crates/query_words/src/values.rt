@@ -1,9 +1,9 @@
 // The values of a query's pairs.
-ghost use Rattle.std.specs.Prelude.{◌≡◌, ◌≤◌, IfOk, IfSome, length, map, string_bytes};
+ghost use Rattle.std.specs.Prelude.{◌≡◌, ◌≤◌, IfOk, IfSome, length};
 ghost use Rattle.query_words.specs.Pairs.{IsSide, read_max, read_ports, read_side, some_max, some_ports};
 
 use crate::QueryRefusal;
-use crate::words::word;
+use crate::words::NumberedWords;
 use prefix_text::{read_number, read_prefix, read_range};
 
 /// How many boxes a report may have at most.
@@ -12,13 +12,16 @@ pub(crate) const MOST_BOXES: u32 = 20_000;
 const MOST_DECIMAL: u64 = 9_999_999_999;
 
 /// The addresses of the block that the word gives.
-pub(crate) fn read_side(words: &[String], number: usize) -> Result<Option<(u32, u32)>, QueryRefusal>
-    requires first { 1 ≤ number }
-    requires last { number ≤ length words.now }
-    ensures value { result ≡ read_side (map string_bytes words.now) number }
+pub(crate) fn read_side<W: NumberedWords>(
+    words: &W,
+    number: usize,
+) -> Result<Option<(u32, u32)>, QueryRefusal>
+    requires first { 3 ≤ number }
+    requires last { number ≤ length (W.words words.now) }
+    ensures value { result ≡ read_side (W.words words.now) number }
     ensures some { IfOk result (λ r. IfSome r IsSide) }
 {
-    match read_prefix(word(words, number).as_bytes()) {
+    match read_prefix(words.word(number)) {
         Some(block) => Ok(Some((block.first(), block.last()))),
         None => Err(QueryRefusal::BadWord(number as u64)),
     }
@@ -36,13 +39,16 @@ fn some_ports(number: usize, ports: (u16, u16)) -> Result<(u16, u16), QueryRefus
 }
 
 /// A range of ports that isn't empty.
-pub(crate) fn read_ports(words: &[String], number: usize) -> Result<(u16, u16), QueryRefusal>
-    requires first { 1 ≤ number }
-    requires last { number ≤ length words.now }
-    ensures value { result ≡ read_ports (map string_bytes words.now) number }
+pub(crate) fn read_ports<W: NumberedWords>(
+    words: &W,
+    number: usize,
+) -> Result<(u16, u16), QueryRefusal>
+    requires first { 3 ≤ number }
+    requires last { number ≤ length (W.words words.now) }
+    ensures value { result ≡ read_ports (W.words words.now) number }
     ensures some { IfOk result IsSide }
 {
-    match read_range(word(words, number).as_bytes()) {
+    match read_range(words.word(number)) {
         Some(ports) => some_ports(number, ports),
         None => Err(QueryRefusal::BadWord(number as u64)),
     }
@@ -60,13 +66,13 @@ fn some_max(max: u64) -> Result<u32, QueryRefusal>
 }
 
 /// How many boxes a report may have.
-pub(crate) fn read_max(words: &[String], number: usize) -> Result<u32, QueryRefusal>
-    requires first { 1 ≤ number }
-    requires last { number ≤ length words.now }
-    ensures value { result ≡ read_max (map string_bytes words.now) number }
+pub(crate) fn read_max<W: NumberedWords>(words: &W, number: usize) -> Result<u32, QueryRefusal>
+    requires first { 3 ≤ number }
+    requires last { number ≤ length (W.words words.now) }
+    ensures value { result ≡ read_max (W.words words.now) number }
     ensures some { IfOk result (λ m. (1 ≤ m) × (m ≤ 20000)) }
 {
-    match read_number(word(words, number).as_bytes(), MOST_DECIMAL) {
+    match read_number(words.word(number), MOST_DECIMAL) {
         Some(max) => some_max(max),
         None => Err(QueryRefusal::BadWord(number as u64)),
     }

@@ -1,5 +1,5 @@
 // The words that are read by a grammar alone.
-ghost use Rattle.std.specs.Prelude.{◌≡◌, ◌≤◌, ◌∷◌, [], List, codes, length, map, string_bytes, ℕ};
+ghost use Rattle.std.specs.Prelude.{◌≡◌, ◌<◌, ◌≤◌, ◌∷◌, [], List, length, map, string_bytes, ℕ};
 ghost use Rattle.prefix_text.specs.Addr.{addr_of};
 ghost use Rattle.query_words.specs.Words.{expect_word, read_as, word_at};
 ghost use Rattle.query_words.specs.Words.{has_ports, label_of, port_limit, port_of, proto_of};
@@ -17,37 +17,55 @@ pub fn word(words: &[String], number: usize) -> &str
     words[number - 1].as_str()
 }
 
-/// The words of a packet, counted as those of `trace`: its name and its file come before them.
-pub(crate) trait PacketWords {
+/// The words of a command, counted from 1: its name and its file are the first two.
+pub(crate) trait NumberedWords {
     ghost words: { Self → List (List ℕ) };
 
+    /// How many there are, the name and the file included. There is room for a number past the last word's.
+    fn count(&self) -> usize
+        ensures count { result ≡ length (words self.now) }
+        ensures room { result < usize.MAX };
+
+    /// A word after the file.
     fn word(&self, number: usize) -> &[u8]
         requires first { 3 ≤ number }
         requires last { number ≤ length (words self.now) }
         ensures { result.now ≡ word_at (words self.now) number };
 }
 
-/// The words of `trace`.
+/// The words of the command line.
 #[derive(Clone, Copy)]
 pub(crate) struct CommandWords<'a>(pub &'a [String]);
 
-impl PacketWords for CommandWords<'_> {
+impl NumberedWords for CommandWords<'_> {
     ghost words = { λ s. map string_bytes s.0.now };
+
+    fn count(&self) -> usize {
+        self.0.len()
+    }
 
     fn word(&self, number: usize) -> &[u8] {
         word(self.0, number).as_bytes()
     }
 }
 
-/// The words of a line, which has no name and no file.
+/// The words of a line, which has no name and no file: it is read as those of a command after its name and an empty
+/// file.
 #[derive(Clone, Copy)]
-pub(crate) struct LineWords<'a>(pub &'a [&'a [u8]]);
+pub(crate) struct LineWords<'a> {
+    pub name: &'a [u8],
+    pub words: &'a [&'a [u8]],
+}
 
-impl PacketWords for LineWords<'_> {
-    ghost words = { λ s. codes "trace" ∷ [] ∷ map (λ w. w.now) s.0.now };
+impl NumberedWords for LineWords<'_> {
+    ghost words = { λ s. s.name.now ∷ [] ∷ map (λ w. w.now) s.words.now };
+
+    fn count(&self) -> usize {
+        self.words.len() + 2
+    }
 
     fn word(&self, number: usize) -> &[u8] {
-        self.0[number - 3]
+        self.words[number - 3]
     }
 }
 
@@ -101,7 +119,7 @@ pub fn port_of(proto: u8, word: &[u8]) -> Option<u16>
 }
 
 /// Whether the word that belongs in this place stands there.
-pub fn expect_word<W: PacketWords>(
+pub fn expect_word<W: NumberedWords>(
     words: &W,
     number: usize,
     wanted: &[u8],
@@ -117,7 +135,7 @@ pub fn expect_word<W: PacketWords>(
     }
 }
 
-pub fn read_label<W: PacketWords>(words: &W, number: usize) -> Result<Label, QueryRefusal>
+pub fn read_label<W: NumberedWords>(words: &W, number: usize) -> Result<Label, QueryRefusal>
     requires first { 3 ≤ number }
     requires last { number ≤ length (W.words words.now) }
     ensures { result ≡ read_as label_of (W.words words.now) number }
@@ -125,7 +143,7 @@ pub fn read_label<W: PacketWords>(words: &W, number: usize) -> Result<Label, Que
     label_of(words.word(number)).ok_or(QueryRefusal::BadWord(number as u64))
 }
 
-pub fn read_proto<W: PacketWords>(words: &W, number: usize) -> Result<u8, QueryRefusal>
+pub fn read_proto<W: NumberedWords>(words: &W, number: usize) -> Result<u8, QueryRefusal>
     requires first { 3 ≤ number }
     requires last { number ≤ length (W.words words.now) }
     ensures { result ≡ read_as proto_of (W.words words.now) number }
@@ -133,7 +151,7 @@ pub fn read_proto<W: PacketWords>(words: &W, number: usize) -> Result<u8, QueryR
     proto_of(words.word(number)).ok_or(QueryRefusal::BadWord(number as u64))
 }
 
-pub fn read_address<W: PacketWords>(words: &W, number: usize) -> Result<u32, QueryRefusal>
+pub fn read_address<W: NumberedWords>(words: &W, number: usize) -> Result<u32, QueryRefusal>
     requires first { 3 ≤ number }
     requires last { number ≤ length (W.words words.now) }
     ensures { result ≡ read_as addr_of (W.words words.now) number }
@@ -141,7 +159,7 @@ pub fn read_address<W: PacketWords>(words: &W, number: usize) -> Result<u32, Que
     read_addr(words.word(number)).ok_or(QueryRefusal::BadWord(number as u64))
 }
 
-pub fn read_port<W: PacketWords>(words: &W, number: usize, proto: u8) -> Result<u16, QueryRefusal>
+pub fn read_port<W: NumberedWords>(words: &W, number: usize, proto: u8) -> Result<u16, QueryRefusal>
     requires first { 3 ≤ number }
     requires last { number ≤ length (W.words words.now) }
     ensures { result ≡ read_as (port_of proto) (W.words words.now) number }

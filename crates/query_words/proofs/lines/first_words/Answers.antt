@@ -2,9 +2,9 @@ use Rattle.std.proofs.Common.{rules, tests}
 use Rattle.std.proofs.lemmas.Iterator.{YieldsList-from_take}
 use Rattle.std.proofs.lemmas.Iterator.Consumers.{map_from_collect}
 use Rattle.std.proofs.lemmas.Iterator.Splits.{YieldsList-from_slice_split}
-use Rattle.query_words.proofs.events.nine_words.Goals as goal
+use Rattle.query_words.proofs.lines.first_words.Goals as goal
 
 pub returns : goal.returns
 returns c =
     map_from_collect _ c.collect.ensures.ran
-    (YieldsList-from_take 9 (YieldsList-from_slice_split _ _ c.args.line.now (cc) (cc) (cc) (λ x r q k. search (rules, tests))) c.take.ensures.count)
+    (YieldsList-from_take c.args.most (YieldsList-from_slice_split _ _ c.args.line.now (cc) (cc) (cc) (λ x r q k. search (rules, tests))) c.take.ensures.count)

@@ -1,5 +1,0 @@
-use Rattle.query_words.proofs.WordLemmas.{word_at-line}
-use Rattle.query_words.proofs.words.LineWordsPacketWords.word.Goals as goal
-
-pub returns : goal.returns
-returns c = word_at-line c.args.self.now.0.now c.args.number _ _ _ c.requires.first c.requires.last
