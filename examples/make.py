@@ -286,6 +286,15 @@ def peering(name, code, requester, accepter, message):
 
 # ---- a small account, of the answers that stand in for those of AWS in the tests
 
+def kept_instances(reservations):
+    """What collect-bundle keeps of instances."""
+    def kept(it):
+        return {'InstanceId': it['InstanceId'], 'State': {'Name': it['State']['Name']}, 'Tags': [tag for tag in it.get('Tags', []) if tag['Key'] == 'Name'],
+                'NetworkInterfaces': [{'NetworkInterfaceId': eni['NetworkInterfaceId']} for eni in it.get('NetworkInterfaces', [])]}
+
+    return [{'Instances': [kept(it) for it in row['Instances']]} for row in reservations]
+
+
 def shop():
     folder = os.path.join(HERE, os.pardir, 'tests', 'account', 'answers', 'shop')
     # (what collect-bundle asks for in order to know what else to ask for)
@@ -303,6 +312,7 @@ def shop():
             told.update((key, rows) for key, rows in answer.items() if isinstance(rows, list))
     groups = {group['GroupId'] for group in told['SecurityGroups']}
     told['SecurityGroupRules'] = [rule for rule in told['SecurityGroupRules'] if rule['GroupId'] in groups]
+    told['Reservations'] = kept_instances(told['Reservations'])
     return told
 
 

@@ -1,0 +1,4 @@
+pub mod Decided
+pub mod Found
+pub mod RuleLemmas
+pub mod Tallies

@@ -1,0 +1,4 @@
+pub mod Judged
+pub mod Policy
+pub mod Rules
+pub mod Stopped

@@ -1,0 +1,62 @@
+// The probe that finds what doesn't get through.
+ghost use Rattle.std.specs.Prelude.{◌≡◌, ◌↔◌, IsTrue};
+ghost use Rattle.box_walk.specs.Asking.{asked};
+ghost use Rattle.policy_check.specs.Stopped.{passing_of, turned};
+
+use box_walk::RoundProbe;
+use header_boxes::Box5;
+use ordered_cover::Probe;
+
+fn turned(told: Option<()>) -> Option<()>
+    ensures { result ≡ turned told }
+{
+    match told {
+        None => Some(()),
+        Some(_) => None,
+    }
+}
+
+/// Whether requests from one end to another get through, with their replies. What is stopped counts as getting through
+/// here, so that a search finds the first request that is.
+#[derive(Drop)]
+pub struct StoppedProbe<'a, 'b> {
+    round: &'a RoundProbe<'b>,
+}
+
+impl<'a, 'b> StoppedProbe<'a, 'b> {
+    /// The probe for the ends of another one, by the moment of that one.
+    pub fn of(round: &'a RoundProbe<'b>) -> StoppedProbe<'a, 'b>
+        ensures { asked result.round.now.fabric.now result.round.now.start result.round.now.goal
+            ≡ asked round.now.fabric.now round.now.start round.now.goal }
+    {
+        StoppedProbe { round }
+    }
+}
+
+impl<'a, 'b> Probe for StoppedProbe<'a, 'b> {
+    ghost use Rattle.vpc_model.specs.Appliances.{appliances_of};
+    ghost use Rattle.vpc_model.specs.Cuts.{cuts_of};
+    ghost use Rattle.vpc_model.specs.Near.{near_cuts};
+    ghost use Rattle.cut_laws.proofs.Places.{near_cuts_are_among_all};
+
+    type Word = ();
+
+    ghost meaning = { λ p h. passing_of (asked p.round.now.fabric.now p.round.now.start p.round.now.goal) h };
+
+    ghost cuts = { λ p. cuts_of p.round.now.fabric.now };
+
+    ghost near = { λ p h. near_cuts p.round.now.fabric.now (appliances_of p.round.now.fabric.now) p.round.now.start p.round.now.goal h };
+
+    ghost near_among = { λ p h. near_cuts_are_among_all p.round.now.fabric.now (appliances_of p.round.now.fabric.now) p.round.now.start p.round.now.goal h };
+
+    fn is_same(one: (), other: ()) -> bool
+        ensures { IsTrue result ↔ (one ≡ other) }
+    {
+        true
+    }
+
+    fn probe(&self, sides: &Box5) -> (Box5, Option<()>) {
+        let answer = self.round.is_stopped_on(sides);
+        (answer.body, turned(answer.told))
+    }
+}
