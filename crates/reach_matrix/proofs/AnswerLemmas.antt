@@ -1,0 +1,90 @@
+-- What is answered.
+use Rattle.std.proofs.Common.{◌≡◌, ◌∙◌, ◌<◌, ◌≤◌, Err, IfOk, List, Ok, Result, arith, length, map, refl, subst, sym, true, None, ℕ}
+use Rattle.std.specs.Global.{Vec}
+use Rattle.std.specs.List.{All, range_with_len}
+use Rattle.std.proofs.lemmas.Bool.{lt-ltb}
+use Rattle.std.proofs.lemmas.List.Elements.{All-filter}
+use Rattle.std.proofs.lemmas.List.FromFn.{get_or-map-range_with_len, length-map-range_with_len}
+use Rattle.std.proofs.lemmas.List.Sorted.{All-permutation}
+use Rattle.box_walk.specs.Asking.{Asking, asked, stop_of, stopped_of, whether}
+use Rattle.command_job.proofs.Devices.{no_device, query_is_none, yes_is_none}
+use Rattle.command_job.specs.Status.{IsOfDevice}
+use Rattle.command_job.specs.declared.status.Status.{Status}
+use Rattle.command_job.specs.declared.status.Status.TheVariants as ends
+use Rattle.header_boxes.specs.Boxes.{IsValid}
+use Rattle.ordered_cover.specs.Ports.{AreOpenPorts}
+use Rattle.vpc_laws.specs.Types.{Box5, Description, EniNo, Verdict}
+use Rattle.vpc_model.specs.Appliances.{appliances_of}
+use Rattle.vpc_model.specs.Lookup.{interface_at}
+use Rattle.vpc_model.specs.Report.{ending_of}
+use Rattle.vpc_model.specs.Sound.{is_eni}
+use Rattle.vpc_model.specs.Verdict.{verdict_of}
+use Rattle.vpc_model.specs.declared.outcomes.Verdict.TheVariants as verdicts
+use Rattle.vpc_model.specs.declared.places.End.TheVariants as places
+use Rattle.network_reach.specs.Reached.{meaning_in}
+use Rattle.reach_matrix.specs.Answered.{IsMatrixAnswered, IsMatrixDecided, IsMatrixOf, host_limit}
+use Rattle.reach_matrix.specs.Answered as matrix
+use Rattle.reach_matrix.specs.Hosts.{AreHostsById, host_count, hosts_of, is_host, numbered}
+use Rattle.reach_matrix.specs.Pairs.{address_of, query_between, requests_between}
+use Rattle.reach_matrix.specs.Ranges.{ArePairRanges}
+use Rattle.reach_matrix.specs.Words.{ports_asked}
+use Rattle.reach_matrix.proofs.PortLemmas.{open_by}
+
+-- ---- the ranges of a pair
+
+unstopped : (d : Description) (v : Verdict) → whether (stop_of v) ≡ None → ending_of d v ≡ None
+unstopped d verdicts.Through e = refl
+unstopped d (verdicts.Stopped phase s) e = absurd cc
+
+unended : (d : Description) (v : Verdict) → ending_of d v ≡ None → whether (stop_of v) ≡ None
+unended d verdicts.Through e = refl
+unended d (verdicts.Stopped phase s) e = absurd cc
+
+-- what a search finds by whether anything stops requests
+pub pair_ranges : {E : Type 0} (d : Description) (ports : ℕ × ℕ) (pair : EniNo × EniNo) (a : Asking) (sides : Box5) (r : Result (Vec (ℕ × ℕ)) E)
+    → a ≡ asked d (places.Interface pair.0) (places.Interface pair.1) → sides ≡ requests_between (address_of d pair.0) (address_of d pair.1) ports
+    → IfOk r (λ v. AreOpenPorts (stopped_of a) sides v.items) → IfOk r (λ v. ArePairRanges d ports pair v.items)
+pair_ranges d ports pair a sides (Ok v) is box found =
+    let query = query_between d pair ports in
+    let verdict = verdict_of d (appliances_of d) query.start query.goal in
+    open_by (stopped_of (asked d query.start query.goal)) (meaning_in d query) query.sides v.items (λ h. unstopped d (verdict h)) (λ h. unended d (verdict h))
+    (subst (λ (b : Box5). AreOpenPorts (stopped_of (asked d query.start query.goal)) b v.items) box (subst (λ (b : Asking). AreOpenPorts (stopped_of b) sides v.items) is found))
+pair_ranges d ports pair a sides (Err e) is box found = tt
+
+pub valid_between : (src dst : ℕ) (ports : ℕ × ℕ) (sides : Box5) → ports.0 ≤ ports.1 → sides ≡ requests_between src dst ports → IsValid sides
+valid_between src dst ports sides some is =
+    subst IsValid (sym is) (record { proto = omega arith; src = omega arith; dst = omega arith; p = omega arith; q = some })
+
+-- ---- hosts
+
+pub hosts_are_described : (d : Description) (hosts : List EniNo) → AreHostsById d hosts → All (λ i. is_eni d i ≡ true) hosts
+hosts_are_described d hosts are =
+    let n = length d.interfaces in
+    let rows : All (λ (i : EniNo). is_eni d i ≡ true) (map numbered (range_with_len 0 n)) = λ k x below.
+    let long = length-map-range_with_len numbered 0 n in
+    let within : k < n = omega arith in
+    subst (λ (i : EniNo). is_eni d i ≡ true) (sym (get_or-map-range_with_len numbered 0 n k k x within (omega arith))) (lt-ltb k n within) in
+    All-permutation (λ (i : EniNo). is_eni d i ≡ true) (hosts_of d) hosts are.all
+    (All-filter (λ (i : EniNo). is_host (interface_at d i)) (λ (i : EniNo). is_eni d i ≡ true) (map numbered (range_with_len 0 n)) rows)
+
+-- ---- completeness
+
+same-ports : (words : List (List ℕ)) (p q : ℕ × ℕ) → ports_asked words ≡ Ok p → ports_asked words ≡ Ok q → p ≡ q
+same-ports words p q a b = let same : Ok p ≡ Ok q = sym a ∙ b in cc
+
+few-or-many : (count limit : ℕ) → limit < count → count ≤ limit → ⊥
+few-or-many count limit many few = omega arith
+
+-- where the words are right and the hosts few enough, it ends well
+pub matrix_is_decided : (d : Description) (words : List (List ℕ)) (status : Status) (text : List ℕ) → IsMatrixAnswered d words status text → IsMatrixDecided d words status
+matrix_is_decided d words status text (matrix.refused refusal is status_is text_is) =
+    record { yes = λ ports right few. let same : Err refusal ≡ Ok ports = sym is ∙ right in absurd cc }
+matrix_is_decided d words status text (matrix.answered ports is (matrix.too_many many status_is text_is)) =
+    record { yes = λ others right few. absurd (few-or-many (host_count d) host_limit many few) }
+matrix_is_decided d words status text (matrix.answered ports is (matrix.told few mapped)) = record { yes = λ others right fewer. mapped.status_is }
+
+-- no answer tells of a device
+pub matrix_tells_of_no_device : (d : Description) (words : List (List ℕ)) (status : Status) (text : List ℕ) → IsMatrixAnswered d words status text → IsOfDevice status → ⊥
+matrix_tells_of_no_device d words status text (matrix.refused refusal is status_is text_is) = no_device status ends.Query status_is query_is_none
+matrix_tells_of_no_device d words status text (matrix.answered ports is (matrix.too_many many status_is text_is)) = no_device status ends.Query status_is query_is_none
+matrix_tells_of_no_device d words status text (matrix.answered ports is (matrix.told few mapped)) = no_device status ends.Yes mapped.status_is yes_is_none

@@ -1,0 +1,8 @@
+pub mod Answered
+pub mod Hosts
+pub mod Laws
+pub mod Matrix
+pub mod Naming
+pub mod Pairs
+pub mod Ranges
+pub mod Words
