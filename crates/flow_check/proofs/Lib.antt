@@ -1,0 +1,11 @@
+pub mod Agreeing
+pub mod Cuts
+pub mod Decided
+pub mod Earned
+pub mod Fields
+pub mod Leading
+pub mod Owners
+pub mod Passing
+pub mod RuleFacts
+pub mod Tallies
+pub mod Telling

@@ -1,0 +1,12 @@
+pub mod Answers
+pub mod Flows
+pub mod Lines
+pub mod Meanings
+pub mod Owners
+pub mod Records
+pub mod Rules
+pub mod Sorts
+pub mod Steps
+pub mod Texts
+pub mod Told
+pub mod Walked
