@@ -226,3 +226,32 @@ fn a_gateway_keeps_55_000_translations(rt: HostRuntime) -> Result<(), Fail> {
     assert_eq!(rt; status.code(), 0);
     has_outcomes(&rt, alloc, out.bytes())
 }
+
+// ---- more rows than are read
+
+// A report of 20,001 rows, of one box each time: the grammar asks no more of a row.
+fn report_of_too_many(alloc: Global) -> Result<String, Fail> {
+    let part = "6-6 10.0.1.10-10.0.1.10 10.0.1.20-10.0.1.20 0-65535 80-80";
+    let mut report = format!(in alloc; "vpc-report 1\nquery from eni-a to eni-b\nbox {part}\n")?;
+    for number in 1..20_002u32 {
+        write!(report, "row {number} request GroupsIn eni-b - {part}\n")?;
+    }
+    write!(report, "end 20001\n")?;
+    Ok(report)
+}
+
+// The line of the first row too many is named.
+#[test]
+fn refuses_a_row_too_many(rt: HostRuntime) -> Result<(), Fail> {
+    let alloc = rt.alloc();
+    let report = report_of_too_many(alloc)?;
+    let mut shelf = shelf_of(alloc, ONE_SUBNET.as_bytes(), report.as_bytes(), 0)?;
+    answers(
+        &rt,
+        alloc,
+        CHECK,
+        &mut shelf,
+        4,
+        "refused report TooManyBoxes 20004\n",
+    )
+}

@@ -1,8 +1,5 @@
 pub mod Lists
-pub mod AnswerLemmas
-pub mod CompleteLemmas
+pub mod Taken
+pub mod Known
+pub mod Devices
 pub mod PutLemmas
-pub mod ReachableLemmas
-pub mod TraceLemmas
-pub mod ReplayLemmas
-pub mod MadeLemmas

@@ -2,10 +2,12 @@
 use Rattle.std.proofs.Common.{◌∙◌, inl, inr, subst, sym}
 use Rattle.std.specs.Prelude.{ℕ, ◌≡◌, List, Option}
 use Rattle.vpc_commands.specs.Due as due
-use Rattle.vpc_commands.specs.Due.{IsAnswer, IsComplete, IsDue, IsFault, ReadFailed, only}
-use Rattle.vpc_commands.specs.declared.status.Status.{Status}
-use Rattle.vpc_commands.specs.declared.status.Status.TheVariants as ends
-use Rattle.vpc_commands.proofs.CompleteLemmas.{complete_if_due, failed_if_read, never_write}
+use Rattle.vpc_commands.specs.Complete.{IsComplete, IsFault, ReadFailed}
+use Rattle.vpc_commands.specs.Due.{IsAnswer, IsDue, only}
+use Rattle.command_job.specs.declared.status.Status.{Status}
+use Rattle.command_job.specs.declared.status.Status.TheVariants as ends
+use Rattle.vpc_commands.proofs.Devices.{failed_if_read, never_write}
+use Rattle.vpc_commands.proofs.Known.{complete_if_due}
 
 -- a due pair in place of an equal one
 due_as : (words : List (List ℕ)) (told : List ℕ → Option (List ℕ)) (failed : List ℕ → Type 0) (status s : Status) (text t : List ℕ)
@@ -21,12 +23,15 @@ due_if_put words told failed status text old new rose end answer (due.cut_short 
 
 complete_if_fault : (words : List (List ℕ)) (told : List ℕ → Option (List ℕ)) (status : Status) → IsFault status → IsComplete words told status
 complete_if_fault words told status fault = record {
-  trace = λ bytes d e named whole described meant. inl fault;
-  ask = λ bytes d q named whole described meant. inl fault;
-  check = λ bytes text d r named whole described read few meant. inl fault;
-  certified = λ bytes text d asked named whole described read answer. inl fault;
-  replay = λ bytes text d es named whole described read few meant. inl fault;
-  make = λ n named meant. inl fault;
+  trace = λ d named at. inl fault;
+  ask = λ d named at. inl fault;
+  check = λ d bytes named at there. inl fault;
+  certified = λ d bytes asked named at there reported. inl fault;
+  replay = λ d bytes named at there. inl fault;
+  make = λ named. inl fault;
+  matrix = λ d named at. inl fault;
+  flows = λ d bytes named at there. inl fault;
+  expect = λ d bytes named at there. inl fault;
 }
 
 pub complete_if_put : (words : List (List ℕ)) (told : List ℕ → Option (List ℕ)) (failed : List ℕ → Type 0) (status : Status) (text : List ℕ) (old new : Option (List ℕ)) (rose : Type 0) (end : Status)

@@ -1,12 +1,4 @@
-pub mod Status
 pub mod Words
-pub mod Lines
-pub mod Reachable
-pub mod Described
-pub mod Traced
-pub mod Replayed
-pub mod Certified
-pub mod Second
-pub mod Asked
-pub mod Made
+pub mod Files
 pub mod Due
+pub mod Complete

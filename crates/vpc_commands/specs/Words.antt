@@ -1,8 +1,9 @@
 -- The words of a command.
-use Rattle.std.specs.Prelude.{ℕ, ◌+◌, ◌%◌, ◌==◌, ◌≡◌, ◌≤◌, ◌||◌, not, nat_lt, Bool, true, false, List, [], ◌∷◌, Option, Some, None, Result, Err, Ok, bytes_eq, codes, if◌then◌else◌, length, option_map, position}
+use Rattle.std.specs.Prelude.{ℕ, ◌+◌, ◌-◌, ◌%◌, ◌==◌, ◌≡◌, ◌≤◌, ◌||◌, ◌&&◌, not, nat_lt, Bool, true, false, List, [], ◌∷◌, Option, Some, None, Result, Err, Ok, bytes_eq, codes, if◌then◌else◌, length, option_map, position}
 use Rattle.query_words.specs.Words.{word_at}
-use Rattle.vpc_commands.specs.declared.words.Mode.{Mode}
-use Rattle.vpc_commands.specs.declared.words.Mode.TheVariants as modes
+use Rattle.vpc_commands.specs.declared.words.Command.{Command}
+use Rattle.vpc_commands.specs.declared.words.Command.TheVariants as commands
+use Rattle.vpc_commands.specs.declared.words.Count.{Count}
 use Rattle.vpc_commands.specs.declared.words.WordsRefusal.{WordsRefusal}
 
 -- ---- words that no command has
@@ -19,108 +20,85 @@ bad_word words = option_map (λ k. k + 1) (position is_bad_word words)
 -- ---- commands
 
 -- the command with this name
-abbrev pub mode_named : List ℕ → Option Mode
-mode_named name =
-    if bytes_eq name (codes "trace") then Some modes.Trace
-    else (if bytes_eq name (codes "ask") then Some modes.Ask
-    else (if bytes_eq name (codes "check") then Some modes.Check
-    else (if bytes_eq name (codes "replay") then Some modes.Replay
-    else (if bytes_eq name (codes "make") then Some modes.Make else None))))
+abbrev pub command_named : List ℕ → Option Command
+command_named name =
+    if bytes_eq name (codes "trace") then Some commands.Trace
+    else (if bytes_eq name (codes "ask") then Some commands.Ask
+    else (if bytes_eq name (codes "check") then Some commands.Check
+    else (if bytes_eq name (codes "replay") then Some commands.Replay
+    else (if bytes_eq name (codes "make") then Some commands.Make
+    else (if bytes_eq name (codes "expect") then Some commands.Expect
+    else (if bytes_eq name (codes "flows") then Some commands.Flows
+    else (if bytes_eq name (codes "matrix") then Some commands.Matrix else None)))))))
 
 -- the command that the first word names
-abbrev pub mode_of : List (List ℕ) → Option Mode
-mode_of [] = None
-mode_of (w ∷ words) = mode_named w
+abbrev pub first_named : List (List ℕ) → Option Command
+first_named [] = None
+first_named (w ∷ words) = command_named w
 
--- ---- how many words a command has
+-- how many words a command has, its own name included
+abbrev pub count_of : Command → Count
+count_of commands.Trace = record { least = 10; most = 10; pairs = false }
+count_of commands.Ask = record { least = 6; most = 18; pairs = true }
+count_of commands.Check = record { least = 3; most = 3; pairs = false }
+count_of commands.Replay = record { least = 3; most = 3; pairs = false }
+count_of commands.Make = record { least = 2; most = 2; pairs = false }
+count_of commands.Expect = record { least = 3; most = 3; pairs = false }
+count_of commands.Flows = record { least = 3; most = 3; pairs = false }
+count_of commands.Matrix = record { least = 2; most = 4; pairs = true }
 
--- how many words `trace` has
-abbrev pub trace_count : ℕ
-trace_count = 10
+-- the numbers of the words that name its files
+abbrev pub files_of : Command → List ℕ
+files_of commands.Trace = 2 ∷ []
+files_of commands.Ask = 2 ∷ []
+files_of commands.Check = 2 ∷ 3 ∷ []
+files_of commands.Replay = 2 ∷ 3 ∷ []
+files_of commands.Make = []
+files_of commands.Expect = 2 ∷ 3 ∷ []
+files_of commands.Flows = 2 ∷ 3 ∷ []
+files_of commands.Matrix = 2 ∷ []
 
--- how many words `check` has
-abbrev pub check_count : ℕ
-check_count = 3
+-- ---- how many words there are
 
--- how many words `replay` has
-abbrev pub replay_count : ℕ
-replay_count = 3
+-- a word more than the least comes with a second one
+abbrev pub lacks_one : Count → ℕ → Bool
+lacks_one c n = c.pairs && not ((n - c.least) % 2 == 0)
 
--- how many words `make` has
-abbrev pub make_count : ℕ
-make_count = 2
+-- where there are too many the number of the first too many, and where one is missing the number after the last
+abbrev pub count_fault : Count → ℕ → Option ℕ
+count_fault c n =
+    if nat_lt c.most n then Some (c.most + 1)
+    else (if nat_lt n c.least || lacks_one c n then Some (n + 1) else None)
 
--- how many words `ask` has at least, and at most
-abbrev pub ask_least : ℕ
-ask_least = 6
-
-abbrev pub ask_most : ℕ
-ask_most = 18
-
--- where words are missing the number after the last, and where there are too many the first too many
-abbrev pub exact_count_fault : ℕ → ℕ → Option ℕ
-exact_count_fault most count = if nat_lt count most then Some (count + 1) else (if nat_lt most count then Some (most + 1) else None)
-
--- `ask` has an even number of words: where one is missing the number after the last, and where there are too many the first too many
-abbrev pub ask_count_fault : ℕ → Option ℕ
-ask_count_fault count =
-    if nat_lt ask_most count then Some (ask_most + 1)
-    else (if nat_lt count ask_least || not (count % 2 == 0) then Some (count + 1) else None)
-
-abbrev pub count_fault : Mode → ℕ → Option ℕ
-count_fault modes.Trace count = exact_count_fault trace_count count
-count_fault modes.Ask count = ask_count_fault count
-count_fault modes.Check count = exact_count_fault check_count count
-count_fault modes.Replay count = exact_count_fault replay_count count
-count_fault modes.Make count = exact_count_fault make_count count
-
--- a command has so many words
-abbrev pub HasCount : Mode → ℕ → Type 0
-HasCount modes.Trace count = count ≡ trace_count
-HasCount modes.Ask count = ask_least ≤ count
-HasCount modes.Check count = count ≡ check_count
-HasCount modes.Replay count = count ≡ replay_count
-HasCount modes.Make count = count ≡ make_count
+-- so many words are neither too few nor too many
+pub record HasCount (c : Count) (n : ℕ) : Type 0 where
+  pub least : c.least ≤ n
+  pub most : n ≤ c.most
+  pub paired : lacks_one c n ≡ false
 
 -- ---- the command of some words
 
-abbrev pub refused_at : ℕ → Result Mode WordsRefusal
+abbrev pub refused_at : ℕ → Result Command WordsRefusal
 refused_at n = Err (record { word = n })
 
 -- the command, unless a word is missing or too many
-abbrev pub counted : Mode → Option ℕ → Result Mode WordsRefusal
-counted mode None = Ok mode
-counted mode (Some n) = refused_at n
+abbrev pub counted : Command → Option ℕ → Result Command WordsRefusal
+counted command None = Ok command
+counted command (Some n) = refused_at n
 
 -- the named command, if there is one
-abbrev pub named : Option Mode → ℕ → Result Mode WordsRefusal
-named None count = refused_at 1
-named (Some mode) count = counted mode (count_fault mode count)
+abbrev pub named : Option Command → ℕ → Result Command WordsRefusal
+named None n = refused_at 1
+named (Some command) n = counted command (count_fault (count_of command) n)
 
 -- the command, unless a word is bad
-abbrev pub unless_bad : Option ℕ → List (List ℕ) → Result Mode WordsRefusal
+abbrev pub unless_bad : Option ℕ → List (List ℕ) → Result Command WordsRefusal
 unless_bad (Some n) words = refused_at n
-unless_bad None words = named (mode_of words) (length words)
+unless_bad None words = named (first_named words) (length words)
 
 -- the command that the words give, or the number, from 1, of the first word that is wrong
-abbrev pub command_of : List (List ℕ) → Result Mode WordsRefusal
+abbrev pub command_of : List (List ℕ) → Result Command WordsRefusal
 command_of words = unless_bad (bad_word words) words
-
--- the command has a file
-abbrev pub has_file : Mode → Bool
-has_file modes.Trace = true
-has_file modes.Ask = true
-has_file modes.Check = true
-has_file modes.Replay = true
-has_file modes.Make = false
-
--- the command has a second file
-abbrev pub has_second : Mode → Bool
-has_second modes.Trace = false
-has_second modes.Ask = false
-has_second modes.Check = true
-has_second modes.Replay = true
-has_second modes.Make = false
 
 -- the name of the file
 abbrev pub file_name : List (List ℕ) → List ℕ

@@ -1,10 +1,11 @@
 // The top call.
 ghost use Rattle.std.specs.Prelude.{◌≡◌, map, string_bytes};
 ghost use Rattle.vpc_io.specs.Rose.{Rose};
-ghost use Rattle.vpc_commands.specs.Due.{IsAnswer, IsComplete, IsDue, ReadFailed, memory_text, only};
+ghost use Rattle.vpc_commands.specs.Complete.{IsComplete, ReadFailed};
+ghost use Rattle.vpc_commands.specs.Due.{IsAnswer, IsDue, memory_text, only};
 
 use crate::answers::answer_to;
-use crate::status::Status;
+use command_job::Status;
 use std::alloc::Global;
 use vpc_io::{Shelf, Sink, put_all};
 
@@ -38,8 +39,7 @@ pub fn run<S: Shelf, O: Sink>(alloc: Global, words: &[String], shelf: &mut S, ou
         (O.held out.old) (O.held out.new) (Rose (O.faults out.old) (O.faults out.new)) result }
     ensures read_only_where_faults_rose { result ≡ Status.Read → ReadFailed (map string_bytes words.now)
         (λ n. Rose (S.faults shelf.old n) (S.faults shelf.new n)) }
-    // `trace` ends as the walk of its packet does. `ask` says yes where some header gets through, and no
-    // where none does and the cells are at most `max`. `replay` answers each list of events.
+    // Where no device and no memory was wanting, the status is decided by the network and the words.
     ensures complete { IsComplete (map string_bytes words.now) (S.told shelf.old) result }
     ensures write_only_where_faults_rose { result ≡ Status.Write → Rose (O.faults out.old) (O.faults out.new) }
 {

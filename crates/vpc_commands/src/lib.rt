@@ -1,20 +1,12 @@
-//! Commands over a described network, and the call that answers them.
+//! Commands over a described network, and the call that answers them. Each command has a crate of its own, which says
+//! what it answers; here the words give a command, its files are taken, and the answer is written.
 #![tactic(auto)]
 
 mod answers;
-mod asks;
-mod checks;
 mod commands;
-mod deciders;
-mod jobs;
-mod makes;
-mod reachable;
+mod files;
 mod refusals;
-mod replays;
-mod second;
-mod status;
-mod traces;
 mod words;
 
+pub use command_job::Status;
 pub use commands::{refuse_memory, run};
-pub use status::Status;

@@ -1,29 +1,16 @@
-// Answers of one line.
-ghost use Rattle.std.specs.Prelude.{◌≡◌, IfOk, decimal, false};
+// Refusals of words and of descriptions.
+ghost use Rattle.std.specs.Prelude.{◌≡◌, IfOk, false};
 ghost use Rattle.block_report.specs.Refusals.{cause_text};
 ghost use Rattle.bundle.specs.Meaning.{is_memory};
-ghost use Rattle.vpc_commands.specs.Certified.{report_refusal_line};
-ghost use Rattle.vpc_commands.specs.Described.{refusal_line};
 ghost use Rattle.vpc_commands.specs.Due.{words_text};
-ghost use Rattle.vpc_commands.specs.Lines.{line};
-ghost use Rattle.vpc_commands.specs.Replayed.{events_refusal_line};
+ghost use Rattle.vpc_commands.specs.Files.{refusal_line};
 
-use crate::status::{Answer, Status};
 use crate::words::WordsRefusal;
-use block_report::{put, put_cause, put_end, put_number_line, put_number_word, put_word};
+use block_report::{put, put_cause, put_end, put_number_word, put_word};
 use bundle::BundleRefusal;
+use command_job::{Answer, Status};
 use std::alloc::Global;
 use vpc_base::NoMemory;
-
-/// An answer of this line.
-pub fn answer_line(alloc: Global, status: Status, text: &[u8]) -> Result<Answer, NoMemory>
-    ensures { IfOk result (λ a. (a.status ≡ status) × (a.text.items ≡ line text.now)) }
-{
-    let mut all = Vec::new(alloc);
-    put(&mut all, text)?;
-    put_end(&mut all)?;
-    Ok(Answer { status, text: all })
-}
 
 /// Refuses the words of a command.
 pub fn refuse_words(alloc: Global, refusal: WordsRefusal) -> Result<Answer, NoMemory>
@@ -50,49 +37,6 @@ pub fn refuse_description(alloc: Global, cause: &[u8]) -> Result<Answer, NoMemor
     put_end(&mut text)?;
     Ok(Answer {
         status: Status::Description,
-        text,
-    })
-}
-
-/// Refuses a list of events for this cause.
-pub fn refuse_events(alloc: Global, cause: &[u8]) -> Result<Answer, NoMemory>
-    ensures { IfOk result (λ a.
-        (a.status ≡ Status.Query) × (a.text.items ≡ events_refusal_line cause.now)) }
-{
-    let mut text = Vec::new(alloc);
-    put(&mut text, b"refused events")?;
-    put_word(&mut text, cause)?;
-    put_end(&mut text)?;
-    Ok(Answer {
-        status: Status::Query,
-        text,
-    })
-}
-
-/// Refuses a report for this cause.
-pub fn refuse_report(alloc: Global, cause: &[u8]) -> Result<Answer, NoMemory>
-    ensures { IfOk result (λ a.
-        (a.status ≡ Status.Query) × (a.text.items ≡ report_refusal_line cause.now)) }
-{
-    let mut text = Vec::new(alloc);
-    put(&mut text, b"refused report")?;
-    put_word(&mut text, cause)?;
-    put_end(&mut text)?;
-    Ok(Answer {
-        status: Status::Query,
-        text,
-    })
-}
-
-/// Refuses a list of events for its first line that is no packet.
-pub fn refuse_line(alloc: Global, number: u64) -> Result<Answer, NoMemory>
-    ensures { IfOk result (λ a.
-        (a.status ≡ Status.Query) × (a.text.items ≡ events_refusal_line (decimal number))) }
-{
-    let mut text = Vec::new(alloc);
-    put_number_line(&mut text, b"refused events", u128::from(number))?;
-    Ok(Answer {
-        status: Status::Query,
         text,
     })
 }

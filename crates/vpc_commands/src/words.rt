@@ -1,23 +1,11 @@
 // The words of a command.
-ghost use Rattle.std.specs.Prelude.{◌≡◌, ◌<◌, IfNone, IfOk, IfSome, length, map, position, string_bytes};
-ghost use Rattle.vpc_commands.specs.Words.{HasCount, ask_count_fault, bad_word, command_of, count_fault, counted};
-ghost use Rattle.vpc_commands.specs.Words.{exact_count_fault, is_bad_word, mode_named, mode_of, named};
-
-const TRACE_COUNT: usize = 10;
-
-const CHECK_COUNT: usize = 3;
-
-const REPLAY_COUNT: usize = 3;
-
-const MAKE_COUNT: usize = 2;
-
-const ASK_LEAST: usize = 6;
-
-const ASK_MOST: usize = 18;
+ghost use Rattle.std.specs.Prelude.{◌≡◌, ◌<◌, ◌≤◌, IfNone, IfOk, IfSome, length, map, position, string_bytes};
+ghost use Rattle.vpc_commands.specs.Words.{HasCount, bad_word, command_named, command_of, count_fault};
+ghost use Rattle.vpc_commands.specs.Words.{count_of, counted, first_named, is_bad_word, lacks_one, named};
 
 /// What a command does, by its first word.
 #[derive(Clone, Copy, Debug, PartialEq, Eq)]
-pub enum Mode {
+pub enum Command {
     /// `trace`: the walk of one packet.
     Trace,
     /// `ask`: what is known of all requests of a query.
@@ -28,6 +16,21 @@ pub enum Mode {
     Replay,
     /// `make`: what is reached in a network that is generated from a number.
     Make,
+    /// `expect`: whether the rules of a policy hold.
+    Expect,
+    /// `flows`: what a flow log says otherwise than the rules.
+    Flows,
+    /// `matrix`: who reaches whom, on which TCP ports.
+    Matrix,
+}
+
+/// How many words a command may have, its own name included.
+#[derive(Clone, Copy)]
+pub struct Count {
+    pub least: u16,
+    pub most: u16,
+    /// Whether those past the least come two by two.
+    pub pairs: bool,
 }
 
 /// The number, from 1, of the first word that is wrong.
@@ -60,71 +63,81 @@ fn bad_word(words: &[String]) -> Option<usize>
     }
 }
 
-fn mode_named(name: &str) -> Option<Mode>
-    ensures { result ≡ mode_named name.now }
+fn command_named(name: &str) -> Option<Command>
+    ensures { result ≡ command_named name.now }
 {
     if name == "trace" {
-        Some(Mode::Trace)
+        Some(Command::Trace)
     } else if name == "ask" {
-        Some(Mode::Ask)
+        Some(Command::Ask)
     } else if name == "check" {
-        Some(Mode::Check)
+        Some(Command::Check)
     } else if name == "replay" {
-        Some(Mode::Replay)
+        Some(Command::Replay)
     } else if name == "make" {
-        Some(Mode::Make)
+        Some(Command::Make)
+    } else if name == "expect" {
+        Some(Command::Expect)
+    } else if name == "flows" {
+        Some(Command::Flows)
+    } else if name == "matrix" {
+        Some(Command::Matrix)
     } else {
         None
     }
 }
 
 // The command that the first word names.
-fn mode_of(words: &[String]) -> Option<Mode>
-    ensures { result ≡ mode_of (map string_bytes words.now) }
+fn first_named(words: &[String]) -> Option<Command>
+    ensures { result ≡ first_named (map string_bytes words.now) }
 {
     match words.first() {
-        Some(w) => mode_named(w.as_str()),
+        Some(w) => command_named(w.as_str()),
         None => None,
     }
 }
 
-fn exact_count_fault(most: usize, count: usize) -> Option<usize>
-    ensures fault { result ≡ exact_count_fault most count }
-    ensures count { IfNone result (count ≡ most) }
+// How many words a command has.
+fn count_of(command: Command) -> Count
+    ensures { result ≡ count_of command }
 {
-    if count < most {
-        Some(count + 1)
-    } else if most < count {
-        Some(most + 1)
-    } else {
-        None
-    }
+    let (least, most, pairs) = match command {
+        Command::Trace => (10, 10, false),
+        Command::Ask => (6, 18, true),
+        Command::Check => (3, 3, false),
+        Command::Replay => (3, 3, false),
+        Command::Make => (2, 2, false),
+        Command::Expect => (3, 3, false),
+        Command::Flows => (3, 3, false),
+        Command::Matrix => (2, 4, true),
+    };
+    Count { least, most, pairs }
 }
 
-// `ask` has an even number of words.
-fn ask_count_fault(count: usize) -> Option<usize>
-    ensures fault { result ≡ ask_count_fault count }
-    ensures count { IfNone result (HasCount Mode.Ask count) }
+// Whether the last of so many words lacks the second one of its pair.
+fn lacks_one(count: Count, n: usize) -> bool
+    requires { count.least ≤ n }
+    ensures { result ≡ lacks_one count n }
 {
-    if count > ASK_MOST {
-        Some(ASK_MOST + 1)
-    } else if count < ASK_LEAST || count % 2 != 0 {
-        Some(count + 1)
-    } else {
-        None
-    }
+    count.pairs && (n - usize::from(count.least)) % 2 != 0
 }
 
-fn count_fault(mode: Mode, count: usize) -> Option<usize>
-    ensures fault { result ≡ count_fault mode count }
-    ensures count { IfNone result (HasCount mode count) }
+// Where there are too many words the number of the first too many, and where one is missing the number after the last.
+fn count_fault(count: Count, n: usize) -> Option<usize>
+    ensures fault { result ≡ count_fault count n }
+    ensures count { IfNone result (HasCount count n) }
 {
-    match mode {
-        Mode::Trace => exact_count_fault(TRACE_COUNT, count),
-        Mode::Ask => ask_count_fault(count),
-        Mode::Check => exact_count_fault(CHECK_COUNT, count),
-        Mode::Replay => exact_count_fault(REPLAY_COUNT, count),
-        Mode::Make => exact_count_fault(MAKE_COUNT, count),
+    let (least, most) = (usize::from(count.least), usize::from(count.most));
+    if most < n {
+        return Some(most + 1);
+    }
+    if n < least {
+        return Some(n + 1);
+    }
+    if lacks_one(count, n) {
+        Some(n + 1)
+    } else {
+        None
     }
 }
 
@@ -137,34 +150,34 @@ fn refused_at(number: usize) -> WordsRefusal
 }
 
 // The command, where it may have so many words.
-fn counted(mode: Mode, count: usize) -> Result<Mode, WordsRefusal>
-    ensures command { result ≡ counted mode (count_fault mode count) }
-    ensures count { IfOk result (λ mode. HasCount mode count) }
+fn counted(command: Command, n: usize) -> Result<Command, WordsRefusal>
+    ensures command { result ≡ counted command (count_fault (count_of command) n) }
+    ensures count { IfOk result (λ command. HasCount (count_of command) n) }
 {
-    match count_fault(mode, count) {
+    match count_fault(count_of(command), n) {
         Some(number) => Err(refused_at(number)),
-        None => Ok(mode),
+        None => Ok(command),
     }
 }
 
 // The command that the first word names, where it may have so many words.
-fn read_mode(words: &[String]) -> Result<Mode, WordsRefusal>
-    ensures command { result ≡ named (mode_of (map string_bytes words.now)) (length words.now) }
-    ensures count { IfOk result (λ mode. HasCount mode (length words.now)) }
+fn read_named(words: &[String]) -> Result<Command, WordsRefusal>
+    ensures command { result ≡ named (first_named (map string_bytes words.now)) (length words.now) }
+    ensures count { IfOk result (λ command. HasCount (count_of command) (length words.now)) }
 {
-    match mode_of(words) {
-        Some(mode) => counted(mode, words.len()),
+    match first_named(words) {
+        Some(command) => counted(command, words.len()),
         None => Err(refused_at(1)),
     }
 }
 
 /// The command that the words give, which are those after the program's name.
-pub fn read_words(words: &[String]) -> Result<Mode, WordsRefusal>
+pub fn read_words(words: &[String]) -> Result<Command, WordsRefusal>
     ensures command { result ≡ command_of (map string_bytes words.now) }
-    ensures count { IfOk result (λ mode. HasCount mode (length words.now)) }
+    ensures count { IfOk result (λ command. HasCount (count_of command) (length words.now)) }
 {
     match bad_word(words) {
         Some(number) => Err(refused_at(number)),
-        None => read_mode(words),
+        None => read_named(words),
     }
 }

@@ -1,7 +1,7 @@
 use Rattle.std.proofs.Common.{map, refl, string_bytes}
 use Rattle.vpc_commands.specs.Due as due
 use Rattle.vpc_commands.specs.Due.{memory_text}
-use Rattle.vpc_commands.specs.declared.status.Status.TheVariants as ends
+use Rattle.command_job.specs.declared.status.Status.TheVariants as ends
 use Rattle.vpc_commands.proofs.PutLemmas.{complete_if_put, due_if_put, read_if_put, rose_if_put}
 use Rattle.vpc_commands.proofs.commands.run.Goals as goal
 

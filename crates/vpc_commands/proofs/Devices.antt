@@ -1,0 +1,109 @@
+-- A device is told of only where it failed.
+use Rattle.std.proofs.Common.{◌≡◌, ◌∙◌, ◌==◌, ℕ, List, Ok, Option, inl, inr, refl, sym, true}
+use Rattle.std.specs.List.{list_any}
+use Rattle.query_words.specs.Words.{word_at}
+use Rattle.vpc_laws.specs.Types.{Description}
+use Rattle.command_job.specs.Status.{IsOfDevice}
+use Rattle.command_job.specs.declared.status.Status.{Status}
+use Rattle.command_job.specs.declared.status.Status.TheVariants as ends
+use Rattle.command_job.proofs.Devices.{description_is_none, memory_is_none, no_device, query_is_none, words_are_none}
+use Rattle.packet_trace.proofs.Decided.{trace_is_none}
+use Rattle.network_reach.proofs.Decided.{ask_is_none}
+use Rattle.report_check.proofs.Decided.{check_is_none}
+use Rattle.replay_log.proofs.Decided.{replay_is_none}
+use Rattle.made_reach.proofs.Decided.{make_is_none}
+use Rattle.reach_matrix.proofs.AnswerLemmas.{matrix_tells_of_no_device}
+use Rattle.flow_check.proofs.Decided.{flows_tell_of_no_device}
+use Rattle.policy_check.proofs.Decided.{policies_are_of_no_device}
+use Rattle.vpc_commands.specs.Complete.{ReadFailed}
+use Rattle.vpc_commands.specs.Due.{IsAnswered, IsDue}
+use Rattle.vpc_commands.specs.Due as due
+use Rattle.vpc_commands.specs.Files.{IsAnsweredIn, IsAnsweredTo, IsNoNetwork}
+use Rattle.vpc_commands.specs.Files as files
+use Rattle.vpc_commands.specs.Words.{command_of, file_name, files_of, second_name}
+use Rattle.vpc_commands.specs.declared.words.Command.{Command}
+use Rattle.vpc_commands.specs.declared.words.Command.TheVariants as commands
+
+-- what an answer that tells of a device says: that reading failed, of a file
+abbrev IsRead : Status → Type 0 → Type 0
+IsRead status failure = (status ≡ ends.Read) × failure
+
+-- ---- the file that describes the network
+
+no_network_is_read : (told : List ℕ → Option (List ℕ)) (failed : List ℕ → Type 0) (file : List ℕ) (status : Status) (text : List ℕ)
+    → IsNoNetwork told failed file status text → IsOfDevice status → IsRead status (failed file)
+no_network_is_read told failed file status text (files.not_read failure status_is says) h = (status_is, failure)
+no_network_is_read told failed file status text (files.too_big bytes read long status_is says) h = absurd (no_device status ends.Description status_is description_is_none h)
+no_network_is_read told failed file status text (files.refused bytes read few refused) h = absurd (no_device status ends.Description refused.status_is description_is_none h)
+
+-- the file failed, or the answer tells of a device
+in_is_read : (told : List ℕ → Option (List ℕ)) (failed : List ℕ → Type 0) (file : List ℕ) (answer : Description → Status → List ℕ → Type 0) (F : Type 0) (status : Status) (text : List ℕ)
+    → (failed file → F) → ((d : Description) → answer d status text → IsOfDevice status → IsRead status F)
+    → IsAnsweredIn told failed file answer status text → IsOfDevice status → IsRead status F
+in_is_read told failed file answer F status text of_file of_answer (files.no_network none) h =
+    let read = no_network_is_read told failed file status text none h in (read.0, of_file read.1)
+in_is_read told failed file answer F status text of_file of_answer (files.answered d is so) h = of_answer d so h
+
+-- ---- the second file
+
+to_is_read : (told : List ℕ → Option (List ℕ)) (failed : List ℕ → Type 0) (file : List ℕ) (refusal : List ℕ → List ℕ) (answer : List ℕ → Status → List ℕ → Type 0) (F : Type 0) (status : Status) (text : List ℕ)
+    → (failed file → F) → ((bytes : List ℕ) → answer bytes status text → IsOfDevice status → ⊥)
+    → IsAnsweredTo told failed file refusal answer status text → IsOfDevice status → IsRead status F
+to_is_read told failed file refusal answer F status text of_file none (files.not_read failure status_is says) h = (status_is, of_file failure)
+to_is_read told failed file refusal answer F status text of_file none (files.too_big bytes read long status_is says) h = absurd (no_device status ends.Query status_is query_is_none h)
+to_is_read told failed file refusal answer F status text of_file none (files.answered bytes read few so) h = absurd (none bytes so h)
+
+-- ---- the command
+
+failed_at : (words : List (List ℕ)) (failed : List ℕ → Type 0) (command : Command) (number : ℕ) → command_of words ≡ Ok command
+    → list_any (λ k. k == number) (files_of command) ≡ true → failed (word_at words number) → ReadFailed words failed
+failed_at words failed command number is names failure = record { command = command; command_is = is; number = number; names = names; is_failed = failure }
+
+answer_is_read : (command : Command) (words : List (List ℕ)) (told : List ℕ → Option (List ℕ)) (failed : List ℕ → Type 0) (status : Status) (text : List ℕ)
+    → command_of words ≡ Ok command → IsAnswered command words told failed status text → IsOfDevice status → IsRead status (ReadFailed words failed)
+answer_is_read commands.Trace words told failed status text is answer h =
+    in_is_read told failed (file_name words) _ (ReadFailed words failed) status text (failed_at words failed commands.Trace 2 is refl)
+    (λ d so device. absurd (trace_is_none d words status text so device)) answer h
+answer_is_read commands.Ask words told failed status text is answer h =
+    in_is_read told failed (file_name words) _ (ReadFailed words failed) status text (failed_at words failed commands.Ask 2 is refl)
+    (λ d so device. absurd (ask_is_none d words status text so device)) answer h
+answer_is_read commands.Check words told failed status text is answer h =
+    in_is_read told failed (file_name words) _ (ReadFailed words failed) status text (failed_at words failed commands.Check 2 is refl)
+    (λ d so device. to_is_read told failed (second_name words) _ _ (ReadFailed words failed) status text (failed_at words failed commands.Check 3 is refl)
+    (λ bytes. check_is_none d bytes status text) so device) answer h
+answer_is_read commands.Replay words told failed status text is answer h =
+    in_is_read told failed (file_name words) _ (ReadFailed words failed) status text (failed_at words failed commands.Replay 2 is refl)
+    (λ d so device. to_is_read told failed (second_name words) _ _ (ReadFailed words failed) status text (failed_at words failed commands.Replay 3 is refl)
+    (λ bytes. replay_is_none d bytes status text) so device) answer h
+answer_is_read commands.Expect words told failed status text is answer h =
+    in_is_read told failed (file_name words) _ (ReadFailed words failed) status text (failed_at words failed commands.Expect 2 is refl)
+    (λ d so device. to_is_read told failed (second_name words) _ _ (ReadFailed words failed) status text (failed_at words failed commands.Expect 3 is refl)
+    (λ bytes. policies_are_of_no_device d bytes status text) so device) answer h
+answer_is_read commands.Flows words told failed status text is answer h =
+    in_is_read told failed (file_name words) _ (ReadFailed words failed) status text (failed_at words failed commands.Flows 2 is refl)
+    (λ d so device. to_is_read told failed (second_name words) _ _ (ReadFailed words failed) status text (failed_at words failed commands.Flows 3 is refl)
+    (λ bytes. flows_tell_of_no_device d bytes status text) so device) answer h
+answer_is_read commands.Matrix words told failed status text is answer h =
+    in_is_read told failed (file_name words) _ (ReadFailed words failed) status text (failed_at words failed commands.Matrix 2 is refl)
+    (λ d so device. absurd (matrix_tells_of_no_device d words status text so device)) answer h
+answer_is_read commands.Make words told failed status text is answer h = absurd (make_is_none words status text answer h)
+
+-- a device is told of where reading failed, and of reading alone
+device_is_read : (words : List (List ℕ)) (told : List ℕ → Option (List ℕ)) (failed : List ℕ → Type 0) (status : Status) (text : List ℕ)
+    → IsDue words told failed status text → IsOfDevice status → IsRead status (ReadFailed words failed)
+device_is_read words told failed status text (due.not_words refusal is status_is says) h = absurd (no_device status ends.Words status_is words_are_none h)
+device_is_read words told failed status text (due.answered command is so) h = answer_is_read command words told failed status text is so h
+device_is_read words told failed status text (due.no_memory status_is says) h = absurd (no_device status ends.Memory status_is memory_is_none h)
+
+-- an answer that tells of a failed read is due where a read failed
+pub failed_if_read : (words : List (List ℕ)) (told : List ℕ → Option (List ℕ)) (failed : List ℕ → Type 0) (status : Status) (text : List ℕ)
+    → IsDue words told failed status text → status ≡ ends.Read → ReadFailed words failed
+failed_if_read words told failed status text answer is = let read = device_is_read words told failed status text answer (inl is) in read.1
+
+-- none that is due tells of a failed write
+pub never_write : (words : List (List ℕ)) (told : List ℕ → Option (List ℕ)) (failed : List ℕ → Type 0) (status : Status) (text : List ℕ)
+    → IsDue words told failed status text → status ≡ ends.Write → ⊥
+never_write words told failed status text answer is =
+    let read = device_is_read words told failed status text answer (inr is) in
+    let same : ends.Read ≡ ends.Write = sym read.0 ∙ is in
+    cc

@@ -1,0 +1,25 @@
+use Rattle.vpc_commands.proofs.answers.answer_command.Goals as goal
+
+pub returns-in-Trace : goal.returns-in-Trace
+returns-in-Trace g c = rw c.in-Trace.is c.answer_file.ensures
+
+pub returns-in-Ask : goal.returns-in-Ask
+returns-in-Ask g c = rw c.in-Ask.is c.answer_file-in-Ask.ensures
+
+pub returns-in-Check : goal.returns-in-Check
+returns-in-Check g c = rw c.in-Check.is c.answer_files.ensures
+
+pub returns-in-Replay : goal.returns-in-Replay
+returns-in-Replay g c = rw c.in-Replay.is c.answer_files-in-Replay.ensures
+
+pub returns-in-Expect : goal.returns-in-Expect
+returns-in-Expect g c = rw c.in-Expect.is c.answer_files-in-Expect.ensures
+
+pub returns-in-Flows : goal.returns-in-Flows
+returns-in-Flows g c = rw c.in-Flows.is c.answer_files-in-Flows.ensures
+
+pub returns-in-Matrix : goal.returns-in-Matrix
+returns-in-Matrix g c = rw c.in-Matrix.is c.answer_file-in-Matrix.ensures
+
+pub returns-in-Make : goal.returns-in-Make
+returns-in-Make g c = rw c.in-Make.is c.make.ensures

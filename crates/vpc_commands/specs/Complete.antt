@@ -1,0 +1,54 @@
+-- Which answers come, where no device and no memory is wanting; and which files had failed where reading did.
+use Rattle.std.specs.Prelude.{ℕ, ◌≡◌, ◌==◌, ◌⊎◌, List, Ok, Option, Some, true}
+use Rattle.std.specs.List.{list_any}
+use Rattle.query_words.specs.Words.{word_at}
+use Rattle.vpc_model.specs.declared.rows.Description.{Description}
+use Rattle.command_job.specs.declared.status.Status.{Status}
+use Rattle.command_job.specs.declared.status.Status.TheVariants as ends
+use Rattle.packet_trace.specs.Traced.{IsTraceDecided}
+use Rattle.network_reach.specs.Asked.{IsAskDecided, IsAsked}
+use Rattle.report_check.specs.Certified.{IsCheckDecided}
+use Rattle.replay_log.specs.Replayed.{IsReplayDecided}
+use Rattle.made_reach.specs.Made.{IsMakeDecided}
+use Rattle.policy_check.specs.Policy.{IsExpectDecided}
+use Rattle.flow_check.specs.Answers.{IsFlowsDecided}
+use Rattle.reach_matrix.specs.Answered.{IsMatrixDecided}
+use Rattle.vpc_commands.specs.Files.{AreToldBytes, IsToldNetwork}
+use Rattle.vpc_commands.specs.Words.{command_of, file_name, files_of, second_name}
+use Rattle.vpc_commands.specs.declared.words.Command.{Command}
+use Rattle.vpc_commands.specs.declared.words.Command.TheVariants as commands
+
+-- a command that could not read, could not write or wanted memory
+abbrev pub IsFault : Status → Type 0
+IsFault status = (status ≡ ends.Read) ⊎ ((status ≡ ends.Write) ⊎ (status ≡ ends.Memory))
+
+-- what each command's status tells, where the told files may be taken and describe a network
+pub record IsComplete (words : List (List ℕ)) (told : List ℕ → Option (List ℕ)) (status : Status) : Type 0 where
+  pub trace : (d : Description) → command_of words ≡ Ok commands.Trace → IsToldNetwork told (file_name words) d
+      → IsFault status ⊎ IsTraceDecided d words status
+  pub ask : (d : Description) → command_of words ≡ Ok commands.Ask → IsToldNetwork told (file_name words) d
+      → IsFault status ⊎ IsAskDecided d words status
+  pub check : (d : Description) (text : List ℕ) → command_of words ≡ Ok commands.Check → IsToldNetwork told (file_name words) d
+      → AreToldBytes told (second_name words) text → IsFault status ⊎ IsCheckDecided d text status
+  -- each report that is due for `ask` in the network gets a yes
+  pub certified : (d : Description) (text : List ℕ) (asked : List (List ℕ)) → command_of words ≡ Ok commands.Check → IsToldNetwork told (file_name words) d
+      → told (second_name words) ≡ Some text → IsAsked d asked ends.No text → IsFault status ⊎ (status ≡ ends.Yes)
+  pub replay : (d : Description) (text : List ℕ) → command_of words ≡ Ok commands.Replay → IsToldNetwork told (file_name words) d
+      → AreToldBytes told (second_name words) text → IsFault status ⊎ IsReplayDecided d text status
+  pub make : command_of words ≡ Ok commands.Make → IsFault status ⊎ IsMakeDecided words status
+  pub expect : (d : Description) (text : List ℕ) → command_of words ≡ Ok commands.Expect → IsToldNetwork told (file_name words) d
+      → AreToldBytes told (second_name words) text → IsFault status ⊎ IsExpectDecided d text status
+  pub flows : (d : Description) (text : List ℕ) → command_of words ≡ Ok commands.Flows → IsToldNetwork told (file_name words) d
+      → AreToldBytes told (second_name words) text → IsFault status ⊎ IsFlowsDecided d text status
+  pub matrix : (d : Description) → command_of words ≡ Ok commands.Matrix → IsToldNetwork told (file_name words) d
+      → IsFault status ⊎ IsMatrixDecided d words status
+
+-- ---- failed reads
+
+-- a file that the command's words name failed in this call
+pub record ReadFailed (words : List (List ℕ)) (failed : List ℕ → Type 0) : Type 0 where
+  pub command : Command
+  pub command_is : command_of words ≡ Ok command
+  pub number : ℕ
+  pub names : list_any (λ k. k == number) (files_of command) ≡ true
+  pub is_failed : failed (word_at words number)

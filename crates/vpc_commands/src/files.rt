@@ -1,0 +1,150 @@
+// The files that a command's words name.
+ghost use Rattle.std.specs.Prelude.{◌≡◌, ◌≤◌, IfOk, List, length, map, string_bytes, ℕ};
+ghost use Rattle.serde_json.specs.View.{view};
+ghost use Rattle.bundle.specs.Json.{IsJson};
+ghost use Rattle.command_job.specs.Files.{file_limit};
+ghost use Rattle.vpc_io.specs.Rose.{Rose};
+ghost use Rattle.vpc_commands.specs.Files.{IsAnsweredIn, IsAnsweredTo, IsDescribed, IsTaken};
+ghost use Rattle.vpc_commands.specs.Words.{file_name, second_name};
+
+use crate::refusals::{refuse_bundle, refuse_description};
+use bundle::{network_of, read_json};
+use command_job::{Answer, OneFile, Status, TwoFiles, answer_line};
+use query_words::word;
+use reference_check::Network;
+use serde_json::Value;
+use std::alloc::Global;
+use std::mem;
+use vpc_base::NoMemory;
+use vpc_io::{Shelf, ShelfFault};
+
+/// The most bytes of a file.
+pub const FILE_LIMIT: usize = 67_108_864;
+
+/// What became of a file: the network that it describes, or the answer that there is none.
+#[derive(Drop)]
+pub enum Described {
+    Network(Network),
+    Refused(Answer),
+}
+
+// The network of the value of a bundle.
+fn describe_value(alloc: Global, bundle: &Value) -> Result<Described, NoMemory>
+    ensures { (bytes : List ℕ) → length bytes ≤ file_limit → IsJson bytes (view bundle.now)
+        → IfOk result (IsDescribed bytes) }
+{
+    match network_of(alloc, bundle) {
+        Ok(network) => Ok(Described::Network(network)),
+        Err(cause) => Ok(Described::Refused(refuse_bundle(alloc, &cause)?)),
+    }
+}
+
+// The network of the bytes of a bundle.
+fn describe_bytes(alloc: Global, bytes: &[u8]) -> Result<Described, NoMemory>
+    requires { length bytes.now ≤ FILE_LIMIT }
+    ensures { IfOk result (IsDescribed bytes.now) }
+{
+    match read_json(alloc, bytes) {
+        Ok(bundle) => {
+            let described = describe_value(alloc, &bundle);
+            // The process ends with its answer: giving the value back takes longer than many an answer.
+            mem::forget(bundle);
+            described
+        }
+        Err(cause) => Ok(Described::Refused(refuse_bundle(alloc, &cause)?)),
+    }
+}
+
+// The network of a named file.
+fn describe<S: Shelf>(alloc: Global, file: &str, shelf: &mut S) -> Result<Described, NoMemory>
+    ensures described { IfOk result (IsTaken (S.told shelf.old)
+        (λ n. Rose (S.faults shelf.old n) (S.faults shelf.new n)) file.now) }
+    ensures told_stays { (n : List ℕ) → S.told shelf.new n ≡ S.told shelf.old n }
+    ensures faults_never_fall { (n : List ℕ) → S.faults shelf.old n ≤ S.faults shelf.new n }
+{
+    match shelf.take(alloc, file, FILE_LIMIT) {
+        Ok(bytes) => describe_bytes(alloc, bytes.as_slice()),
+        Err(ShelfFault::Failed) => {
+            Ok(Described::Refused(answer_line(alloc, Status::Read, b"read fault 1")?))
+        }
+        Err(ShelfFault::TooLong) => {
+            Ok(Described::Refused(refuse_description(alloc, b"TooBig")?))
+        }
+        Err(ShelfFault::Memory) => Err(NoMemory),
+    }
+}
+
+/// What a command with one file answers.
+pub fn answer_file<S: Shelf, C: OneFile>(
+    alloc: Global,
+    command: &C,
+    words: &[String],
+    shelf: &mut S,
+) -> Result<Answer, NoMemory>
+    requires file { 2 ≤ length words.now }
+    requires count { C.counts command.now (length words.now) }
+    ensures { IfOk result (λ a. IsAnsweredIn (S.told shelf.old)
+        (λ n. Rose (S.faults shelf.old n) (S.faults shelf.new n)) (file_name (map string_bytes words.now))
+        (C.answers command.now (map string_bytes words.now)) a.status a.text.items) }
+{
+    match describe(alloc, word(words, 2), shelf)? {
+        Described::Network(network) => command.answer(alloc, network, words),
+        Described::Refused(answer) => Ok(answer),
+    }
+}
+
+// What is answered to the second file.
+fn answer_second<S: Shelf, C: TwoFiles>(
+    alloc: Global,
+    command: &C,
+    network: Network,
+    file: &str,
+    shelf: &mut S,
+) -> Result<Answer, NoMemory>
+    ensures { IfOk result (λ a. IsAnsweredTo (S.told shelf.old)
+        (λ n. Rose (S.faults shelf.old n) (S.faults shelf.new n)) file.now
+        (C.refusal command.now) (C.answers command.now network) a.status a.text.items) }
+{
+    match shelf.take(alloc, file, FILE_LIMIT) {
+        Ok(bytes) => command.answer(alloc, network, bytes.as_slice()),
+        Err(ShelfFault::Failed) => {
+            mem::forget(network);
+            answer_line(alloc, Status::Read, b"read fault 2")
+        }
+        Err(ShelfFault::TooLong) => {
+            mem::forget(network);
+            command.refuse(alloc, b"TooBig")
+        }
+        Err(ShelfFault::Memory) => {
+            mem::forget(network);
+            Err(NoMemory)
+        }
+    }
+}
+
+/// What a command with a second file answers: that file is taken once the first one describes a network.
+pub fn answer_files<S: Shelf, C: TwoFiles>(
+    alloc: Global,
+    command: &C,
+    words: &[String],
+    shelf: &mut S,
+) -> Result<Answer, NoMemory>
+    requires files { 3 ≤ length words.now }
+    ensures { IfOk result (λ a. IsAnsweredIn (S.told shelf.old)
+        (λ n. Rose (S.faults shelf.old n) (S.faults shelf.new n)) (file_name (map string_bytes words.now))
+        (λ d. IsAnsweredTo (S.told shelf.old) (λ n. Rose (S.faults shelf.old n) (S.faults shelf.new n))
+        (second_name (map string_bytes words.now)) (C.refusal command.now) (C.answers command.now d))
+        a.status a.text.items) }
+{
+    let first = describe(alloc, word(words, 2), shelf)?;
+    match first {
+        Described::Network(network) => answer_second(
+            alloc,
+            command,
+            network,
+            word(words, 3),
+            shelf,
+        ),
+        Described::Refused(answer) => Ok(answer),
+    }
+}
