@@ -15,7 +15,9 @@ export CALLS
 # A checkout of five crates, of which the program needs four, one of them with no specs.
 checkout() {
     mkdir -p "$1"
-    cp "$here/../vpc" "$1/vpc"
+    # The stand-in's program takes other first words: each has a line in the launcher's list.
+    sed "s/^commands='\$/&\nagain | |\na | |\nb | |\nby | |\nfails | |\nsome | |\nwords | |\nx | |\ny | |/" "$here/../vpc" >"$1/vpc"
+    chmod +x "$1/vpc"
     mkdir -p "$1/examples"
     echo '{}' >"$1/examples/one-subnet.json"
     printf '%s\n' '# lowest first' 'base:' 'left: base arrayvec' 'right: base' 'other: base' \
@@ -334,6 +336,47 @@ start "$no_kit" "$room/prebuilt/vpc" x
 fits 'prebuilt of other sources' "$status $out $err" '125  vpc: *no rt in PATH*'
 start "$stand_in" "$room/prebuilt/vpc" x
 fits 'prebuilt of other sources, with a kit' "$status $out $calls" "0 two $PWD x *rt all check*"
+
+# The front door. Standard output and the status are the program's own, what is said of commands is on standard error.
+door=$room/door
+checkout "$door"
+cp "$here/../vpc" "$door/vpc"
+start "$stand_in" env VPC_QUIET=1 "$door/vpc" make 1
+is 'a command: nothing is said' "$status $out $err" "0 one $PWD make 1 "
+settle
+start "$no_kit" "$door/vpc" make 2
+first_words=$(sed -n "/^commands='\$/,/^'\$/s/^\([a-z]*\) .*/\1/p" "$door/vpc" | tr '\n' ' ')
+for it in '' --help -h help 'make --help' 'ask -h'; do
+    # shellcheck disable=SC2086
+    start "$no_kit" "$door/vpc" $it
+    is "page, $it: output and status" "$status $out" "0 one $PWD $it"
+    is "page, $it: commands" "$(printf '%s\n' "$err" | sed -n 's/^  vpc \([a-z]*\) .*/\1/p' | tr '\n' ' ')" "$first_words"
+    is "page, $it: an example each" "$(printf '%s\n' "$err" | sed -n 's/^      \.\/vpc \([a-z]*\) .*/\1/p' | tr '\n' ' ')" "$first_words"
+    fits "page, $it: where the documents are" "$err" "*$door*README.md*docs/FAQ.md*vpc.1*"
+done
+for it in tarce TRACE mak makes 'make5 x' '*' '.*' -v --version -; do
+    start "$no_kit" "$door/vpc" "$it"
+    is "mistyped, $it: output and status" "$status $out" "0 one $PWD $it"
+    is "mistyped, $it" "$err" "vpc: the first word is one of $(printf '%s' "${first_words% }" | sed 's/ /, /g'); ./vpc --help tells of them"
+done
+start "$no_kit" "$door/vpc" ''
+fits 'an empty word' "$status $out $err" "0 one $PWD  vpc: the first word is one of *"
+start "$no_kit" "$door/vpc" fails
+is "mistyped: the program's own status" "$status $out" '3 '
+for it in '' help tarce; do
+    # shellcheck disable=SC2086
+    is "closed standard error, $it" "$(PATH=$no_kit "$door/vpc" $it 2>&-)" "one $PWD $it"
+    # shellcheck disable=SC2086
+    is "standard error on a full disk, $it" "$(PATH=$no_kit "$door/vpc" $it 2>/dev/full)" "one $PWD $it"
+    # shellcheck disable=SC2086
+    is "standard error that nobody reads, $it" "$({ PATH=$no_kit "$door/vpc" $it 2>&3 | cat; } 3>&1 >"$room/out" | true; cat "$room/out")" "one $PWD $it"
+done
+# It stands before a build, and where nothing can be built.
+echo two >"$door/crates/vpc_cli/src/main.rt"
+start "$no_kit" "$door/vpc" --help
+fits 'page, not built' "$status $out $err" '125  vpc COMMAND *vpc: *no rt in PATH*'
+start "$stand_in" "$door/vpc" tarce
+fits 'mistyped, not built' "$status $out $err" "0 two $PWD tarce vpc: the first word is one of *proving base*"
 
 # On a terminal one line moves.
 if command -v script >/dev/null; then

@@ -1,0 +1,612 @@
+#!/usr/bin/env python3
+"""Whether `explain` tells the truth: tests/explain.py PROGRAM [--cases N]
+
+Each of the 35 stops has a row in STOPS: a small network, a packet or a question, what the sentences have to say, and the change that
+they ask for. PROGRAM answers, `explain` tells of the answer, the change is made, and PROGRAM no longer stops there. In N networks made
+at random (as tests/fuzz.py has them) each sentence is tried likewise: where it says that a row of an ACL or a route let a packet pass,
+PROGRAM stops the packet there once that row denies, or the route is a blackhole; and what would have to change is changed. Answers that
+are damaged, or about another bundle, are refused. The last line is 'N passed, M failed'.
+"""
+
+import argparse
+import contextlib
+import copy
+import io
+import itertools
+import json
+import os
+import random
+import re
+import runpy
+import subprocess
+import sys
+import tempfile
+
+import networks
+
+TOP = os.path.dirname(os.path.dirname(os.path.abspath(__file__)))
+DATA = os.path.join(TOP, "crates", "cli_rows", "data")
+ANYWHERE = "0.0.0.0/0"
+
+# vpc-a (a host, a NAT gateway, an appliance) and vpc-b (a host), with a peering and a transit gateway between them.
+BASE = json.loads("""{
+"Vpcs": [{"VpcId": "vpc-a", "CidrBlock": "10.1.0.0/16", "Tags": [{"Key": "Name", "Value": "shop"}]}, {"VpcId": "vpc-b", "CidrBlock": "10.2.0.0/16"}],
+"Subnets": [{"SubnetId": "subnet-a", "VpcId": "vpc-a", "AvailabilityZone": "z1"}, {"SubnetId": "subnet-n", "VpcId": "vpc-a", "AvailabilityZone": "z1"},
+            {"SubnetId": "subnet-b", "VpcId": "vpc-b", "AvailabilityZone": "z1"}],
+"NetworkInterfaces": [
+  {"NetworkInterfaceId": "eni-a", "SubnetId": "subnet-a", "PrivateIpAddress": "10.1.1.10", "Groups": [{"GroupId": "sg-a"}], "TagSet": [{"Key": "Name", "Value": "web one"}]},
+  {"NetworkInterfaceId": "eni-c", "SubnetId": "subnet-n", "PrivateIpAddress": "10.1.3.10", "Groups": [{"GroupId": "sg-c"}],
+   "PrivateIpAddresses": [{"PrivateIpAddress": "10.1.3.10", "Association": {"PublicIp": "203.0.113.10"}}]},
+  {"NetworkInterfaceId": "eni-f", "SubnetId": "subnet-n", "PrivateIpAddress": "10.1.3.4", "Groups": [], "SourceDestCheck": false},
+  {"NetworkInterfaceId": "eni-n", "SubnetId": "subnet-n", "PrivateIpAddress": "10.1.3.5", "Groups": [], "SourceDestCheck": false, "InterfaceType": "nat_gateway",
+   "PrivateIpAddresses": [{"PrivateIpAddress": "10.1.3.5", "Association": {"PublicIp": "203.0.113.5"}}]},
+  {"NetworkInterfaceId": "eni-b", "SubnetId": "subnet-b", "PrivateIpAddress": "10.2.1.10", "Groups": [{"GroupId": "sg-b"}]}],
+"RouteTables": [
+  {"RouteTableId": "rtb-a", "VpcId": "vpc-a", "Associations": [{"Main": true}], "Routes": [{"DestinationCidrBlock": "10.1.0.0/16", "GatewayId": "local"},
+    {"DestinationCidrBlock": "10.2.0.0/16", "TransitGatewayId": "tgw-1"}, {"DestinationCidrBlock": "10.7.0.0/16", "VpcPeeringConnectionId": "pcx-1"},
+    {"DestinationCidrBlock": "10.2.9.0/24", "VpcPeeringConnectionId": "pcx-1"}, {"DestinationCidrBlock": "0.0.0.0/0", "NatGatewayId": "nat-1"}]},
+  {"RouteTableId": "rtb-n", "VpcId": "vpc-a", "Associations": [{"SubnetId": "subnet-n"}], "Routes": [{"DestinationCidrBlock": "10.1.0.0/16", "GatewayId": "local"},
+    {"DestinationCidrBlock": "0.0.0.0/0", "GatewayId": "igw-1"}]},
+  {"RouteTableId": "rtb-b", "VpcId": "vpc-b", "Associations": [{"Main": true}], "Routes": [{"DestinationCidrBlock": "10.2.0.0/16", "GatewayId": "local"},
+    {"DestinationCidrBlock": "10.1.0.0/16", "TransitGatewayId": "tgw-1"}]}],
+"NetworkAcls": [
+  {"NetworkAclId": "acl-a", "Associations": [{"SubnetId": "subnet-a"}, {"SubnetId": "subnet-n"}], "Entries": [
+    {"RuleNumber": 100, "Egress": false, "Protocol": "-1", "RuleAction": "allow", "CidrBlock": "0.0.0.0/0"}, {"RuleNumber": 100, "Egress": true, "Protocol": "-1", "RuleAction": "allow", "CidrBlock": "0.0.0.0/0"}]},
+  {"NetworkAclId": "acl-b", "Associations": [{"SubnetId": "subnet-b"}], "Entries": [
+    {"RuleNumber": 100, "Egress": false, "Protocol": "-1", "RuleAction": "allow", "CidrBlock": "0.0.0.0/0"}, {"RuleNumber": 100, "Egress": true, "Protocol": "-1", "RuleAction": "allow", "CidrBlock": "0.0.0.0/0"}]}],
+"SecurityGroups": [
+  {"GroupId": "sg-a", "VpcId": "vpc-a", "IpPermissions": [], "IpPermissionsEgress": [{"IpProtocol": "-1", "IpRanges": [{"CidrIp": "0.0.0.0/0"}]}]},
+  {"GroupId": "sg-b", "VpcId": "vpc-b", "GroupName": "database of the shop", "IpPermissions": [{"IpProtocol": "tcp", "FromPort": 5432, "ToPort": 5432, "IpRanges": [{"CidrIp": "10.1.1.0/24"}]}],
+   "IpPermissionsEgress": []},
+  {"GroupId": "sg-c", "VpcId": "vpc-a", "IpPermissions": [{"IpProtocol": "-1", "IpRanges": [{"CidrIp": "0.0.0.0/0"}]}], "IpPermissionsEgress": [{"IpProtocol": "-1", "IpRanges": [{"CidrIp": "0.0.0.0/0"}]}]}],
+"InternetGateways": [{"InternetGatewayId": "igw-1", "Attachments": [{"State": "available", "VpcId": "vpc-a"}]}, {"InternetGatewayId": "igw-2", "Attachments": []}],
+"NatGateways": [{"NatGatewayId": "nat-1", "State": "available", "SubnetId": "subnet-n", "NatGatewayAddresses": [{"NetworkInterfaceId": "eni-n", "PrivateIp": "10.1.3.5"}]}],
+"VpcPeeringConnections": [{"VpcPeeringConnectionId": "pcx-1", "Status": {"Code": "active"}, "RequesterVpcInfo": {"VpcId": "vpc-a"}, "AccepterVpcInfo": {"VpcId": "vpc-b"}}],
+"TransitGatewayVpcAttachments": [
+  {"TransitGatewayAttachmentId": "att-a", "TransitGatewayId": "tgw-1", "VpcId": "vpc-a", "SubnetIds": ["subnet-a"], "State": "available"},
+  {"TransitGatewayAttachmentId": "att-b", "TransitGatewayId": "tgw-1", "VpcId": "vpc-b", "SubnetIds": ["subnet-b"], "State": "available"}],
+"TransitGatewayAttachments": [{"TransitGatewayAttachmentId": "att-a", "Association": {"TransitGatewayRouteTableId": "tgw-rtb"}},
+                              {"TransitGatewayAttachmentId": "att-b", "Association": {"TransitGatewayRouteTableId": "tgw-rtb"}}],
+"TransitGatewayRoutes": [{"TransitGatewayRouteTableId": "tgw-rtb", "Routes": [
+  {"DestinationCidrBlock": "10.1.0.0/16", "Type": "propagated", "State": "active", "TransitGatewayAttachments": [{"TransitGatewayAttachmentId": "att-a"}]},
+  {"DestinationCidrBlock": "10.2.0.0/16", "Type": "propagated", "State": "active", "TransitGatewayAttachments": [{"TransitGatewayAttachmentId": "att-b"}]}]}],
+"Appliances": [{"NetworkInterfaceId": "eni-f", "Kind": "service", "Ports": "443-443"}]}""")
+
+
+def row(bundle, name):
+    """The row of a bundle that has an id of its own."""
+    return next(it for rows in bundle.values() for it in rows if name in list(it.values())[:1])
+
+
+def route(bundle, table, destination):
+    return next(it for it in row(bundle, table)["Routes"] if it["DestinationCidrBlock"] == destination)
+
+
+def updated(bundle, name, **members):
+    row(bundle, name).update(members)
+
+
+def routed(bundle, table, destination, **target):
+    """A further route, before all others."""
+    row(bundle, table)["Routes"].insert(0, {"DestinationCidrBlock": destination, **target})
+
+
+def ruled(bundle, acl, number, outward, allow, block=ANYWHERE, **ports):
+    row(bundle, acl)["Entries"].append({"RuleNumber": number, "Egress": outward, "Protocol": "6" if ports else "-1", "RuleAction": "allow" if allow else "deny", "CidrBlock": block, **ports})
+
+
+def permitted(bundle, group, outward, block, proto="tcp", port=None):
+    ports = {} if port is None else {"FromPort": port, "ToPort": port}
+    row(bundle, group)["IpPermissionsEgress" if outward else "IpPermissions"].append({"IpProtocol": proto, **ports, "IpRanges": [{"CidrIp": block}]})
+
+
+def several(*acts):
+    return lambda bundle: [act(bundle) for act in acts]
+
+
+def nothing(_):
+    pass
+
+
+def act(function, *words, **members):
+    return lambda bundle: function(bundle, *words, **members)
+
+
+def in_circle(bundle):
+    """Two tables that send to each other's attachment whatever they don't know."""
+    routed(bundle, "rtb-a", "172.20.0.0/16", TransitGatewayId="tgw-1")
+    routed(bundle, "rtb-b", "172.20.0.0/16", TransitGatewayId="tgw-1")
+    updated(bundle, "att-a", SubnetIds=["subnet-a"])
+    for table, attachment in (("tgw-rtb-a", "att-b"), ("tgw-rtb-b", "att-a")):
+        bundle["TransitGatewayRoutes"].append({"TransitGatewayRouteTableId": table, "Routes": [{"DestinationCidrBlock": "172.20.0.0/16", "Type": "static", "State": "active", "TransitGatewayAttachments": [{"TransitGatewayAttachmentId": attachment}]}]})
+    for it, table in (("att-a", "tgw-rtb-a"), ("att-b", "tgw-rtb-b")):
+        next(that for that in bundle["TransitGatewayAttachments"] if that["TransitGatewayAttachmentId"] == it)["Association"]["TransitGatewayRouteTableId"] = table
+
+
+def public_way(bundle):
+    """eni-a has a public address, and its table leads back by the NAT gateway."""
+    updated(bundle, "eni-a", PrivateIpAddresses=[{"PrivateIpAddress": "10.1.1.10", "Association": {"PublicIp": "203.0.113.20"}}])
+    permitted(bundle, "sg-a", False, ANYWHERE, port=22)
+
+
+def behind_appliance(bundle):
+    """Replies come to eni-a by way of eni-f, which has a group without rules, and requests go another way."""
+    bundle["SecurityGroups"].append({"GroupId": "sg-f", "VpcId": "vpc-a", "IpPermissions": [], "IpPermissionsEgress": []})
+    updated(bundle, "eni-f", Groups=[{"GroupId": "sg-f"}])
+    bundle["Appliances"][0]["Kind"] = "all"
+    routed(bundle, "rtb-a", "10.1.1.10/32", NetworkInterfaceId="eni-f")
+
+
+def borrowed_address(bundle):
+    """eni-a sends from an address of eni-c, which eni-b takes too."""
+    updated(bundle, "eni-a", SourceDestCheck=False)
+    permitted(bundle, "sg-b", False, "10.1.3.10/32", port=5432)
+
+
+TO_B, TO_NET = "open from eni-a tcp 10.1.1.10 10.2.1.10 5000 {}", "open from eni-a tcp 10.1.1.10 {} 5000 443"
+MANY = 55_000
+
+# What it is, how the network differs from BASE, the command and its words, the stop, what the sentences say why and what has to change, and that change: of
+# the bundle, or of the words.
+STOPS = [
+    ("Detached", act(updated, "eni-b", Status="available"), "trace", TO_B.format(5432), "stopped Detached eni-b -", "eni-b is attached to nothing (its status is available)", "eni-b would have to be attached",
+     act(updated, "eni-b", Status="in-use")),
+    ("SourceCheck", nothing, "trace", "open from eni-a tcp 10.1.1.99 10.2.1.10 5000 5432", "stopped SourceCheck eni-a -", "10.1.1.99 is none of the private addresses of eni-a (web one) (10.1.1.10)",
+     "come from one of these addresses, or the source/destination check of eni-a (web one) to be off", act(updated, "eni-a", SourceDestCheck=False)),
+    ("DestCheck", several(act(routed, "rtb-a", "10.2.1.10/32", NetworkInterfaceId="eni-c")), "trace", TO_B.format(5432), "stopped DestCheck eni-c -",
+     "10.2.1.10 is none of the private addresses of eni-c (10.1.3.10)", "go to one of these addresses, or the source/destination check of eni-c to be off", act(updated, "eni-c", SourceDestCheck=False)),
+    ("GroupsOut", act(updated, "sg-a", IpPermissionsEgress=[{"IpProtocol": "tcp", "FromPort": 443, "ToPort": 443, "IpRanges": [{"CidrIp": ANYWHERE}]}]), "trace", TO_B.format(5432),
+     "stopped GroupsOut eni-a -", "no outbound rule of sg-a allows tcp 5432 to 10.2.1.10. To 10.2.1.10 it allows tcp 443 alone.", "an outbound rule of sg-a would have to allow tcp 5432 to 10.2.1.10",
+     act(permitted, "sg-a", True, "10.2.1.10/32", port=5432)),
+    ("GroupsIn", nothing, "trace", TO_B.format(22), "stopped GroupsIn eni-b -", "no inbound rule of sg-b (database of the shop) allows tcp 22 from 10.1.1.10. From 10.1.1.10 it allows tcp 5432 alone.",
+     "an inbound rule of sg-b (database of the shop) would have to allow tcp 22 from 10.1.1.10", act(permitted, "sg-b", False, "10.1.1.10/32", port=22)),
+    ("GroupsIn, by another source", nothing, "trace", "open from eni-c tcp 10.1.3.10 10.1.1.10 1 5432", "stopped GroupsIn eni-a -", "no inbound rule of sg-a allows tcp 5432 from 10.1.3.10. There is no inbound rule at all.",
+     "an inbound rule of sg-a would have to allow tcp 5432 from 10.1.3.10", act(permitted, "sg-a", False, "10.1.3.10/32", port=5432)),
+    ("GroupsIn of a reply", behind_appliance, "ask", "from eni-a to eni-b port 5432-5432", "reply GroupsIn eni-f -",
+     "no inbound rule of sg-f allows tcp 0 from 10.2.1.10, and it answers no connection that passed eni-f before. There is no inbound rule at all.", "or its request to have passed here before", act(permitted, "sg-f", False, "10.2.1.10/32")),
+    ("GroupsIn of a reply, by the way of the request", behind_appliance, "ask", "from eni-a to eni-b port 5432-5432", "reply GroupsIn eni-f -", "it answers no connection that passed eni-f before", "or its request to have passed here before",
+     several(act(routed, "rtb-a", "10.2.1.10/32", NetworkInterfaceId="eni-f"), act(permitted, "sg-f", False, "10.2.1.10/32", "udp"), act(permitted, "sg-f", True, ANYWHERE, "-1"), act(permitted, "sg-f", False, "10.1.1.10/32", "-1"),
+             lambda bundle: row(bundle, "rtb-n")["Routes"].insert(0, {"DestinationCidrBlock": "10.2.0.0/16", "TransitGatewayId": "tgw-1"}))),
+    ("NotAHost", act(updated, "nat-1", State="deleted"), "trace", TO_NET.format("10.1.3.5"), "stopped NotAHost eni-n -", "eni-n is the interface of a gateway (its type is nat_gateway), and hosts nothing at 10.1.3.5",
+     "go to the address of a host's interface", TO_NET.format("10.1.3.10")),
+    ("NotAHost, by a route", act(routed, "rtb-a", "192.0.2.0/24", NetworkInterfaceId="eni-n"), "trace", TO_NET.format("192.0.2.1"), "stopped NotAHost eni-n -", "eni-n is the interface of a gateway (its type is nat_gateway), and hosts nothing",
+     "the route 192.0.2.0/24 to eni-n of rtb-a would have to lead to a host's interface", act(lambda bundle: route(bundle, "rtb-a", "192.0.2.0/24").update(NetworkInterfaceId="eni-f"))),
+    ("ApplianceDrop", act(routed, "rtb-a", "192.0.2.0/24", NetworkInterfaceId="eni-f"), "trace", "open from eni-a tcp 10.1.1.10 192.0.2.1 5000 80", "stopped ApplianceDrop eni-f -",
+     "the appliance at eni-f forwards tcp and udp to and from port 443 alone, and not tcp from 10.1.1.10 port 5000 to 192.0.2.1 port 80", "what is told of it in Appliances would have to forward", lambda bundle: bundle["Appliances"][0].update(Kind="all")),
+    ("NoRoute", nothing, "trace", "open from eni-b tcp 10.2.1.10 192.0.2.1 5000 443", "stopped GroupsOut eni-b -", "There is no outbound rule at all", "an outbound rule of sg-b", act(permitted, "sg-b", True, ANYWHERE, "-1")),
+    ("NoRoute", act(permitted, "sg-b", True, ANYWHERE, "-1"), "trace", "open from eni-b tcp 10.2.1.10 192.0.2.1 5000 443", "stopped NoRoute rtb-b -", "rtb-b, the table of subnet-b, has no route for 192.0.2.1", "a route of rtb-b would have to hold 192.0.2.1",
+     act(routed, "rtb-b", "192.0.2.0/24", TransitGatewayId="tgw-1")),
+    ("Blackhole", act(routed, "rtb-a", "10.2.1.0/24", VpcPeeringConnectionId="pcx-9", State="blackhole"), "trace", TO_B.format(5432), "stopped Blackhole rtb-a 10.2.1.0/24",
+     "its route 10.2.1.0/24 to pcx-9, which is chosen for 10.2.1.10, is a blackhole", "the route 10.2.1.0/24 of rtb-a would have to lead to a target that is there, or be deleted", lambda bundle: row(bundle, "rtb-a")["Routes"].pop(0)),
+    ("AclOut", act(ruled, "acl-a", 90, True, False, "10.2.0.0/16", PortRange={"From": 5000, "To": 6000}), "trace", TO_B.format(5432), "stopped AclOut acl-a 90",
+     "outbound row 90 of acl-a denies tcp 5000 to 6000 to 10.2.0.0/16, and so refuses tcp 5432 to 10.2.1.10 on its way out of subnet-a", "an outbound row of acl-a with a number below 90 would have to allow tcp 5432 to 10.2.1.10",
+     act(ruled, "acl-a", 89, True, True, "10.2.1.10/32", PortRange={"From": 5432, "To": 5432})),
+    ("AclIn", lambda bundle: row(bundle, "acl-a")["Entries"].pop(0), "trace", TO_NET.format("10.1.3.10"), "stopped AclIn acl-a 32767", "no inbound row of acl-a allows tcp 443 from 10.1.1.10 on its way into subnet-n; its last row, 32767, refuses the rest",
+     "an inbound row of acl-a with a number below 32767 would have to allow tcp 443 from 10.1.1.10", act(ruled, "acl-a", 7, False, True, "10.1.1.10/32", PortRange={"From": 443, "To": 443})),
+    ("AclIn by row 1", act(ruled, "acl-a", 1, False, False), "trace", TO_NET.format("10.1.3.10"), "stopped AclIn acl-a 1", "inbound row 1 of acl-a denies all protocols from anywhere", "inbound row 1 of acl-a would have to allow tcp 443 from 10.1.1.10, or be deleted",
+     lambda bundle: row(bundle, "acl-a")["Entries"].pop()),
+    ("NoHost", nothing, "trace", TO_NET.format("10.1.9.9"), "stopped NoHost vpc-a -", "no interface of VPC vpc-a (shop) has the address 10.1.9.9", "an interface of vpc-a (shop) would have to have 10.1.9.9",
+     lambda bundle: bundle["NetworkInterfaces"].append({"NetworkInterfaceId": "eni-z", "SubnetId": "subnet-a", "PrivateIpAddress": "10.1.9.9"})),
+    ("NoGateway", several(act(updated, "eni-b", PrivateIpAddresses=[{"PrivateIpAddress": "10.2.1.10", "Association": {"PublicIp": "203.0.113.30"}}])), "trace", "open from internet tcp 198.51.100.7 203.0.113.30 1 2", "stopped NoGateway vpc-b -",
+     "203.0.113.30 is a public address of eni-b, in VPC vpc-b, and no internet gateway is attached to that VPC", "an internet gateway would have to be attached to vpc-b", act(updated, "igw-2", Attachments=[{"State": "available", "VpcId": "vpc-b"}])),
+    ("GatewayDetached", act(routed, "rtb-a", "192.0.2.0/24", GatewayId="igw-2"), "trace", TO_NET.format("192.0.2.1"), "stopped GatewayDetached igw-2 -", "the route 192.0.2.0/24 to igw-2 of rtb-a leads to igw-2, which isn't attached to VPC vpc-a (shop)",
+     "igw-2 would have to be attached to VPC vpc-a (shop), or the route to lead to igw-1, which is", lambda bundle: route(bundle, "rtb-a", "192.0.2.0/24").update(GatewayId="igw-1")),
+    ("NoPublic", act(routed, "rtb-a", "192.0.2.0/24", GatewayId="igw-1"), "trace", TO_NET.format("192.0.2.1"), "stopped NoPublic igw-1 -", "10.1.1.10, an address of eni-a (web one), has no public address", "10.1.1.10 would have to get a public address, or the route to lead to a NAT gateway",
+     act(updated, "eni-a", PrivateIpAddresses=[{"PrivateIpAddress": "10.1.1.10", "Association": {"PublicIp": "203.0.113.20"}}])),
+    ("NoPublic, for a NAT gateway", act(routed, "rtb-a", "192.0.2.0/24", GatewayId="igw-1"), "trace", TO_NET.format("192.0.2.1"), "stopped NoPublic igw-1 -", "has no public address", "or the route to lead to a NAT gateway",
+     lambda bundle: (route(bundle, "rtb-a", "192.0.2.0/24").pop("GatewayId"), route(bundle, "rtb-a", "192.0.2.0/24").update(NatGatewayId="nat-1"))),
+    ("PrivateAddress", nothing, "trace", TO_NET.format("10.9.0.1"), "stopped PrivateAddress internet -", "its destination 10.9.0.1 is non-routable", "its destination 10.9.0.1 would have to be a public address", TO_NET.format("198.51.100.7")),
+    ("PrivateAddress, both", nothing, "trace", "open from internet tcp 10.9.0.1 192.168.0.1 1 2", "stopped PrivateAddress internet -", "its source 10.9.0.1 and its destination 192.168.0.1 are non-routable", "would have to be public addresses",
+     "open from internet tcp 198.51.100.7 203.0.113.10 1 2"),
+    ("PrivateAddress, by a route", nothing, "trace", TO_NET.format("10.9.0.1"), "stopped PrivateAddress internet -", "10.9.0.1", "or routes to keep the packet off the internet", act(routed, "rtb-a", "10.9.0.0/16", TransitGatewayId="tgw-1")),
+    ("NatNotAvailable", act(updated, "nat-1", State="failed"), "trace", TO_NET.format("198.51.100.7"), "stopped NatNotAvailable nat-1 -", "the state of NAT gateway nat-1 is failed", "the route 0.0.0.0/0 to nat-1 of rtb-a would have to lead to a NAT gateway that is available",
+     act(updated, "nat-1", State="available")),
+    ("NatAnswer", public_way, "ask", "from internet to eni-a src 198.51.100.7/32 dst 203.0.113.20/32 port 22-22", "reply NatAnswer nat-1 -", "the packet is an answer, and a NAT gateway sends out only what opens a connection",
+     "would have to lead back the way that the request came, as to the internet gateway", act(routed, "rtb-a", "198.51.100.0/24", GatewayId="igw-1")),
+    ("NatProtocol", nothing, "trace", "open from eni-a 50 10.1.1.10 198.51.100.7 0 0", "stopped NatProtocol nat-1 -", "the packet is protocol 50, and a NAT gateway carries TCP, UDP and ICMP alone", "would have to be one of these", "open from eni-a udp 10.1.1.10 198.51.100.7 1 2"),
+    ("NatFull", nothing, "replay", "\n".join(f"open from eni-a tcp 10.1.1.10 198.51.100.7 {1024 + k} 443" for k in range(MANY + 1)), f"event {MANY + 1} stopped NatFull nat-1 -", "55,000 connections over nat-1 share its protocol, destination and destination port already",
+     "fewer connections would have to go there at a time", "\n".join(f"open from eni-a tcp 10.1.1.10 198.51.100.7 {1024 + k} 443" for k in range(MANY))),
+    ("NatUnsolicited", nothing, "trace", "open from internet tcp 198.51.100.7 203.0.113.5 443 5000", "stopped NatUnsolicited nat-1 -", "it opens a connection, and NAT gateway nat-1 lets in only the answers to what it sent out", "or the packet to go to a public address that is the host's own",
+     "open from internet tcp 198.51.100.7 203.0.113.10 443 5000"),
+    ("NatUnsolicited, replayed", nothing, "replay", "answer from internet tcp 198.51.100.7 203.0.113.5 443 5000", "event 1 stopped NatUnsolicited nat-1 -", "it answers nothing that went out there: NAT gateway nat-1 lets in only the answers",
+     "the connection would have to be opened from inside", "open from eni-a tcp 10.1.1.10 198.51.100.7 5000 443\nanswer from internet tcp 198.51.100.7 203.0.113.5 443 5000"),
+    ("PeerNotActive", act(updated, "pcx-1", Status={"Code": "pending-acceptance"}), "trace", TO_NET.format("10.2.9.1"), "stopped PeerNotActive pcx-1 -", "the status of peering pcx-1 is pending-acceptance", "pcx-1 would have to be active", act(updated, "pcx-1", Status={"Code": "active"})),
+    ("PeerSource", act(updated, "eni-a", SourceDestCheck=False), "trace", "open from eni-a tcp 172.16.0.1 10.2.9.1 1 2", "stopped PeerSource pcx-1 -", "the source 172.16.0.1 lies in no block of vpc-a (shop) (10.1.0.0/16)", "the source would have to lie in a block of vpc-a (shop)",
+     act(updated, "vpc-a", CidrBlockAssociationSet=[{"CidrBlock": "172.16.0.0/24"}])),
+    ("PeerDestination", nothing, "trace", TO_NET.format("10.7.0.1"), "stopped PeerDestination pcx-1 -", "the destination 10.7.0.1 lies in no block of vpc-b (10.2.0.0/16), the VPC at the other side", "the destination would have to lie in a block of vpc-b",
+     act(updated, "vpc-b", CidrBlockAssociationSet=[{"CidrBlock": "10.7.0.0/24"}])),
+    ("TgwNoAttachment", act(updated, "att-a", State="deleting"), "trace", TO_B.format(5432), "stopped TgwNoAttachment tgw-1 -", "transit gateway tgw-1 has no attachment to VPC vpc-a (shop) that is available", "VPC vpc-a (shop) would have to be attached to tgw-1", act(updated, "att-a", State="available")),
+    ("TgwNoZone", several(act(updated, "att-a", SubnetIds=["subnet-n"]), act(updated, "subnet-n", AvailabilityZone="z9")), "trace", TO_B.format(5432), "stopped TgwNoZone att-a -", "attachment att-a has no subnet in zone z1, that of subnet-a", "att-a would have to get a subnet in zone z1",
+     act(updated, "att-a", SubnetIds=["subnet-n", "subnet-a"])),
+    ("TgwNoTable", lambda bundle: bundle["TransitGatewayAttachments"].pop(0), "trace", TO_B.format(5432), "stopped TgwNoTable att-a -", "attachment att-a is associated with no route table", "att-a would have to be associated with a route table of the transit gateway",
+     lambda bundle: bundle["TransitGatewayAttachments"].append({"TransitGatewayAttachmentId": "att-a", "Association": {"TransitGatewayRouteTableId": "tgw-rtb"}})),
+    ("TgwNoRoute", lambda bundle: row(bundle, "tgw-rtb")["Routes"].pop(), "trace", TO_B.format(5432), "stopped TgwNoRoute tgw-rtb -", "tgw-rtb, the transit gateway's table of att-a, has no route for 10.2.1.10", "a route of tgw-rtb would have to hold 10.2.1.10",
+     lambda bundle: row(bundle, "tgw-rtb")["Routes"].append({"DestinationCidrBlock": "10.2.1.0/24", "Type": "static", "State": "active", "TransitGatewayAttachments": [{"TransitGatewayAttachmentId": "att-b"}]})),
+    ("TgwBlackhole", lambda bundle: row(bundle, "tgw-rtb")["Routes"].append({"DestinationCidrBlock": "10.2.1.0/24", "Type": "static", "State": "blackhole"}), "trace", TO_B.format(5432), "stopped TgwBlackhole tgw-rtb 10.2.1.0/24",
+     "the route 10.2.1.0/24 of tgw-rtb, which is chosen for 10.2.1.10, is a blackhole", "would have to lead to an attachment, or be deleted", lambda bundle: row(bundle, "tgw-rtb")["Routes"].pop()),
+    ("Unmodelled, a target", act(routed, "rtb-a", "192.0.2.0/24", GatewayId="vgw-1"), "trace", TO_NET.format("192.0.2.1"), "stopped Unmodelled vgw-1 -", "not known: vgw-1 leads beyond what vpc follows. The packet is neither let through nor refused here.", "nothing that is known", None),
+    ("Unmodelled, a NAT gateway", act(updated, "nat-1", SubnetId=None), "trace", TO_NET.format("198.51.100.7"), "stopped Unmodelled nat-1 -", "not known: NAT gateway nat-1 has no subnet of its own", "nothing that is known", act(updated, "nat-1", SubnetId="subnet-n")),
+    ("Unmodelled, a peering", act(updated, "pcx-1", AccepterVpcInfo={"VpcId": "vpc-9"}), "trace", TO_NET.format("10.2.9.1"), "stopped Unmodelled pcx-1 -", "not known: the VPC at the other side of peering pcx-1 isn't described", "nothing that is known", act(updated, "pcx-1", AccepterVpcInfo={"VpcId": "vpc-b"})),
+    ("Unmodelled, an attachment", act(updated, "att-b", VpcId="vpc-9"), "trace", TO_B.format(5432), "stopped Unmodelled att-b -", "not known: attachment att-b leads to a VPC that isn't described, or has no subnet", "nothing that is known", act(updated, "att-b", VpcId="vpc-b")),
+    ("Unmodelled, a transit route", lambda bundle: row(bundle, "tgw-rtb")["Routes"][1].pop("TransitGatewayAttachments"), "trace", TO_B.format(5432), "stopped Unmodelled tgw-rtb -", "not known: the chosen route of tgw-rtb names no attachment", "nothing that is known", None),
+    ("Unmodelled, in a report", act(routed, "rtb-a", "192.0.2.0/24", GatewayId="vgw-1"), "ask", "from eni-a to internet dst 192.0.2.0/24", "request Unmodelled vgw-1 -", "not known: vgw-1 leads beyond what vpc follows", "nothing that is known", None),
+    ("Loop", in_circle, "trace", TO_NET.format("172.20.0.1"), "stopped Loop att-a -", "the packet would come to att-a a second time: routes lead it in a circle", "one of the routes on the way would have to lead elsewhere: those of rtb-a, tgw-rtb-a, rtb-b and tgw-rtb-b",
+     lambda bundle: route(bundle, "rtb-b", "172.20.0.0/16").update(DestinationCidrBlock="172.21.0.0/16")),
+    ("WrongPlace", act(permitted, "sg-b", False, "10.1.1.10/32", port=80), "ask", "from eni-a to eni-c dst 10.2.1.10/32 port 80-80", "request WrongPlace eni-b -", "nothing stopped it, but it arrived at eni-b as tcp from 10.1.1.10 port 0 to 10.2.1.10 port 80, and not at eni-c",
+     "the packet would have to go to an address of eni-c", "from eni-a to eni-c dst 10.1.3.10/32 port 80-80"),
+    ("WrongPlace, for the internet", nothing, "ask", "from eni-a to internet dst 203.0.113.10/32 port 80-80", "request WrongPlace eni-c -", "it arrived at eni-c", "the packet would have to go to an address that is none of the bundle's public ones", "from eni-a to internet dst 198.51.100.7/32 port 80-80"),
+    ("WrongReturn", borrowed_address, "ask", "from eni-a to eni-b src 10.1.3.10/32 port 5432-5432", "reply WrongReturn eni-c -", "its reply arrived at eni-c as tcp from 10.2.1.10 port 5432 to 10.1.3.10 port 0, and not at eni-a (web one)",
+     "the request would have to come from an address of eni-a (web one)", "from eni-a to eni-b src 10.1.1.10/32 port 5432-5432"),
+    ("WrongReturn, by a route", borrowed_address, "ask", "from eni-a to eni-b src 10.1.3.10/32 port 5432-5432", "reply WrongReturn eni-c -", "the request arrived, but its reply arrived at eni-c", "or routes to lead its reply to eni-a (web one)",
+     act(routed, "rtb-a", "10.1.3.10/32", NetworkInterfaceId="eni-a")),
+    ("NoReply", act(permitted, "sg-b", False, "10.1.1.10/32", "icmp"), "ask", "from eni-a to eni-b proto icmp port 771-771", "reply NoReply eni-b -", "icmp type 3 code 3 is no echo request (type 8 code 0), so nothing comes back", "only an echo request is answered", "from eni-a to eni-b proto icmp port 2048-2048"),
+    ("TooFar", None, "trace", "open from eni-1 tcp 10.1.1.10 172.20.0.1 1 2", "stopped TooFar subnet-22 -", "the packet has come to 64 places without arriving, and would come to subnet-22 next", "one of the routes on the way would have to lead elsewhere", lambda bundle: bundle["TransitGatewayRoutes"][9]["Routes"].pop()),
+]
+
+
+class Results:
+    def __init__(self):
+        self.passed = self.failed = 0
+
+    def add(self, name, found, wanted):
+        if found == wanted:
+            self.passed += 1
+            return
+        self.failed += 1
+        print(f"FAILED: {name}\n  wanted: {str(wanted)[:900]}\n  found:  {str(found)[:900]}")
+
+
+class Input:
+    """Standard input, for a call within this process."""
+
+    def __init__(self, data):
+        self.buffer = io.BytesIO(data)
+
+
+def explain(data, *words):
+    """The status of explain, called within this process, and what it prints."""
+    out, err = io.StringIO(), io.StringIO()
+    before, sys.stdin = sys.stdin, Input(data.encode() if isinstance(data, str) else data)
+    try:
+        with contextlib.redirect_stdout(out), contextlib.redirect_stderr(err):
+            status = EXPLAIN["main"](list(words))
+    finally:
+        sys.stdin = before
+    return status, out.getvalue(), err.getvalue()
+
+
+class Asked:
+    """The program, over bundles in a folder."""
+
+    def __init__(self, program, folder):
+        self.program, self.folder, self.path = program, folder, os.path.join(folder, "bundle.json")
+
+    def answer(self, bundle, command, words):
+        """The text of a command over a bundle, which stands at self.path then."""
+        with open(self.path, "w", encoding="utf-8") as file:
+            json.dump(bundle, file)
+        if command in ("replay", "check"):
+            second = os.path.join(self.folder, "second")
+            with open(second, "w", encoding="utf-8") as file:
+                file.write(words)
+            words = second
+        ran = subprocess.run([self.program, command, self.path, *words.split()], capture_output=True, check=False)
+        return ran.stdout.decode()
+
+
+def sentences(text):
+    """What is told why, and what would have to change."""
+    return re.findall(r"^  Why: (.*)$", text, re.M), re.findall(r"^  To change: (.*)$", text, re.M)
+
+
+def run_stop(results, asked, it):
+    name, differs, command, words, stop, why, change, act_of = it
+    bundle = copy.deepcopy(BASE)
+    if differs is None:
+        with open(os.path.join(DATA, "sites_in_a_row.json"), encoding="utf-8") as file:
+            bundle = json.load(file)
+    else:
+        differs(bundle)
+    text = asked.answer(bundle, command, words)
+    results.add(f"{name}: stops", stop in text, True)
+    status, out, err = explain(text, asked.path)
+    whys, changes = sentences(out)
+    results.add(f"{name}: told", (status, err, len(whys), len(whys) == len(changes)), (0, "", 1, True))
+    results.add(f"{name}: why", [why] if any(why in it for it in whys) else whys, [why])
+    results.add(f"{name}: names the component", stop.split(" ")[-2] in out, True)
+    results.add(f"{name}: to change", [change] if any(change in it for it in changes) else changes, [change])
+    if isinstance(act_of, str):
+        results.add(f"{name}: changed", stop in asked.answer(bundle, command, act_of), False)
+    elif act_of:
+        act_of(bundle)
+        changed = asked.answer(bundle, command, words)
+        results.add(f"{name}: changed", (stop in changed, changed.startswith("refused")), (False, False))
+
+
+# ---- networks made at random
+
+def opened(bundle, group, outward, far, h):
+    """The rule that a group lacks."""
+    proto = {"IpProtocol": str(h.proto)}
+    ports = {"FromPort": h.q, "ToPort": h.q} if h.proto in (6, 17) else {"FromPort": h.q // 256, "ToPort": h.q % 256} if h.proto == 1 else {}
+    if any(it["GroupId"] == group and ("CidrIpv4" in it or "ReferencedGroupInfo" in it) for it in bundle.get("SecurityGroupRules", [])):
+        bundle["SecurityGroupRules"].append({"SecurityGroupRuleId": "sgr-new", "GroupId": group, "IsEgress": outward, **proto, **ports, "CidrIpv4": far})
+    else:
+        next(it for it in bundle["SecurityGroups"] if it["GroupId"] == group)["IpPermissionsEgress" if outward else "IpPermissions"].append({**proto, **ports, "IpRanges": [{"CidrIp": far}]})
+
+
+def by_id(bundle, name, member, wanted):
+    return next(it for it in bundle[name] if it[member] == wanted)
+
+
+def mended(bundle, stop):
+    """Changes a bundle as the sentence of a stop says. Whether there is such a change that a test can make."""
+    facts, h = stop.facts, stop.facts.get("header")
+    dotted = EXPLAIN["dotted"]
+    if stop.name in ("GroupsIn", "GroupsOut"):
+        interface = by_id(bundle, "NetworkInterfaces", "NetworkInterfaceId", stop.id)
+        outward = stop.name == "GroupsOut"
+        opened(bundle, interface["Groups"][-1]["GroupId"], outward, f"{dotted(h.dst if outward else h.src)}/32", h)
+    elif stop.name in ("AclIn", "AclOut"):
+        entries, outward = by_id(bundle, "NetworkAcls", "NetworkAclId", stop.id)["Entries"], stop.name == "AclOut"
+        if stop.rule == "1":
+            entries[:] = [it for it in entries if it["RuleNumber"] != 1 or it["Egress"] != outward]
+        else:
+            entries.append({"RuleNumber": int(stop.rule) - 1, "Egress": outward, "Protocol": str(h.proto), "RuleAction": "allow", "CidrBlock": f"{dotted(h.dst if outward else h.src)}/32"})
+    elif stop.name == "NoRoute":
+        by_id(bundle, "RouteTables", "RouteTableId", stop.id)["Routes"].append({"DestinationCidrBlock": f"{dotted(h.dst)}/32", "GatewayId": "vgw-9"})
+    elif stop.name == "Blackhole":
+        routes = by_id(bundle, "RouteTables", "RouteTableId", stop.id)["Routes"]
+        routes[:] = [it for it in routes if it.get("State") != "blackhole" or stop.rule not in (it.get("DestinationPrefixListId"), block_text(it.get("DestinationCidrBlock")))]
+    elif stop.name == "NoHost":
+        subnet = next(it for it in bundle["Subnets"] if it["VpcId"] == stop.id)["SubnetId"]
+        bundle["NetworkInterfaces"].append({"NetworkInterfaceId": "eni-new", "SubnetId": subnet, "PrivateIpAddress": dotted(h.dst)})
+    elif stop.name == "Detached":
+        by_id(bundle, "NetworkInterfaces", "NetworkInterfaceId", stop.id)["Status"] = "in-use"
+    elif stop.name in ("SourceCheck", "DestCheck"):
+        by_id(bundle, "NetworkInterfaces", "NetworkInterfaceId", stop.id)["SourceDestCheck"] = False
+    elif stop.name == "ApplianceDrop":
+        by_id(bundle, "Appliances", "NetworkInterfaceId", stop.id)["Kind"] = "all"
+    elif stop.name in ("NoGateway", "GatewayDetached"):
+        vpc = stop.id if stop.name == "NoGateway" else facts["vpc"]
+        bundle.setdefault("InternetGateways", []).append({"InternetGatewayId": "igw-new", "Attachments": [{"State": "available", "VpcId": vpc}]})
+    elif stop.name == "NoPublic" and facts["host"]:
+        interface = by_id(bundle, "NetworkInterfaces", "NetworkInterfaceId", facts["host"].id)
+        next(it for it in interface["PrivateIpAddresses"] if it["PrivateIpAddress"] == dotted(h.src))["Association"] = {"PublicIp": "192.0.2.99"}
+    elif stop.name == "PeerNotActive":
+        by_id(bundle, "VpcPeeringConnections", "VpcPeeringConnectionId", stop.id)["Status"]["Code"] = "active"
+    elif stop.name in ("PeerSource", "PeerDestination"):
+        vpc, far = (facts["vpc"], h.src) if stop.name == "PeerSource" else (facts["other"], h.dst)
+        by_id(bundle, "Vpcs", "VpcId", vpc)["CidrBlockAssociationSet"] = [{"CidrBlock": f"{dotted(far)}/32"}]
+    elif stop.name == "TgwNoZone":
+        by_id(bundle, "TransitGatewayVpcAttachments", "TransitGatewayAttachmentId", stop.id)["SubnetIds"].append(facts["subnet"])
+    elif stop.name == "TgwNoRoute":
+        rows = by_id(bundle, "TransitGatewayRoutes", "TransitGatewayRouteTableId", stop.id)["Routes"]
+        rows.append({"DestinationCidrBlock": f"{dotted(h.dst)}/32", "Type": "static", "State": "active"})
+    elif stop.name == "TgwBlackhole":
+        rows = by_id(bundle, "TransitGatewayRoutes", "TransitGatewayRouteTableId", stop.id)["Routes"]
+        rows[:] = [it for it in rows if it["State"] != "blackhole" or block_text(it["DestinationCidrBlock"]) != stop.rule]
+    else:
+        return False
+    return True
+
+
+def block_text(text):
+    return EXPLAIN["block_text"](EXPLAIN["block_of"](text)) if text else None
+
+
+def turned(bundle, note):
+    """Turns what a sentence says let a packet pass, and the stop that is then due; None where a test can't."""
+    kind, *of = note
+    if kind == "acl":
+        acl, row_of, _ = of
+        entries = by_id(bundle, "NetworkAcls", "NetworkAclId", acl.id)["Entries"]
+        first = next(it for it in entries if it["RuleNumber"] == row_of.number and it["Egress"] == row_of.outward)
+        first["RuleAction"] = "deny"
+        return f"{'AclOut' if row_of.outward else 'AclIn'} {acl.id} {row_of.number}"
+    if kind == "route":
+        table, chosen = of
+        destination = block_text_of(chosen)
+        for it in by_id(bundle, "RouteTables", "RouteTableId", table.id)["Routes"]:
+            if destination in (it.get("DestinationPrefixListId"), block_text(it.get("DestinationCidrBlock"))):
+                it["State"] = "blackhole"
+        return f"Blackhole {table.id} {destination}"
+    if kind == "transit":
+        table, chosen = of
+        for it in by_id(bundle, "TransitGatewayRoutes", "TransitGatewayRouteTableId", table)["Routes"]:
+            if block_text(it["DestinationCidrBlock"]) == EXPLAIN["block_text"](chosen.block):
+                it["State"] = "blackhole"
+        return f"TgwBlackhole {table} {EXPLAIN['block_text'](chosen.block)}"
+    return None
+
+
+def block_text_of(chosen):
+    return EXPLAIN["block_text"](chosen.block) if chosen.block else chosen.list
+
+
+def walk_of(network, words, text):
+    """The walk of a packet's words that is the text: its hops and its end."""
+    label, _, start, *header = words.split(" ")
+    hops, end = EXPLAIN["Walker"](network).walk(label, start, EXPLAIN["header_of"](" ".join(header)))
+    assert "\n".join([*EXPLAIN["printed_walk"](hops, end), ""]) == text
+    return hops, end
+
+
+def run_random(results, asked, cases):
+    wrong, told_of, tried = [], set(), 0
+    for case in range(cases):
+        rng = random.Random(case)
+        text = networks.network(rng)
+        bundle, ends = json.loads(text), networks.Ends(text)
+        for command, words in [("trace", ends.packet(rng)) for _ in range(3)] + [("ask", ends.query(rng)) for _ in range(2)]:
+            words = b" ".join(words).decode()
+            answer = asked.answer(bundle, command, words)
+            status, out, err = explain(answer, asked.path)
+            refused = answer.startswith("refused ")
+            if (status, err == "", out == "") != ((2, False, True) if refused else (0, True, False)):
+                wrong.append((case, command, words, answer[:200], err))
+                continue
+            whys, changes = sentences(out)
+            if not refused and len(whys) != len(changes):
+                wrong.append((case, command, words, out))
+            if command == "trace" and not refused:
+                tried += try_trace(wrong, told_of, asked, bundle, words, answer, (case, words))
+            if command == "ask" and not refused and not answer.startswith("reachable"):
+                tried += try_report(wrong, told_of, asked, bundle, words, answer, (case, words))
+    for it in wrong[:20]:
+        print("FAILED:", it)
+    results.add("sentences about networks made at random", len(wrong), 0)
+    results.add("what was tried", tried > cases * 3, True)
+    results.add("stops that were met", len(told_of) >= 16 or cases < 100, True)
+
+
+def try_trace(wrong, told_of, asked, bundle, words, answer, name):
+    """Turns all that let the packet pass, one after the other, and changes what would have to change."""
+    network = EXPLAIN["Network"](bundle if isinstance(bundle, list) else [bundle])
+    hops, end = walk_of(network, words, answer)
+    tried = 0
+    for number, hop in enumerate(hops, 1):
+        for note in hop.notes:
+            other = copy.deepcopy(bundle)
+            due = turned(other, note)
+            if due:
+                found = asked.answer(other, "trace", words).splitlines()
+                tried += 1
+                # (a row that lets a packet pass at one place may let it pass at an earlier one too)
+                if found[-1] != f"stopped {due}" or len(found) - 1 > number:
+                    wrong.append((name, due, found[-1]))
+    if not isinstance(end, str):
+        told_of.add(end.name)
+        other = copy.deepcopy(bundle)
+        if mended(other, end):
+            found = asked.answer(other, "trace", words).splitlines()
+            tried += 1
+            is_mended = found[0].startswith("refused description TwoInternetGateways") or found[-1] != answer.splitlines()[-1] or len(found) > len(hops) + 1
+            if found[0].startswith("refused") and "TwoInternetGateways" not in found[0] or not is_mended:
+                wrong.append((name, end.name, found[-1]))
+    return tried
+
+
+def try_report(wrong, told_of, asked, bundle, words, answer, name):
+    """Changes what would have to change for the first packet of a row, which then isn't stopped as the row says."""
+    network, tried = EXPLAIN["Network"]([bundle]), 0
+    start, goal = re.search(r"^query from (\S+) to (\S+)$", answer, re.M).groups()
+    seen = set()
+    for it in re.finditer(r"^row \d+ (request|reply) (\S+ \S+ \S+) (.*)$", answer, re.M):
+        if it[2] in seen or len(seen) == 5:
+            continue
+        seen.add(it[2])
+        header = EXPLAIN["low_corner"](EXPLAIN["box_of"](it[3]))
+        told = EXPLAIN["round_trip"](network, start, goal, header)
+        told_of.add(told.stop.name)
+        other = copy.deepcopy(bundle)
+        if mended(other, told.stop):
+            tried += 1
+            narrow = f"from {start} to {goal} proto {header.proto} src {EXPLAIN['dotted'](header.src)}/32 dst {EXPLAIN['dotted'](header.dst)}/32"
+            narrow += f" sport {header.p}-{header.p} port {header.q}-{header.q}" if header.proto in (1, 6, 17) else ""
+            before, after = asked.answer(bundle, "ask", narrow), asked.answer(other, "ask", narrow)
+            if f"{it[1]} {it[2]} " not in before or after.startswith("refused") and "TwoInternetGateways" not in after:
+                wrong.append((name, it[2], before, after))
+            elif f"{it[1]} {it[2]} " in after:
+                again = EXPLAIN["round_trip"](EXPLAIN["Network"]([other]), start, goal, header)
+                if (len(again.request), len(again.reply or [])) <= (len(told.request), len(told.reply or [])):
+                    wrong.append((name, it[2], "it still stops there"))
+    return tried
+
+
+# ---- answers to examples, and what is no answer
+
+QUESTIONS = [
+    ("one-subnet", "ask", "from eni-a to eni-b", ["outbound rule 1 of sg-a allows all protocols to anywhere", "10.0.1.20 is an address of eni-b; it stays in the subnet", "It arrives at eni-a."]),
+    ("shop", "ask", "from eni-app to internet dst 198.51.100.7/32", ["eni-app (app-1)", "its source becomes the gateway's 10.0.1.5, and its port 0 becomes 1024", "its source 10.0.1.5 becomes the public address 203.0.113.5",
+                                                                    "its destination becomes 10.0.2.10 and its port 0 again", "let it pass as the answer to a connection that passed here before"]),
+    ("shop", "ask", "from eni-web to eni-db port 5432-5432", ["no inbound rule of sg-db allows tcp 5432 from 10.0.1.10. For tcp 5432 it allows sg-app alone."]),
+    ("three-tiers", "ask", "from eni-app-a-1 to eni-db-a port 0-5431", ["Row 1 and 1 more: their requests are stopped by GroupsOut of eni-app-a-1.", "To 10.20.128.4 it allows tcp 5432 and tcp 443 alone."]),
+    ("three-tiers", "ask", "from internet to eni-db-a", ["its source 0.0.0.0 and its destination 0.0.0.0 are non-routable", "NAT gateway nat-a lets in only the answers"]),
+    ("three-tiers", "ask", "from internet to eni-db-a max 100", ["The report was cut short."]),
+    ("three-tiers", "ask", "from eni-app-a-1 to internet dst 52.218.0.0/17", ["not known", "So this is no 'no'"]),
+    ("two-accounts", "ask", "from eni-build-1 to eni-shop-1 sport 1024-65535 port 22-22", ["peering pcx-shop-tools"]),
+    ("hub", "ask", "from eni-dev-1 to eni-prod-1", ["its appliance forwards tcp and udp to and from port 443 alone", "by its route prefix list pl-spokes"]),
+    ("hub", "ask", "from eni-sandbox-1 to eni-shared-1 sport 1024-65535", ["its requests arrive, and the replies are stopped by TgwBlackhole", "of tgw-rtb-spokes, which is chosen for 10.43.16.4, is a blackhole"]),
+]
+
+
+def run_examples(results, asked):
+    for bundle, command, words, told in QUESTIONS:
+        path = os.path.join(TOP, "examples", f"{bundle}.json")
+        text = subprocess.run([asked.program, command, path, *words.split()], capture_output=True, check=False).stdout.decode()
+        status, out, err = explain(text, path)
+        results.add(f"{bundle} {words}", (status, err, [it for it in told if it not in out]), (0, "", []))
+
+
+def run_others(results, asked):
+    """check and replay, damaged answers, other bundles, and words."""
+    small, two = (os.path.join(DATA, it) for it in ("one_subnet.json", "two_subnets_own_acl.json"))
+    report = "vpc-report 1\nquery from eni-a to eni-b\nbox 6-6 10.0.1.10-10.0.1.10 10.0.2.20-10.0.2.20 0-32767 443-443\nrow 1 reply AclOut acl-b {} 6-6 10.0.1.10-10.0.1.10 10.0.2.20-10.0.2.20 {} 443-443\nend 1\n"
+    with open(two, encoding="utf-8") as file:
+        bundle = json.load(file)
+    for rule, ports, told in (
+        ("32767", "0-32767", "The report is true of this bundle"), ("32767", "0-9", "no row holds tcp from 10.0.1.10 port 10 to 10.0.2.20 port 443"),
+        ("100", "0-32767", "in this bundle it arrives, and its reply is stopped by AclOut of acl-b."),
+    ):
+        text = asked.answer(bundle, "check", report.format(rule, ports))
+        status, out, err = explain(text, asked.path)
+        results.add(f"check: {told}", (status, err, told in out), (0, "", True))
+        if rule == "100":
+            results.add("check: why", "no outbound row of acl-b allows tcp 0 to 10.0.1.10 on its way out of subnet-b; its last row, 32767, refuses the rest." in out, True)
+    for text, told in (("no overlap 1 2\n", "rows 1 and 2 share a packet"), ("no untrue 3 tcp 10.0.1.10 10.0.1.20 0 443 through\n", "tcp from 10.0.1.10 port 0 to 10.0.1.20 port 443 gets through"),
+                       ("no untrue 1 icmp 9.9.9.9 10.0.1.20 7 8 request WrongPlace eni-b -\n", "in this bundle it arrives elsewhere, at eni-b (WrongPlace)"),
+                       ("event 1 arrived eni-b tcp 10.0.1.10 10.0.1.20 5000 443\nevent 2 stopped GroupsOut eni-b -\n", "no outbound rule of sg-b allows the packet")):
+        status, out, err = explain(text, small)
+        results.add(f"told: {told}", (status, err, told in out), (0, "", True))
+    walk = asked.answer(BASE, "trace", TO_B.format(22))
+    answer = asked.answer(BASE, "ask", "from eni-a to eni-b")
+    blocked = asked.answer(BASE, "ask", "from eni-a to eni-b port 22-22")
+    for name, text in (
+        ("nothing", ""), ("a newline", "\n"), ("words", "refused words 1\n"), ("a file", "read fault 1\n"), ("memory", "want of memory\n"), ("a matrix", "matrix\n"), ("made", "make 1\npair eni-1 internet blocked\n"),
+        ("bytes", b"\xff\n"), ("carriage returns", walk.replace("\n", "\r\n")), ("two", walk + walk), ("a hop less", "\n".join(walk.splitlines()[1:]) + "\n"), ("another hop", walk.replace("subnet-a", "subnet-b")),
+        ("another rule", walk.replace("out 1", "out 2")), ("another stop", walk.replace("GroupsIn", "GroupsOut")), ("another component", walk.replace("stopped GroupsIn eni-b", "stopped GroupsIn eni-a")),
+        ("another address", walk.replace("10.1.1.10", "10.1.1.11")), ("an end that isn't there", walk.replace("eni-a", "eni-z")), ("another packet", answer.replace("packet tcp 10.1.1.10 10.2.1.10 0", "packet tcp 10.1.1.10 10.2.1.10 1")),
+        ("another reply", answer.replace("by tracked", "by none")), ("another reason", blocked.replace("GroupsIn eni-b", "GroupsIn eni-c")), ("another phase", blocked.replace("row 1 request", "row 1 reply")),
+        ("a wrong count", blocked.replace("end 1", "end 2")), ("a row that gets through", blocked.replace("22-22", "5432-5432")), ("a component that isn't there", "event 1 stopped GroupsIn eni-z -\n"),
+        ("an event's number", "event 2 stopped GroupsIn eni-b -\n"), ("no end of it", walk[:-1]),
+    ):
+        status, out, err = explain(text, asked.path)
+        results.add(f"refused: {name}", (status, out, err.startswith("explain: the text can't be told of: "), err.count("\n")), (2, "", True, 1))
+    for text in (walk, answer, blocked):
+        cut = next((end for end in range(len(text)) if explain(text[:end], asked.path)[0] != 2), None)
+        results.add("parts of an answer", cut, None)
+        results.add("another bundle", explain(text, os.path.join(TOP, "examples", "shop.json"))[0::2][0], 2)
+    for words, why in (([], "BUNDLE is meant, and a TEXT that isn't standard input; --help says more"), (["--all"], "BUNDLE is meant, and a TEXT that isn't standard input; --help says more"),
+                       (["none"], "none can't be read: No such file or directory"), ([small, "none"], "none can't be read: No such file or directory"),
+                       ([os.path.join(DATA, "open.txt")], f"{os.path.join(DATA, 'open.txt')} is no bundle: it is not one JSON value in UTF-8"),
+                       ([os.path.join(DATA, "number_among_vpcs.json")], f"{os.path.join(DATA, 'number_among_vpcs.json')} is no bundle that vpc accepts")):
+        results.add(f"words {words}", explain(walk, *words), (2, "", f"explain: {why}\n"))
+    results.add("--help", explain("", "--help")[0::2], (0, ""))
+    with open(os.path.join(asked.folder, "text"), "w", encoding="utf-8") as file:
+        file.write(walk)
+    ran = subprocess.run([os.path.join(TOP, "explain"), asked.path, file.name], capture_output=True, check=False)
+    results.add("as a process", (ran.returncode, ran.stdout.decode(), ran.stderr), (0, explain(walk, asked.path)[1], b""))
+
+
+def main():
+    parser = argparse.ArgumentParser(description=__doc__, formatter_class=argparse.RawDescriptionHelpFormatter)
+    parser.add_argument("program")
+    parser.add_argument("--cases", type=int, default=300)
+    told = parser.parse_args()
+    results = Results()
+    with tempfile.TemporaryDirectory() as folder:
+        asked = Asked(os.path.abspath(told.program), folder)
+        for it in STOPS:
+            run_stop(results, asked, it)
+        results.add("all stops", {it[0].split(",")[0].split(" ")[0] for it in STOPS}, set(EXPLAIN["NAMES"]))
+        run_examples(results, asked)
+        run_others(results, asked)
+        run_random(results, asked, told.cases)
+    print(f"{results.passed} passed, {results.failed} failed")
+    return 1 if results.failed else 0
+
+
+if __name__ == "__main__":
+    EXPLAIN = runpy.run_path(os.path.join(TOP, "explain"))
+    sys.exit(main())
