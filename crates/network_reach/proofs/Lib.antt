@@ -1,2 +1,4 @@
 pub mod Told
 pub mod Reports
+pub mod ReachableLemmas
+pub mod Decided

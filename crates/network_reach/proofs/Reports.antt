@@ -94,7 +94,7 @@ report d query rows is = record {
 
 pub blocked_is : (d : Description) (query : Query) (rows : Vec (Row (Phase × Stop))) → IsAccepted d → IsQueryIn d query
     → IsBlocked (stops_of d query) (cuts_of d) query.sides query.max rows.items → IsReached d query (answers.Blocked rows)
-blocked_is d query rows accepted asked is = (have-text d query rows.items accepted asked is.are_true, (report d query rows.items is, is.few))
+blocked_is d query rows accepted asked is = (have-text d query rows.items accepted asked is.are_true, (report d query rows.items is, (is.few, is.joined)))
 
 part-report : (d : Description) (query : Query) (rows : List (Row (Phase × Stop))) (next : Header) (n : ℕ)
     → IsCellCount d query.sides n → IsMore (stops_of d query) (cuts_of d) query.sides query.max rows next → NoneThrough (stops_of d query) query.sides
@@ -114,4 +114,4 @@ pub more_is : (d : Description) (query : Query) (rows : Vec (Row (Phase × Stop)
     → IsCellCount d query.sides n → IsMore (stops_of d query) (cuts_of d) query.sides query.max rows.items next → NoneThrough (stops_of d query) query.sides
     → IsReached d query (answers.More rows next n)
 more_is d query rows next n accepted asked cells is none =
-    (have-text d query rows.items accepted asked is.are_true, part-report d query rows.items next n cells is none)
+    (have-text d query rows.items accepted asked is.are_true, (part-report d query rows.items next n cells is none, is.joined))

@@ -3,6 +3,7 @@ use Rattle.std.specs.Prelude.{◌≡◌, ◌≤◌, List, Option, length, true, 
 use Rattle.header_boxes.specs.Boxes.{IsValid}
 use Rattle.header_boxes.specs.Rows.{IsFirstThrough}
 use Rattle.block_report.specs.Reports.{HaveText, told_rows}
+use Rattle.ordered_cover.specs.Joined.{AreJoined, GoesOn}
 use Rattle.query_words.specs.declared.queries.Query.{Query}
 use Rattle.vpc_laws.specs.Types.{Description, Header, Row, StopText}
 use Rattle.vpc_model.specs.Appliances.{appliances_of}
@@ -30,8 +31,8 @@ IsReportIn d query rows = IsOrderedReport d (appliances_of d) query.start query.
 abbrev pub IsPartReportIn : Description → Query → List (Row StopText) → Header → ℕ → Type 0
 IsPartReportIn d query rows next cells = IsPartReport d (appliances_of d) query.start query.goal query.sides query.max rows next cells
 
--- the first header that gets through; or an ordered true report of at most max rows; or max rows that leave headers out
+-- the first header that gets through; or an ordered true report of at most max rows; or max rows that leave headers out. No row could be one with the next
 abbrev pub IsReached : Description → Query → Reached → Type 0
 IsReached d query (answers.Through h) = IsFirstThrough (meaning_in d query) query.sides h
-IsReached d query (answers.Blocked rows) = HaveText d rows.items × (IsReportIn d query (told_rows d rows.items) × (length rows.items ≤ query.max))
-IsReached d query (answers.More rows next cells) = HaveText d rows.items × IsPartReportIn d query (told_rows d rows.items) next cells
+IsReached d query (answers.Blocked rows) = HaveText d rows.items × (IsReportIn d query (told_rows d rows.items) × ((length rows.items ≤ query.max) × AreJoined GoesOn rows.items))
+IsReached d query (answers.More rows next cells) = HaveText d rows.items × (IsPartReportIn d query (told_rows d rows.items) next cells × AreJoined GoesOn rows.items)

@@ -1,1 +1,4 @@
+pub mod Apart
 pub mod Replays
+pub mod ReplayLemmas
+pub mod Decided

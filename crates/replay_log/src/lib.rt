@@ -4,15 +4,22 @@
 //! with theirs: that is a clause of `replay`.
 #![tactic(auto)]
 
+mod command;
+mod laws;
+mod played;
+
 ghost use Rattle.std.specs.Prelude.{◌≡◌, All, IfOk, IsTrue};
 ghost use Rattle.replay_laws.specs.Interleaved.{AnswersAreLetIn, AnswersAreToOpens};
+ghost use Rattle.replay_log.specs.Ports.{HasPort, PortsStayApart};
 ghost use Rattle.vpc_laws.specs.Sound.{EndsWell};
 ghost use Rattle.vpc_model.specs.Place.{start_of};
 ghost use Rattle.vpc_model.specs.Replay.{replay_of};
 ghost use Rattle.vpc_model.specs.Sound.{is_sound};
 
 use appliances::Deciders;
+pub use command::ReplayCommand;
 use fabric::Fabric;
+pub use laws::keeps_ports_apart;
 use packet_emulator::Session;
 use std::alloc::Global;
 use vpc_base::NoMemory;
@@ -52,6 +59,7 @@ pub fn replay(
         v.items ≡ replay_of f.now deciders.now.appliances events.now) }
     ensures let_in { AnswersAreLetIn f.now deciders.now.appliances events.now }
     ensures to_opens { AnswersAreToOpens f.now deciders.now.appliances events.now }
+    ensures ports { All HasPort events.now → PortsStayApart f.now deciders.now.appliances events.now }
     ensures told { IfOk result (λ v. All (EndsWell f.now) v.items) }
 {
     outcomes_of(alloc, f, deciders, events)

@@ -2,3 +2,4 @@ pub mod Told
 pub mod TrueRows
 pub mod Boxes
 pub mod Truth
+pub mod Decided

@@ -2,11 +2,14 @@
 #![tactic(auto)]
 
 mod checked;
+mod checks;
+mod command;
 mod laws;
 mod probe;
 mod rows;
 mod texts;
 
 pub use checked::{Checked, check};
+pub use command::CheckCommand;
 pub use laws::check_laws;
 pub use texts::put_checked;

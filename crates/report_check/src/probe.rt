@@ -1,5 +1,5 @@
 // The probe that is asked whether headers are stopped as a row says.
-ghost use Rattle.std.specs.Prelude.{◌≡◌, IsTrue, Some};
+ghost use Rattle.std.specs.Prelude.{◌≡◌, ◌↔◌, IsTrue, Some};
 ghost use Rattle.vpc_laws.specs.Types.{Phase, Stop};
 ghost use Rattle.vpc_model.specs.Accepted.{IsAccepted};
 ghost use Rattle.vpc_model.specs.Sound.{has_text};
@@ -73,7 +73,7 @@ impl<'a, 'b> Probe for RowProbe<'a, 'b> {
     ghost near_among = { λ p h. near_cuts_are_among_all p.network.now (appliances_of p.network.now) p.walks.now.start p.walks.now.goal h };
 
     fn is_same(one: (), other: ()) -> bool
-        ensures { IsTrue result → one ≡ other }
+        ensures { IsTrue result ↔ (one ≡ other) }
     {
         true
     }

@@ -1,0 +1,16 @@
+use Rattle.std.proofs.Common.{map, string_bytes}
+use Rattle.query_words.specs.Packet.{packet_of}
+use Rattle.packet_trace.specs.Traced as traces
+use Rattle.command_job.proofs.Answers.{if_ok, if_ok_two}
+use Rattle.query_words.proofs.EventLemmas.{refused_if_told}
+use Rattle.packet_trace.proofs.traces.trace.Goals as goal
+
+pub returns-in-Ok : goal.returns-in-Ok
+returns-in-Ok c = if_ok _ _ c.answer_job.result (λ a walked. traces.walked c.in-Ok.event c.in-Ok.ensures.answer walked) c.answer_job.ensures
+
+pub returns-in-Err : goal.returns-in-Err
+returns-in-Err c =
+    let meant = packet_of c.args.network (map string_bytes c.args.words.now) in
+    if_ok_two _ _ _ c.refuse_packet.result
+    (λ a h not. traces.refused c.in-Err.refusal (refused_if_told meant c.in-Err.refusal c.in-Err.ensures.answer not) h.0 h.1)
+    c.refuse_packet.ensures.line c.refuse_packet.ensures.cause

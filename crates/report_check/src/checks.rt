@@ -1,0 +1,119 @@
+// What `check` answers.
+ghost use Rattle.std.specs.Prelude.{◌≡◌, IfOk, decimal};
+ghost use Rattle.report_check.specs.Texts.{CanBeTold, checked_line};
+ghost use Rattle.report_reader.specs.Reports.{IsSoundReport};
+ghost use Rattle.report_check.specs.Certified.{IsCheckedFrom, IsVerdict, checked_status, report_refusal_line, too_many_text};
+
+use crate::checked::{Checked, check};
+use crate::texts::put_checked;
+use appliances::Deciders;
+use block_report::{put, put_end, put_number_word, put_word};
+use command_job::{Answer, Job, Status, answer_job};
+use fabric::Fabric;
+use prefix_text::put_number;
+use reference_check::Network;
+use report_reader::{Report, ReportFault, read_report};
+use std::alloc::Global;
+use std::mem;
+use vpc_base::NoMemory;
+
+fn status_of(found: &Checked) -> Status
+    ensures { result ≡ checked_status found.now }
+{
+    match found {
+        Checked::Yes => Status::Yes,
+        Checked::Overlap(_, _) => Status::No,
+        Checked::Uncovered(_) => Status::No,
+        Checked::Untrue(_, _, _) => Status::No,
+    }
+}
+
+fn answer_checked(alloc: Global, n: &Network, found: &Checked) -> Result<Answer, NoMemory>
+    requires { CanBeTold n.now found.now }
+    ensures status { IfOk result (λ a. a.status ≡ checked_status found.now) }
+    ensures text { IfOk result (λ a. a.text.items ≡ checked_line n.now found.now) }
+{
+    let mut text = Vec::new(alloc);
+    put_checked(&mut text, n, found)?;
+    Ok(Answer {
+        status: status_of(found),
+        text,
+    })
+}
+
+// What is found of a report.
+#[derive(Drop)]
+struct Checking<'a> {
+    report: &'a Report,
+}
+
+impl<'a> Job for Checking<'a> {
+    ghost fits = { λ j d. IsSoundReport d j.report.now };
+
+    ghost answers = { λ j d. IsVerdict d j.report.now };
+
+    fn answer_with(
+        &self,
+        alloc: Global,
+        f: &Fabric,
+        deciders: &Deciders,
+    ) -> Result<Answer, NoMemory> {
+        let found = check(alloc, f, deciders, self.report)?;
+        answer_checked(alloc, f.network(), &found)
+    }
+}
+
+/// Refuses a report for this cause.
+pub fn refuse_report(alloc: Global, cause: &[u8]) -> Result<Answer, NoMemory>
+    ensures { IfOk result (λ a.
+        (a.status ≡ Status.Query) × (a.text.items ≡ report_refusal_line cause.now)) }
+{
+    let mut text = Vec::new(alloc);
+    put(&mut text, b"refused report")?;
+    put_word(&mut text, cause)?;
+    put_end(&mut text)?;
+    Ok(Answer {
+        status: Status::Query,
+        text,
+    })
+}
+
+fn refuse_too_many(alloc: Global, number: u64) -> Result<Answer, NoMemory>
+    ensures { IfOk result (λ a. (a.status ≡ Status.Query)
+        × (a.text.items ≡ report_refusal_line (too_many_text number))) }
+{
+    let mut cause = Vec::new(alloc);
+    put(&mut cause, b"TooManyBoxes")?;
+    put_number_word(&mut cause, u128::from(number))?;
+    refuse_report(alloc, cause.as_slice())
+}
+
+fn refuse_bad_line(alloc: Global, number: u64) -> Result<Answer, NoMemory>
+    ensures { IfOk result (λ a. (a.status ≡ Status.Query)
+        × (a.text.items ≡ report_refusal_line (decimal number))) }
+{
+    let mut cause = Vec::new(alloc);
+    put_number(&mut cause, u128::from(number))?;
+    refuse_report(alloc, cause.as_slice())
+}
+
+/// What is found of the report that the bytes give.
+pub fn check_bytes(alloc: Global, network: Network, bytes: &[u8]) -> Result<Answer, NoMemory>
+    ensures { IfOk result (λ a. IsCheckedFrom network bytes.now a.status a.text.items) }
+{
+    match read_report(alloc, &network, bytes) {
+        Ok(report) => answer_job(alloc, network, &Checking { report: &report }),
+        Err(ReportFault::BadLine(number)) => {
+            mem::forget(network);
+            refuse_bad_line(alloc, number)
+        }
+        Err(ReportFault::TooManyBoxes(number)) => {
+            mem::forget(network);
+            refuse_too_many(alloc, number)
+        }
+        Err(ReportFault::Memory) => {
+            mem::forget(network);
+            Err(NoMemory)
+        }
+    }
+}

@@ -1,0 +1,28 @@
+// The command `check`.
+ghost use Rattle.std.specs.Prelude.{◌≡◌};
+
+use crate::checks::{check_bytes, refuse_report};
+use command_job::{Answer, TwoFiles};
+use reference_check::Network;
+use std::alloc::Global;
+use vpc_base::NoMemory;
+
+/// `check FILE REPORT`: whether a report about a query is true.
+#[derive(Clone, Copy)]
+pub struct CheckCommand;
+
+impl TwoFiles for CheckCommand {
+    ghost use Rattle.report_check.specs.Certified.{IsCheckedFrom, report_refusal_line};
+
+    ghost refusal = { λ c. report_refusal_line };
+
+    ghost answers = { λ c. IsCheckedFrom };
+
+    fn refuse(&self, alloc: Global, cause: &[u8]) -> Result<Answer, NoMemory> {
+        refuse_report(alloc, cause)
+    }
+
+    fn answer(&self, alloc: Global, network: Network, bytes: &[u8]) -> Result<Answer, NoMemory> {
+        check_bytes(alloc, network, bytes)
+    }
+}
