@@ -65,6 +65,8 @@ is 'all routes were asked for' "$(grep search-transit "$CALLS")" \
     'aws --output json ec2 search-transit-gateway-routes --transit-gateway-route-table-id tgw-rtb-hub --filters Name=state,Values=active,blackhole'
 is 'no entries of a list whose blocks are told' "$(told .PrefixListEntries)" '[]'
 is 'no filters' "$(grep -c vpc-id "$CALLS")" 0
+jq -S . "$here/../examples/shop.json" >"$room/example"
+is 'examples/shop.json is this bundle' "$(told . | jq -S . | cmp - "$room/example" && echo yes)" yes
 
 # Of instances what an interface is found by, and nothing else.
 is 'instances' "$(told '.Reservations | map(.Instances | map([.InstanceId, .State.Name, .Tags[].Value, .NetworkInterfaces[].NetworkInterfaceId]))')" \

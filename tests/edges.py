@@ -113,6 +113,31 @@ def statuses():
     return [(words, words.split(), status, text, {}) for words, status, text in rows]
 
 
+def refusals():
+    """Refusals of packets, queries and reports, each whole, with its argument. A missing address comes last of a query's."""
+    bundle = json.loads(BUNDLE)
+    bundle["NetworkInterfaces"] += [
+        {"NetworkInterfaceId": "eni-none", "SubnetId": "subnet-a"},
+        {"NetworkInterfaceId": "eni-nat", "SubnetId": "subnet-a", "PrivateIpAddress": "10.0.1.9", "InterfaceType": "nat_gateway"},
+    ]
+    file_of("c.json", json.dumps(bundle))
+    row = REPORT.splitlines()[3].split(" ", 2)[2]
+    for name, count in (("full.txt", 20_000), ("over.txt", 20_001)):
+        file_of(name, "\n".join([*REPORT.splitlines()[:3], *(f"row {k + 1} {row}" for k in range(count)), f"end {count}", ""]))
+    rows = [
+        ("trace c.json " + PACKET.replace("eni-a", "eni-nat") + " 443", "packet NotAnEnd eni-nat"),
+        ("trace c.json " + PACKET.replace("eni-a", "eni-z") + " 443", "packet UnknownId 5"),
+        ("ask c.json from eni-nat to eni-b", "query NotAnEnd eni-nat"), ("ask c.json from internet to internet", "query BothInternet"),
+        ("ask c.json " + QUERY + " port 80", "query BadWord 8"), ("ask c.json " + QUERY + " port 80-79", "query EmptyRange 8"),
+        ("ask c.json " + QUERY + " max 20001", "query MaxOutOfRange"),
+        ("ask c.json from eni-none to eni-b", "query NoAddress eni-none"), ("ask c.json from eni-a to eni-none", "query NoAddress eni-none"),
+        ("ask c.json from eni-a to eni-none port 80-79", "query EmptyRange 8"), ("ask c.json from eni-none to eni-b max 0", "query MaxOutOfRange"),
+        ("check c.json over.txt", "report TooManyBoxes 20004"),
+    ]
+    yield from ((words, words.split(), 4, f"refused {text}\n", {}) for words, text in rows)
+    yield ("as many rows as are read", "check c.json full.txt".split(), 1, "no overlap 1 2\n", {})
+
+
 def expected(words):
     """The number of the first wrong word, by the table of commands in README; 0 where the count is right."""
     count = len(words)
@@ -358,7 +383,7 @@ def main():
                            ("wide.txt", REPORT.replace("80-80\nrow", "80-443\nrow")), ("untrue.txt", REPORT.replace("80-80", "443-443"))):
             file_of(name, data)
         passed, failed = 0, 0
-        for group in (statuses, counts, bad_words, odd_words, unread, piped, long_files, long_texts, outputs, memory):
+        for group in (statuses, refusals, counts, bad_words, odd_words, unread, piped, long_files, long_texts, outputs, memory):
             for case in group():
                 wrong = difference(case)
                 passed, failed = (passed, failed + 1) if wrong else (passed + 1, failed)

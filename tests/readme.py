@@ -5,18 +5,29 @@
 A line that begins with four blanks and `$` is a command; it goes on after a `\\` at its end, and while a quotation is
 open. The lines below it, up to the next command or an empty line, are what it prints on standard output. The commands of
 one page run in turn in one folder, which has links to this checkout's scripts and examples, so what they write is gone
-afterwards. A stand-in for the command line of AWS answers collect-bundle. The program must be built, or be built by the
-first command; with --program, PROGRAM stands in the place of `vpc`.
+afterwards. Those of README find nothing in PATH but jq, a shell and what every Linux has: no aws, no kit and no python3. For the
+other pages a stand-in for the command line of AWS answers collect-bundle. The program must be built, or taken from prebuilt/;
+with --program, PROGRAM stands in the place of `vpc`.
+
+Without PAGE it also wants that README and docs/PROVED.md name the kit that made the program of prebuilt/.
 """
 
 import os
 import shlex
+import shutil
 import subprocess
 import sys
 import tempfile
 
 TOP = os.path.dirname(os.path.dirname(os.path.abspath(__file__)))
-LINKED = ("vpc", "collect-bundle", "survey", "examples")
+LINKED = ("vpc", "collect-bundle", "survey", "lines", "picture", "explain", "examples")
+# What a reader of README has, beside the program.
+AT_HAND = (
+    "jq sh bash awk cat chmod cmp cp cut date dirname env find grep gzip head id ln ls mkdir mktemp mv nproc paste printf readlink rm sed "
+    "seq sha256sum sleep sort tail tr uniq wc xargs"
+).split()
+# The pages that name the kit.
+OF_THE_KIT = ("README.md", "docs/PROVED.md")
 
 
 def is_unfinished(text):
@@ -50,13 +61,24 @@ def commands(page):
     return [(number, "\n".join(text), printed) for number, text, printed in found]
 
 
+def path_for(page, folder):
+    """What the commands of a page find in PATH."""
+    if os.path.basename(page) != "README.md":
+        return os.pathsep.join([os.path.join(TOP, "tests", "account"), os.environ["PATH"]])
+    for name in AT_HAND:
+        found = shutil.which(name)
+        if found:
+            os.symlink(found, os.path.join(folder, name))
+    return folder
+
+
 def run(page, program):
     """Runs the commands of a page, and gives how many printed what they should and how many did not."""
     passed, failed = 0, 0
-    with tempfile.TemporaryDirectory() as room:
+    with tempfile.TemporaryDirectory() as room, tempfile.TemporaryDirectory() as tools:
         for name in LINKED:
             os.symlink(program if name == "vpc" else os.path.join(TOP, name), os.path.join(room, name))
-        path = os.pathsep.join([os.path.join(TOP, "tests", "account"), os.environ["PATH"]])
+        path = path_for(page, tools)
         for number, text, printed in commands(page):
             ran = subprocess.run(
                 ["bash", "-c", text], cwd=room, env={**os.environ, "PATH": path}, capture_output=True, text=True
@@ -70,6 +92,24 @@ def run(page, program):
     return passed, failed
 
 
+def kit_is_named():
+    """How many pages name the kit that made the program of prebuilt/, and how many do not."""
+    stamp = os.path.join(TOP, "prebuilt", "stamp")
+    if not os.path.exists(stamp):
+        return 0, 0
+    with open(stamp, encoding="utf-8") as file:
+        kit = file.readline().rstrip("\n")
+    passed, failed = 0, 0
+    for page in OF_THE_KIT:
+        with open(os.path.join(TOP, page), encoding="utf-8") as file:
+            if f"`{kit}`" in file.read():
+                passed += 1
+                continue
+        failed += 1
+        print(f"{page} doesn't name `{kit}`, which made the program of prebuilt/")
+    return passed, failed
+
+
 def main(words):
     program = os.path.join(TOP, "vpc")
     if words[:1] == ["--program"] and len(words) > 1:
@@ -79,6 +119,8 @@ def main(words):
         *sorted(os.path.join(TOP, "docs", it) for it in os.listdir(os.path.join(TOP, "docs")) if it.endswith(".md")),
     ]
     results = [run(it, program) for it in pages]
+    if not words:
+        results.append(kit_is_named())
     passed, failed = (sum(it) for it in zip(*results))
     print(f"{passed} passed, {failed} failed")
     # (a page whose commands are no longer found would pass)
