@@ -21,7 +21,7 @@ import tempfile
 
 TOP = os.path.dirname(os.path.dirname(os.path.abspath(__file__)))
 LINKED = ("vpc", "collect-bundle", "survey", "lines", "picture", "explain", "examples")
-# What a reader of README has, beside the program.
+# What a reader of README has, beside the program; and Python, which the scripts name.
 AT_HAND = (
     "jq sh bash awk cat chmod cmp cp cut date dirname env find grep gzip head id ln ls mkdir mktemp mv nproc paste printf readlink rm sed "
     "seq sha256sum sleep sort tail tr uniq wc xargs"
@@ -69,6 +69,8 @@ def path_for(page, folder):
         found = shutil.which(name)
         if found:
             os.symlink(found, os.path.join(folder, name))
+    # (the interpreter itself: what is found by its name may be a script that wants an environment)
+    os.symlink(os.path.realpath(sys.executable), os.path.join(folder, "python3"))
     return folder
 
 
