@@ -47,7 +47,7 @@ is 'a pattern is no command' "$(behind './vpc .* ')" ''
 # Files.
 is 'files' "$(behind './vpc ask ' | tr '|' '\n' | sort | paste -sd '|')" 'bundles|one-subnet.json|shop.json|vpc'
 is 'a file' "$(behind './vpc ask one')" one-subnet.json
-is 'a file in a folder' "$(behind "./vpc ask $top/examples/hu")" "$top/examples/hub.json"
+is 'a file in a folder' "$(behind "./vpc ask $top/examples/hub.j")" "$top/examples/hub.json"
 is 'no file' "$(behind './vpc ask none')" ''
 is 'a second file' "$(behind './vpc check shop.json one')" one-subnet.json
 is 'a third file' "$(behind './vpc check shop.json one-subnet.json one')" ''
@@ -140,7 +140,7 @@ is 'a command of its own' "$(behind './other matrix shop.json ')" port
 is 'one with two bundles' "$(behind './other diff shop.json one-subnet.json from eni-')" 'eni-a|eni-app|eni-b|eni-db|eni-nat|eni-web'
 is 'its second bundle' "$(behind './other diff shop.json one-s')" one-subnet.json
 is 'its pairs' "$(behind './other diff shop.json one-subnet.json to eni-a ')" proto
-is 'not of this one' "$(behind './vpc matrix shop.json ')" ''
+is 'not of this one' "$(behind './vpc diff shop.json ')" ''
 cp /bin/true built
 for it in ./built ./none /dev/null; do
     is "called as $it" "$(behind "$it ")" "$commands|help"
