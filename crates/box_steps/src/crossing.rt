@@ -86,7 +86,7 @@ pub fn entering_on(f: &Fabric, s: SubnetNo, i: &Image) -> Part<Option<Stop>>
     }
 }
 
-/// The stop of headers that leave one subnet and enter another. Both ACLs are asked, even if the
+/// The stop of headers that leave one subnet and enter another. Both ACLs are evaluated, even if the
 /// two subnets are one.
 pub fn between_on(f: &Fabric, s: SubnetNo, t: SubnetNo, i: &Image) -> Part<Option<Stop>>
     requires from { IsTrue (is_subnet f.now s) }
@@ -103,7 +103,7 @@ pub fn between_on(f: &Fabric, s: SubnetNo, t: SubnetNo, i: &Image) -> Part<Optio
     }
 }
 
-/// The stop of headers that go from one subnet to another; inside one subnet no ACL is asked.
+/// The stop of headers that go from one subnet to another; inside one subnet no ACL is evaluated.
 pub fn crossing_on(f: &Fabric, s: SubnetNo, t: SubnetNo, i: &Image) -> Part<Option<Stop>>
     requires from { IsTrue (is_subnet f.now s) }
     requires to { IsTrue (is_subnet f.now t) }

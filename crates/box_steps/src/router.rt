@@ -58,7 +58,7 @@ pub fn to_interface_on(f: &Fabric, s: SubnetNo, i: &Image, e: EniNo) -> Part<Onw
     unless_stopped_on(crossing_on(f, s, subnet_of(f, e), i), into_host(f, e))
 }
 
-/// Into the attachment's subnet, whose ACL is asked even if it is the sender's.
+/// Into the attachment's subnet, whose ACL is evaluated even if it is the sender's.
 pub fn to_zone_on(
     f: &Fabric,
     s: SubnetNo,

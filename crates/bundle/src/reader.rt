@@ -44,7 +44,7 @@ fn with_rows(
     }
 }
 
-// The rows of all lists, with the rules that are told apart from their groups.
+// The rows of all lists, with the rules that are listed separately from their groups.
 fn with_group_rules(
     alloc: Global,
     bundle: &Value,

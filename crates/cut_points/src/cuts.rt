@@ -17,7 +17,7 @@ use std::alloc::{AllocError, Global};
 use vpc_base::NoMemory;
 use vpc_model::Description;
 
-// The blocks whose addresses the internet doesn't carry.
+// The blocks of non-routable addresses.
 fn unroutable() -> [Prefix; 7]
     ensures { result ≡ unroutable_blocks }
 {
@@ -32,7 +32,7 @@ fn unroutable() -> [Prefix; 7]
     ]
 }
 
-// What is cut in every network: ICMP, TCP and UDP, the blocks that the internet doesn't carry, the
+// What is cut in every network: ICMP, TCP and UDP, the non-routable blocks, the
 // first port that a NAT gateway takes, and the ICMP echo request.
 #[tactic(auto, using(crate::proofs::Additions::additions))]
 fn add_fixed(gathered: &mut Gathered) -> Result<(), AllocError>

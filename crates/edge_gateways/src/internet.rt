@@ -1,4 +1,4 @@
-// Addresses that the internet carries no packet from or to.
+// Non-routable addresses: the internet carries no packet from or to them.
 ghost use Rattle.std.specs.Prelude.{◌≡◌, ◌||◌};
 ghost use Rattle.address_sets.specs.Runs.{AreRuns, IsStretch};
 ghost use Rattle.box_images.specs.Answers.{Answers};

@@ -1,5 +1,5 @@
 //! What internet gateways and peerings ask of addresses: which public address belongs to which private one,
-//! which addresses the internet carries, and which lie in the blocks of peered VPCs.
+//! which addresses are non-routable on the internet, and which lie in the blocks of peered VPCs.
 #![tactic(auto)]
 
 mod addresses;

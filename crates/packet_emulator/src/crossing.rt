@@ -38,7 +38,7 @@ pub fn entering(f: &Fabric, s: SubnetNo, h: &Header) -> Option<Stop>
     }
 }
 
-/// The stop of a packet that goes from one subnet to another; inside one subnet no ACL is asked.
+/// The stop of a packet that goes from one subnet to another; inside one subnet no ACL is evaluated.
 pub fn crossing(f: &Fabric, s: SubnetNo, t: SubnetNo, h: &Header) -> Option<Stop>
     requires from { IsTrue (is_subnet f.now s) }
     requires to { IsTrue (is_subnet f.now t) }

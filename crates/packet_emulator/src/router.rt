@@ -51,7 +51,7 @@ fn to_interface(f: &Fabric, s: SubnetNo, h: &Header, i: EniNo) -> Next
     unless_stopped(crossing(f, s, subnet_of(f, i), h), next)
 }
 
-// Into the attachment's subnet, whose ACL is asked even if it is the sender's.
+// Into the attachment's subnet, whose ACL is evaluated even if it is the sender's.
 fn to_zone(f: &Fabric, s: SubnetNo, h: &Header, a: AttNo, zone: Option<SubnetNo>) -> Next
     requires subnet { IsTrue (is_subnet f.now s) }
     requires zone { IfSome zone (λ t. IsTrue (is_subnet f.now t)) }

@@ -1,4 +1,4 @@
-// Rules that are told apart from their groups.
+// Rules that are listed separately from their groups.
 ghost use Rattle.std.specs.Prelude.{◌≡◌, ◌++◌, ◌∷◌, [], IfOk, OnOk, codes, if◌then◌else◌, is_some, map, option_to_list};
 ghost use Rattle.serde_json.specs.View.{view};
 ghost use Rattle.json_fields.specs.FieldFault.{Reads};

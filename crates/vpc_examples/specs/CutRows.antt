@@ -26,7 +26,7 @@ cut_apart = record (bare (record { id = codes "vpc-1"; blocks = block (v4 10 0 0
   appliances = record { id = codes "eni-a"; kind = forwards.Service 8080 8081 } ∷ [];
 }
 
--- addresses that are cut in every network: both ends of each block that the internet doesn't carry
+-- addresses that are cut in every network: both ends of each non-routable block
 abbrev pub unroutable_cuts : List ℕ
 unroutable_cuts = v4 0 0 0 0 ∷ v4 1 0 0 0 ∷ v4 10 0 0 0 ∷ v4 11 0 0 0 ∷ v4 127 0 0 0 ∷ v4 128 0 0 0 ∷ v4 169 254 0 0 ∷ v4 169 255 0 0 ∷ v4 172 16 0 0 ∷ v4 172 32 0 0 ∷ v4 192 168 0 0 ∷ v4 192 169 0 0 ∷ v4 224 0 0 0 ∷ []
 

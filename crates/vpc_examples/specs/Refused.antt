@@ -1,6 +1,6 @@
 -- Descriptions that make a network, and descriptions that don't, each with its first cause.
-use Rattle.std.specs.Prelude.{◌∷◌, ◌≡◌, [], List, None, Option, Some, codes, true, ℕ}
-use Rattle.vpc_examples.specs.Types.{Acl, Appliance, Association, Attachment, Description, Group, Interface, InternetGateway, ListName, NatGateway, NatLife, Peering, PrefixList, Refusal, Route, RouteTable, Subnet, Target, TgwTable, Vpc}
+use Rattle.std.specs.Prelude.{◌∷◌, ◌≡◌, [], List, None, Option, Some, codes, false, true, ℕ}
+use Rattle.vpc_examples.specs.Types.{Acl, AclRow, Appliance, Association, Attachment, Block, Description, Group, Interface, InternetGateway, ListName, NatGateway, NatLife, Peering, Permission, PrefixList, Refusal, Route, RouteTable, Subnet, Target, TgwRoute, TgwTable, Vpc}
 use Rattle.vpc_model.specs.declared.rows.ApplianceKind.TheVariants as forwards
 use Rattle.vpc_model.specs.declared.rows.NatLife.TheVariants as lives
 use Rattle.vpc_model.specs.declared.refusals.ListName.TheVariants as named
@@ -149,6 +149,13 @@ nothing = bare [] []
 abbrev pub too_many : Description → ListName → Type 0
 too_many d name = too_many_rows d ≡ refusals.TooManyRows name ∷ []
 
+abbrev pub subnet_table_of : List (List ℕ) → List Route → RouteTable
+subnet_table_of subnets routes = record { id = codes "rtb-1"; vpc = codes "vpc-1"; main = false; subnets = subnets; routes = routes }
+
+-- a group with one rule, of its second direction
+abbrev pub with_rule : Permission → Description
+with_rule p = record nothing { groups = group (codes "sg-1") (codes "vpc-1") [] (p ∷ []) ∷ [] }
+
 -- a list with more than 100,000 rows is told by its own name
 pub record LongListsAreNamed : Type 0 where
   pub vpcs : (xs : List Vpc) → is_long xs ≡ true → too_many (record nothing { vpcs = xs }) named.Vpcs
@@ -165,3 +172,22 @@ pub record LongListsAreNamed : Type 0 where
   pub associations : (xs : List Association) → is_long xs ≡ true → too_many (record nothing { associations = xs }) named.TransitGatewayAttachments
   pub tgw_tables : (xs : List TgwTable) → is_long xs ≡ true → too_many (record nothing { tgw_tables = xs }) named.TransitGatewayRoutes
   pub appliances : (xs : List Appliance) → is_long xs ≡ true → too_many (record nothing { appliances = xs }) named.Appliances
+
+-- so is a list with one row, in which a list is too long
+pub record LongRowsAreNamed : Type 0 where
+  pub blocks : (xs : List Block) → is_long xs ≡ true → too_many (record nothing { vpcs = record vpc_1 { blocks = xs } ∷ [] }) named.Vpcs
+  pub addresses : (xs : List (ℕ × Option ℕ)) → is_long xs ≡ true → too_many (record nothing { interfaces = record eni_a { addresses = xs } ∷ [] }) named.NetworkInterfaces
+  pub member_of : (xs : List (List ℕ)) → is_long xs ≡ true → too_many (record nothing { interfaces = record eni_a { groups = xs } ∷ [] }) named.NetworkInterfaces
+  pub table_subnets : (xs : List (List ℕ)) → is_long xs ≡ true → too_many (record nothing { tables = subnet_table_of xs [] ∷ [] }) named.RouteTables
+  pub routes : (xs : List Route) → is_long xs ≡ true → too_many (record nothing { tables = subnet_table_of [] xs ∷ [] }) named.RouteTables
+  pub entries : (xs : List Block) → is_long xs ≡ true → too_many (record nothing { lists = record { id = codes "pl-1"; entries = xs } ∷ [] }) named.PrefixLists
+  pub acl_subnets : (xs : List (List ℕ)) → is_long xs ≡ true → too_many (record nothing { acls = acl (codes "acl-1") xs [] ∷ [] }) named.NetworkAcls
+  pub acl_rows : (xs : List AclRow) → is_long xs ≡ true → too_many (record nothing { acls = acl (codes "acl-1") [] xs ∷ [] }) named.NetworkAcls
+  pub inward : (xs : List Permission) → is_long xs ≡ true → too_many (record nothing { groups = group (codes "sg-1") (codes "vpc-1") xs [] ∷ [] }) named.SecurityGroups
+  pub outward : (xs : List Permission) → is_long xs ≡ true → too_many (record nothing { groups = group (codes "sg-1") (codes "vpc-1") [] xs ∷ [] }) named.SecurityGroups
+  pub rule_blocks : (xs : List Block) → is_long xs ≡ true → too_many (with_rule (record allow_all { blocks = xs })) named.SecurityGroups
+  pub rule_lists : (xs : List (List ℕ)) → is_long xs ≡ true → too_many (with_rule (record allow_all { lists = xs })) named.SecurityGroups
+  pub rule_groups : (xs : List (List ℕ)) → is_long xs ≡ true → too_many (with_rule (record allow_all { groups = xs })) named.SecurityGroups
+  pub gateway_vpcs : (xs : List (List ℕ)) → is_long xs ≡ true → too_many (record nothing { igws = record { id = codes "igw-1"; vpcs = xs } ∷ [] }) named.InternetGateways
+  pub attached : (xs : List (List ℕ)) → is_long xs ≡ true → too_many (record nothing { attachments = record { id = codes "att-1"; gateway = codes "tgw-1"; vpc = codes "vpc-1"; subnets = xs } ∷ [] }) named.TransitGatewayVpcAttachments
+  pub tgw_routes : (xs : List TgwRoute) → is_long xs ≡ true → too_many (record nothing { tgw_tables = record { id = codes "tgw-rtb-1"; routes = xs } ∷ [] }) named.TransitGatewayRoutes

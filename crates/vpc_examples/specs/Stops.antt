@@ -182,7 +182,7 @@ PublicAddressesAreOfOneVpc =
     (open_from_a overlapping (tcp (v4 10 1 1 10) (v4 198 51 100 7) 0 443) ≡ outcomes.Stopped (stops.NoPublic (record { 0 = 0 })))
     × (open_from_internet overlapping (tcp (v4 198 51 100 7) (v4 203 0 113 20) 0 443) ≡ outcomes.Stopped (stops.NoGateway (vpc 1)))
 
--- the first and last addresses of the blocks that the internet doesn't carry, and their neighbours
+-- the first and last addresses of the non-routable blocks, and their neighbours
 abbrev pub UnroutableBlocksEnd : Type 0
 UnroutableBlocksEnd =
     (map is_unroutable (v4 0 0 0 0 ∷ v4 0 255 255 255 ∷ v4 10 0 0 0 ∷ v4 10 255 255 255 ∷ v4 127 0 0 0 ∷ v4 127 255 255 255 ∷ v4 169 254 0 0 ∷ v4 169 254 255 255 ∷ v4 172 16 0 0 ∷ v4 172 31 255 255 ∷ v4 192 168 0 0 ∷ v4 192 168 255 255 ∷ v4 224 0 0 0 ∷ v4 255 255 255 255 ∷ [])

@@ -106,7 +106,7 @@ pub fn keeps_public_addresses_apart()
     ensures { PublicAddressesAreOfOneVpc }
 {}
 
-/// The ends of the blocks that the internet doesn't carry.
+/// The ends of the non-routable blocks.
 pub fn ends_unroutable_blocks()
     ensures { UnroutableBlocksEnd }
 {}

@@ -1,5 +1,5 @@
 // Which descriptions make a network.
-ghost use Rattle.vpc_examples.specs.Refused.{AcceptsTargetsOfEitherSide, LongListsAreNamed, NetworksAreAccepted, TellsDuplicates, TellsMissingRows, TellsMissingTargets, TellsForeignTargets, TellsMissingAtGateways, TellsTablesAndAcls, TellsFirstCause};
+ghost use Rattle.vpc_examples.specs.Refused.{AcceptsTargetsOfEitherSide, LongListsAreNamed, LongRowsAreNamed, NetworksAreAccepted, TellsDuplicates, TellsMissingRows, TellsMissingTargets, TellsForeignTargets, TellsMissingAtGateways, TellsTablesAndAcls, TellsFirstCause};
 
 /// The networks of the other examples are accepted.
 pub fn accepts_networks()
@@ -49,4 +49,9 @@ pub fn tells_the_first_cause()
 /// Lists that are too long, each by its own name.
 pub fn names_long_lists()
     ensures { LongListsAreNamed }
+{}
+
+/// Lists within a row that are too long, each by the name of the list that the row is in.
+pub fn names_long_rows()
+    ensures { LongRowsAreNamed }
 {}

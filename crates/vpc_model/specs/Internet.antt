@@ -12,7 +12,7 @@ unroutable_blocks =
     ∷ record { first = 2851995648; length = 16 } ∷ record { first = 2886729728; length = 12 } ∷ record { first = 3232235520; length = 16 }
     ∷ record { first = 3758096384; length = 3 } ∷ []
 
--- the internet carries no packet from or to the address (profile)
+-- the address is non-routable: the internet carries no packet from or to it (profile)
 abbrev pub is_unroutable : ℕ → Bool
 is_unroutable a = list_any (holds a) unroutable_blocks
 

@@ -23,7 +23,7 @@ abbrev pub to_owner : Description → Header → Option VpcNo → Next
 to_owner d h None = arrive ends.Internet
 to_owner d h (Some v) = if is_none (gateway_of d v) then stop (stops.NoGateway v) else go (places.IgwIn v) h
 
--- on the internet, which carries no packet from or to an unroutable address (profile)
+-- on the internet, which carries no packet from or to a non-routable address (profile)
 abbrev pub step_internet : Description → Moment → Step
 step_internet d m =
     if is_unroutable m.header.src || is_unroutable m.header.dst then plain m (stop stops.PrivateAddress)

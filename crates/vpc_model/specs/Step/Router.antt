@@ -45,7 +45,7 @@ to_peer d s h x (Some pair) =
     let row = vpc_at d v in
     if has_vpc d (other_side row.id pair) then unless_stopped (leaving d s h) (go (places.Peer x v) h) else stop (stops.Unmodelled (foreign.Peering x))
 
--- into the attachment's subnet, whose ACL is asked even if it is the sender's (Transit Gateways guide, "How transit gateways work")
+-- into the attachment's subnet, whose ACL is evaluated even if it is the sender's (Transit Gateways guide, "How transit gateways work")
 abbrev pub to_zone : Description → SubnetNo → Header → AttNo → Option SubnetNo → Next
 to_zone d s h a None = stop (stops.TgwNoZone a)
 to_zone d s h a (Some t) = unless_stopped (or_else (leaving d s h) (entering d t h)) (go (places.Tgw a t) h)
