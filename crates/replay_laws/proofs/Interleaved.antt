@@ -10,8 +10,8 @@ use Rattle.vpc_base.specs.declared.headers.Label.TheVariants.{Answer}
 use Rattle.vpc_model.specs.declared.outcomes.By.TheVariants.{NoGroups, Nothing, Rule, Tracked}
 use Rattle.vpc_model.specs.declared.outcomes.Outcome.TheVariants.{Stopped}
 use Rattle.vpc_model.specs.declared.places.Place.TheVariants.{OutOf, Router, Enter, Into, IgwOut, Internet, IgwIn, NatOut, NatIn, Peer, Tgw, TgwLeave}
-use Rattle.vpc_model.specs.declared.stops.Stop.TheVariants.{NatUnsolicited}
-use Rattle.vpc_laws.specs.Types.{By, Description, Dir, EniNo, Event, Header, Hop, Label, NatNo, Outcome, Place, RuleRef, Stop}
+use Rattle.vpc_model.specs.declared.stops.Stop.TheVariants.{DestCheck, Detached, GroupsIn, NatUnsolicited}
+use Rattle.vpc_laws.specs.Types.{By, Description, Dir, EniNo, Event, Header, Hop, Label, NatNo, Place, RuleRef, Stop}
 use Rattle.vpc_model.specs.Appliances.{Appliances}
 use Rattle.vpc_model.specs.Connections.{Connection, Passing, answer_passing, is_header, is_tracked, label_passing, passing_groups, passing_of}
 use Rattle.vpc_model.specs.Groups.{first_rule}
@@ -31,7 +31,7 @@ use Rattle.vpc_laws.proofs.Passing.{packets_pass_by_groups}
 use Rattle.vpc_laws.proofs.Replies.{is_header-some}
 use Rattle.vpc_laws.proofs.Same.{EniNo-same, same_dir-true, same_header-true, three}
 use Rattle.vpc_laws.proofs.Stepping.{walks_are_of_steps}
-use Rattle.replay_laws.specs.Interleaved.{AnswersAreLetIn, AnswersAreToOpens, GoesOnAs, IsLetIn, PassedOutward, SentOut}
+use Rattle.replay_laws.specs.Interleaved.{AnswersAreLetIn, AnswersAreToOpens, GoesOnAs, IsLetIn, IsStoppedInto, IsStopInto, PassedOutward, SentOut}
 use Rattle.replay_laws.proofs.Moments.{IsBefore, IsHopAt, befores_at, hops_at}
 use Rattle.replay_laws.proofs.Remembered.{IsOpened, IsTranslated}
 use Rattle.replay_laws.proofs.Replaying.{comes-walked}
@@ -44,8 +44,10 @@ Answer-walk d appliances label m w answers e =
     subst (λ (v : Walk). IsWalk d appliances Answer m v) (sym (e ∙ ap (λ (l : Label). walk_of d appliances l m) answers)) (walks_are_of_steps d appliances Answer m)
 
 hop-at : (d : Description) (appliances : Appliances) (m : Moment) (w : Walk) (hop : Hop) → IsWalk d appliances Answer m w → Contains w.hops hop
-    → IsHopAt d appliances m w.outcome hop
-hop-at d appliances m w hop is has = hops_at d appliances m is.rest w.hops w.outcome hop is.follows is.ends (subst (λ (hops : List Hop). Contains hops hop) is.hops has)
+    → IsHopAt d appliances m w.hops w.outcome hop
+hop-at d appliances m w hop is has =
+    subst (λ (hops : List Hop). IsHopAt d appliances m hops w.outcome hop) (sym is.hops)
+    (hops_at d appliances m is.rest w.hops w.outcome hop is.follows is.ends (subst (λ (hops : List Hop). Contains hops hop) is.hops has))
 
 hop-before : (d : Description) (appliances : Appliances) (m : Moment) (w : Walk) (before after : List Hop) (hop next : Hop)
     → IsWalk d appliances Answer m w → w.hops ≡ before ++ hop ∷ next ∷ after → IsBefore d appliances m hop next
@@ -76,21 +78,21 @@ passing_groups-something : (d : Description) (i : EniNo) (dir : Dir) (h : Header
 passing_groups-something d i dir h conns [] = λ e. cc
 passing_groups-something d i dir h conns (g ∷ gs) = label_passing-something d i dir h conns
 
--- a step that asks no groups stops the packet
-abbrev StopsUnasked : Step → Type 0
-StopsUnasked step = step.by ≡ Nothing → (s : Stop) × (step.next ≡ stop s)
+-- a step that asks no groups stops the packet, for a reason of the interface
+abbrev StopsUnasked : EniNo → Step → Type 0
+StopsUnasked i step = step.by ≡ Nothing → (s : Stop) × (IsStopInto i s × (step.next ≡ stop s))
 
 in_passing-stops : (d : Description) (appliances : Appliances) (i : EniNo) (m : Moment) (by : Option By) (conns : List Connection) → IsSomething by
-    → StopsUnasked (in_passing d appliances i m (record { by = by; conns = conns }))
-in_passing-stops d appliances i m None conns something = λ _. (_, refl)
+    → StopsUnasked i (in_passing d appliances i m (record { by = by; conns = conns }))
+in_passing-stops d appliances i m None conns something = λ _. (GroupsIn i, (inr (inr refl), refl))
 in_passing-stops d appliances i m (Some by) conns something = λ e. absurd (something (ap Some e))
 
-step_into-stops : (d : Description) (appliances : Appliances) (i : EniNo) (m : Moment) → StopsUnasked (step_into d appliances Answer i m)
+step_into-stops : (d : Description) (appliances : Appliances) (i : EniNo) (m : Moment) → StopsUnasked i (step_into d appliances Answer i m)
 step_into-stops d appliances i m =
     let e = interface_at d i in
     let passing = passing_of d Answer i Inward m.header m.conns in
-    cond_both e.idle _ _ (λ (s : Step). StopsUnasked s) (λ _ _. (_, refl))
-    (λ _. cond_both (e.checked && not (has_address e m.header.dst)) _ _ (λ (s : Step). StopsUnasked s) (λ _ _. (_, refl))
+    cond_both e.idle _ _ (λ (s : Step). StopsUnasked i s) (λ _ _. (Detached i, (inl refl, refl)))
+    (λ _. cond_both (e.checked && not (has_address e m.header.dst)) _ _ (λ (s : Step). StopsUnasked i s) (λ _ _. (DestCheck i, (inr (inl refl), refl)))
     (λ _. in_passing-stops d appliances i m passing.by passing.conns (passing_groups-something d i Inward m.header m.conns e.groups)))
 
 -- ---- the opens of tracked connections
@@ -160,17 +162,17 @@ tracked-opened earlier conns i h opened tracked =
 
 -- ---- answers that are let in
 
-let_in : (d : Description) (earlier : List (Event × Walk)) (i : EniNo) (h : Header) (outcome : Outcome) (by : By) (conns : List Connection)
-    → (by ≡ Nothing → (s : Stop) × (outcome ≡ Stopped s)) → LetsPass d Answer conns (record { eni = i; dir = Inward; header = h }) by
-    → ((c : Connection) → Contains conns c → IsOpened earlier c) → IsLetIn d earlier i h outcome by
-let_in d earlier i h outcome Nothing conns stops passes opened = stops refl
-let_in d earlier i h outcome NoGroups conns stops passes opened = passes
-let_in d earlier i h outcome (Rule r) conns stops passes opened = passes.0
-let_in d earlier i h outcome Tracked conns stops passes opened = tracked-opened earlier conns i h opened passes.1
+let_in : (d : Description) (earlier : List (Event × Walk)) (i : EniNo) (w : Walk) (hop : Hop) (by : By) (conns : List Connection)
+    → (by ≡ Nothing → IsStoppedInto i w hop) → LetsPass d Answer conns (record { eni = i; dir = Inward; header = hop.header }) by
+    → ((c : Connection) → Contains conns c → IsOpened earlier c) → IsLetIn d earlier i w hop by
+let_in d earlier i w hop Nothing conns stops passes opened = stops refl
+let_in d earlier i w hop NoGroups conns stops passes opened = passes
+let_in d earlier i w hop (Rule r) conns stops passes opened = passes.0
+let_in d earlier i w hop Tracked conns stops passes opened = tracked-opened earlier conns i hop.header opened passes.1
 
 -- the stop of a moment into an interface that asks no groups
-into-stops : (d : Description) (appliances : Appliances) (m : Moment) (i : EniNo) → m.place ≡ Into i → StopsUnasked (step_of d appliances Answer m)
-into-stops d appliances m i here = subst (λ (p : Place). StopsUnasked (step_at d appliances Answer p m)) (sym here) (step_into-stops d appliances i m)
+into-stops : (d : Description) (appliances : Appliances) (m : Moment) (i : EniNo) → m.place ≡ Into i → StopsUnasked i (step_of d appliances Answer m)
+into-stops d appliances m i here = subst (λ (p : Place). StopsUnasked i (step_at d appliances Answer p m)) (sym here) (step_into-stops d appliances i m)
 
 into-passes : (d : Description) (appliances : Appliances) (m : Moment) (i : EniNo) → m.place ≡ Into i
     → let step = step_of d appliances Answer m in LetsPass d Answer m.conns (record { eni = i; dir = Inward; header = m.header }) step.by
@@ -178,27 +180,28 @@ into-passes d appliances m i here =
     let step = step_of d appliances Answer m in
     subst (λ (p : Place). AsksGroups d Answer m.conns (own_connection p m.header) step.by) here (packets_pass_by_groups d appliances Answer m)
 
-hop-let_in : (d : Description) (appliances : Appliances) (earlier : List (Event × Walk)) (m : Moment) (outcome : Outcome) (hop : Hop) (i : EniNo)
-    → ((c : Connection) → Contains m.conns c → IsOpened earlier c) → IsHopAt d appliances m outcome hop → hop.place ≡ Into i
-    → IsLetIn d earlier i hop.header outcome hop.by
-hop-let_in d appliances earlier m outcome hop i opened at here =
+hop-let_in : (d : Description) (appliances : Appliances) (earlier : List (Event × Walk)) (m : Moment) (w : Walk) (hop : Hop) (i : EniNo)
+    → ((c : Connection) → Contains m.conns c → IsOpened earlier c) → IsHopAt d appliances m w.hops w.outcome hop → hop.place ≡ Into i
+    → IsLetIn d earlier i w hop hop.by
+hop-let_in d appliances earlier m w hop i opened at here =
     let x = at.moment in
     let step = step_of d appliances Answer x in
     let there : x.place ≡ Into i = sym (ap (λ (k : Hop). k.place) at.is) ∙ here in
     let header : hop.header ≡ x.header = ap (λ (k : Hop). k.header) at.is in
     let by : hop.by ≡ step.by = ap (λ (k : Hop). k.by) at.is in
-    let asks = subst (λ (conns : List Connection). LetsPass d Answer conns (record { eni = i; dir = Inward; header = x.header }) step.by) at.conns
+    let asked = subst (λ (conns : List Connection). LetsPass d Answer conns (record { eni = i; dir = Inward; header = x.header }) step.by) at.conns
     (into-passes d appliances x i there) in
-    let stops : step.by ≡ Nothing → (s : Stop) × (outcome ≡ Stopped s) =
-    λ none. let s = into-stops d appliances x i there none in (s.0, at.stops s.0 s.1) in
-    let is = let_in d earlier i x.header outcome step.by m.conns stops asks opened in
-    subst (λ (b : By). IsLetIn d earlier i hop.header outcome b) (sym by) (subst (λ (h : Header). IsLetIn d earlier i h outcome step.by) (sym header) is)
+    let asks = subst (λ (h : Header). LetsPass d Answer m.conns (record { eni = i; dir = Inward; header = h }) step.by) (sym header) asked in
+    let stops : step.by ≡ Nothing → IsStoppedInto i w hop =
+    λ none. let s = into-stops d appliances x i there none in
+    let told = at.stops s.0 (s.1).1 in record { last = told.1; reason = s.0; own = (s.1).0; outcome = told.0 } in
+    subst (λ (b : By). IsLetIn d earlier i w hop b) (sym by) (let_in d earlier i w hop step.by m.conns stops asks opened)
 
 pub answers_are_let_in : (d : Description) (appliances : Appliances) (events : List Event) → AnswersAreLetIn d appliances events
 answers_are_let_in d appliances events earlier e w hop i comes answers has here =
     let walked = comes-walked d appliances events earlier e w comes in
     let m = moment_of e walked.conns walked.nats in
-    hop-let_in d appliances earlier m w.outcome hop i walked.made.opened (hop-at d appliances m w hop (Answer-walk d appliances e.label m w answers walked.is) has) here
+    hop-let_in d appliances earlier m w hop i walked.made.opened (hop-at d appliances m w hop (Answer-walk d appliances e.label m w answers walked.is) has) here
 
 -- ---- answers at NAT gateways
 
@@ -250,13 +253,13 @@ IsToOpen d earlier w hop n = (w.outcome ≡ Stopped (NatUnsolicited n)) ⊎ ((on
 
 hop-to_open : (d : Description) (appliances : Appliances) (earlier : List (Event × Walk)) (m : Moment) (w : Walk) (hop : Hop) (n : NatNo)
     (found : Option Header)
-    → ((t : Translation) → Contains m.nats t → IsTranslated earlier t) → IsWalk d appliances Answer m w → IsHopAt d appliances m w.outcome hop
+    → ((t : Translation) → Contains m.nats t → IsTranslated earlier t) → IsWalk d appliances Answer m w → IsHopAt d appliances m w.hops w.outcome hop
     → hop.place ≡ NatIn n → inward m.nats n hop.header ≡ found
     → IsToOpen d earlier w hop n
 hop-to_open d appliances earlier m w hop n None translated walk at here e =
     let there = sym (ap (λ (k : Hop). k.place) at.is) ∙ here in
     let leads = nat_in-next d appliances at.moment n m.nats hop.header there at.nats (sym (ap (λ (k : Hop). k.header) at.is)) in
-    inl (at.stops (NatUnsolicited n) (leads ∙ ap (from_inward d n) e))
+    let told = at.stops (NatUnsolicited n) (leads ∙ ap (from_inward d n) e) in inl told.0
 hop-to_open d appliances earlier m w hop n (Some on) translated walk at here e =
     inr (
       on,

@@ -1,5 +1,5 @@
 -- The moments of an answer's walk: each meets what was remembered before the walk.
-use Rattle.std.proofs.Common.{◌≡◌, ◌∙◌, ◌∷◌, ◌++◌, [], List, inl, inr, map, refl, subst, sym}
+use Rattle.std.proofs.Common.{◌≡◌, ◌∙◌, ◌∷◌, ◌++◌, [], List, ap, inl, inr, map, refl, subst, sym}
 use Rattle.std.specs.List.{Contains}
 use Rattle.vpc_base.specs.declared.headers.Label.TheVariants.{Answer}
 use Rattle.vpc_laws.specs.Types.{Description, Header, Hop, Outcome, Place, Stop}
@@ -10,16 +10,17 @@ use Rattle.vpc_model.specs.Step.Words.{Moment, go, stop}
 use Rattle.vpc_laws.specs.Walk.{EndsSo, Follows, hop_of, last_moment}
 use Rattle.vpc_laws.proofs.Growth.{answer_adds_nothing}
 use Rattle.vpc_laws.proofs.Members.{Contains-cases, Contains-none}
+use Rattle.replay_laws.specs.Interleaved.{IsLast}
 
 -- ---- one hop
 
--- the moment of a hop, with what was remembered at the start; where its step stops the packet, the walk ends so
-pub record IsHopAt (d : Description) (appliances : Appliances) (start : Moment) (outcome : Outcome) (hop : Hop) : Type 0 where
+-- the moment of a hop, with what was remembered at the start; where its step stops the packet, the walk ends so with this hop
+pub record IsHopAt (d : Description) (appliances : Appliances) (start : Moment) (hops : List Hop) (outcome : Outcome) (hop : Hop) : Type 0 where
   pub moment : Moment
   pub is : hop ≡ hop_of d appliances Answer moment
   pub conns : moment.conns ≡ start.conns
   pub nats : moment.nats ≡ start.nats
-  pub stops : (s : Stop) → (let step = step_of d appliances Answer moment in step.next ≡ stop s) → outcome ≡ Stopped s
+  pub stops : (s : Stop) → (let step = step_of d appliances Answer moment in step.next ≡ stop s) → (outcome ≡ Stopped s) × IsLast hops hop
 
 go≢stop : (p : Place) (h : Header) (s : Stop) → go p h ≡ stop s → ⊥
 go≢stop p h s e = cc
@@ -27,11 +28,18 @@ go≢stop p h s e = cc
 pub hops_at : (d : Description) (appliances : Appliances) (start : Moment) (rest : List Moment) (hops : List Hop) (outcome : Outcome) (hop : Hop)
     → Follows d appliances Answer start rest
     → (let last = last_moment start rest in let step = step_of d appliances Answer last in EndsSo hops last.header step.next outcome)
-    → Contains (map (hop_of d appliances Answer) (start ∷ rest)) hop → IsHopAt d appliances start outcome hop
+    → Contains (map (hop_of d appliances Answer) (start ∷ rest)) hop
+    → IsHopAt d appliances start (map (hop_of d appliances Answer) (start ∷ rest)) outcome hop
 hops_at d appliances start [] hops outcome hop follows ends has =
     elim (Contains-cases (hop_of d appliances Answer start) hop [] has) [
       | inl same ↦
-          record { moment = start; is = sym same; conns = refl; nats = refl; stops = λ s e. subst (λ next. EndsSo hops start.header next outcome) e ends }
+          record {
+            moment = start;
+            is = sym same;
+            conns = refl;
+            nats = refl;
+            stops = λ s e. (subst (λ next. EndsSo hops start.header next outcome) e ends, ([], ap (λ (h : Hop). h ∷ []) same));
+          }
       | inr none ↦ absurd (Contains-none hop none)
     ]
 hops_at d appliances start (n ∷ rest) hops outcome hop (next, follows) ends has =
@@ -41,7 +49,13 @@ hops_at d appliances start (n ∷ rest) hops outcome hop (next, follows) ends ha
       | inr later ↦
           let at = hops_at d appliances n rest hops outcome hop follows ends later in
           let kept = answer_adds_nothing d appliances start in
-          record { moment = at.moment; is = at.is; conns = at.conns ∙ next.conns ∙ kept.0; nats = at.nats ∙ next.nats ∙ kept.1; stops = at.stops }
+          record {
+            moment = at.moment;
+            is = at.is;
+            conns = at.conns ∙ next.conns ∙ kept.0;
+            nats = at.nats ∙ next.nats ∙ kept.1;
+            stops = λ s e. let t = at.stops s e in (t.0, (hop_of d appliances Answer start ∷ (t.1).0, ap (λ hs. hop_of d appliances Answer start ∷ hs) (t.1).1));
+          }
     ]
 
 -- ---- one hop after another

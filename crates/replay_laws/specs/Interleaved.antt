@@ -1,7 +1,7 @@
 -- What lets answers through in lists of packets, whatever connections are interleaved in them.
 use Rattle.std.specs.Prelude.{◌≡◌, ◌⊎◌, ◌++◌, ◌∷◌, [], Contains, List, Some, zip}
 use Rattle.std.specs.List.{IsDistinct}
-use Rattle.vpc_laws.specs.Types.{By, Description, EniNo, Event, Header, Hop, NatNo, Outcome, RuleRef, Stop}
+use Rattle.vpc_laws.specs.Types.{By, Description, EniNo, Event, Header, Hop, NatNo, RuleRef, Stop}
 use Rattle.vpc_base.specs.Header.{reply_of}
 use Rattle.vpc_base.specs.declared.headers.Dir.TheVariants as dirs
 use Rattle.vpc_base.specs.declared.headers.Label.TheVariants as labels
@@ -50,6 +50,21 @@ pub record SentOut (earlier : List (Event × Walk)) (n : NatNo) (h on : Header) 
   pub answered : reply_of translation.after ≡ Some h
   pub returned : reply_of translation.before ≡ Some on
 
+-- the hop is the last of these
+abbrev pub IsLast : List Hop → Hop → Type 0
+IsLast hops hop = (before : List Hop) × (hops ≡ before ++ hop ∷ [])
+
+-- the stops of an interface that a packet comes into: it isn't attached, or checks the destination, or its groups allow nothing
+abbrev pub IsStopInto : EniNo → Stop → Type 0
+IsStopInto i s = (s ≡ stops.Detached i) ⊎ (s ≡ stops.DestCheck i) ⊎ (s ≡ stops.GroupsIn i)
+
+-- the walk ends at this hop, where the interface stops the packet
+pub record IsStoppedInto (i : EniNo) (w : Walk) (hop : Hop) : Type 0 where
+  pub last : IsLast w.hops hop
+  pub reason : Stop
+  pub own : IsStopInto i reason
+  pub outcome : w.outcome ≡ outcomes.Stopped reason
+
 -- the hop after this one, if there is one, has this header
 abbrev pub GoesOnAs : List Hop → Hop → Header → Type 0
 GoesOnAs hops hop on = (before after : List Hop) (next : Hop) → hops ≡ before ++ hop ∷ next ∷ after → next.header ≡ on
@@ -57,12 +72,12 @@ GoesOnAs hops hop on = (before after : List Hop) (next : Hop) → hops ≡ befor
 -- ---- laws
 
 -- by what an answer passes the groups of an interface inward: the interface has none, a rule allows the
--- answer, or it is the reply of an earlier open that passed the interface outward; or else it is stopped
-abbrev pub IsLetIn : Description → List (Event × Walk) → EniNo → Header → Outcome → By → Type 0
-IsLetIn d earlier i h outcome bys.Nothing = (s : Stop) × (outcome ≡ outcomes.Stopped s)
-IsLetIn d earlier i h outcome bys.NoGroups = let e = interface_at d i in e.groups ≡ []
-IsLetIn d earlier i h outcome (bys.Rule r) = first_rule d (interface_at d i) dirs.Inward h ≡ Some r
-IsLetIn d earlier i h outcome bys.Tracked = (k : Header) × ((reply_of k ≡ Some h) × PassedOutward earlier i k)
+-- answer, or it is the reply of an earlier open that passed the interface outward; or else the interface stops it
+abbrev pub IsLetIn : Description → List (Event × Walk) → EniNo → Walk → Hop → By → Type 0
+IsLetIn d earlier i w hop bys.Nothing = IsStoppedInto i w hop
+IsLetIn d earlier i w hop bys.NoGroups = let e = interface_at d i in e.groups ≡ []
+IsLetIn d earlier i w hop (bys.Rule r) = first_rule d (interface_at d i) dirs.Inward hop.header ≡ Some r
+IsLetIn d earlier i w hop bys.Tracked = (k : Header) × ((reply_of k ≡ Some hop.header) × PassedOutward earlier i k)
 
 -- in the replay of events each answer is let in so
 abbrev pub AnswersAreLetIn : Description → Appliances → List Event → Type 0
@@ -70,7 +85,7 @@ AnswersAreLetIn d appliances events =
     (earlier : List (Event × Walk)) (e : Event) (w : Walk) (hop : Hop) (i : EniNo)
     → Comes d appliances events earlier e w → e.label ≡ labels.Answer
     → Contains w.hops hop → hop.place ≡ places.Into i
-    → IsLetIn d earlier i hop.header w.outcome hop.by
+    → IsLetIn d earlier i w hop hop.by
 
 -- in the replay of events each answer that comes back to a NAT gateway answers an earlier open that the
 -- gateway sent out, and goes on as the answer to that open; or else it is stopped there
