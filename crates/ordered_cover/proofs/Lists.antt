@@ -4,7 +4,7 @@ use Rattle.std.proofs.lemmas.Bool.{cases_lt}
 use Rattle.std.proofs.lemmas.List.Sums.{sum_by-cons}
 use Rattle.std.proofs.lemmas.List.{length-append, take_more, take_more_set, length-set}
 use Rattle.std.proofs.Math.ListN.{get_or-append}
-use Rattle.std.proofs.Math.Seq.{get_or-append_seam, take-length}
+use Rattle.std.proofs.Math.Seq.{get_or-append_seam, take-append_seam, take-length}
 use Rattle.std.proofs.lemmas.List.Elements.{All-head, All-tail}
 use Rattle.std.proofs.lemmas.List.Sorted.{Contains-permutation, length_permutation, IsPermutation-push_more}
 use Rattle.std.specs.List.{AllAdjacentBelow, list_any}
@@ -88,6 +88,14 @@ module _ {X : Type 0} where
   pub none_at_all : (xs : List X) (n : ℕ) → n ≡ length xs → (0 < n → ⊥) → xs ≡ []
   none_at_all [] n count none = refl
   none_at_all (x ∷ xs) n count none = absurd (none (omega (arith, count)))
+
+  -- what is left without the last element
+  pub without_last : (xs before : List X) (n : ℕ) (y : X) → n ≡ length xs → xs ≡ before ++ y ∷ [] → take (n - 1) xs ≡ before
+  without_last xs before n y count ended =
+      let l = length-append before (y ∷ []) in
+      let e = ap length ended in
+      let m : n - 1 ≡ length before = omega (arith, count, l, e) in
+      ap (λ k. take k xs) m ∙ (ap (take (length before)) ended ∙ take-append_seam before (y ∷ []))
 
   -- the last element put in its own place
   pub last_put_back : (xs : List X) (n : ℕ) (y : X) → n ≡ length xs → 0 < n → y ≡ get_or xs (n - 1) y → set xs (n - 1) y ≡ xs

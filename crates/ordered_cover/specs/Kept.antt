@@ -1,22 +1,37 @@
--- How a row is kept.
-use Rattle.std.specs.Prelude.{◌≡◌, ◌⊎◌, List, [], ◌∷◌, ◌++◌}
+-- How rows are joined.
+use Rattle.std.specs.Prelude.{◌≡◌, Bool, List, [], ◌∷◌, ◌++◌, Option}
+use Rattle.vpc_base.specs.Cuts.{CutLists}
+use Rattle.vpc_base.specs.declared.headers.Header.{Header}
 use Rattle.header_boxes.specs.declared.boxes.Box5.{Box5}
 use Rattle.header_boxes.specs.declared.rows.Row.{Row}
-use Rattle.ordered_cover.specs.Joined.{GoesOn}
+use Rattle.ordered_cover.specs.Joined.{CanJoin, GoesOn, GoesOnEitherWay}
+use Rattle.ordered_cover.specs.Open.{AreSplit}
+use Rattle.ordered_cover.specs.declared.joining.Along.{Along}
+use Rattle.ordered_cover.specs.declared.joining.Along.TheVariants as along
 
--- a box up to the last port of the other
-abbrev pub up_to : Box5 → Box5 → Box5
-up_to first other = record { proto = first.proto; src = first.src; dst = first.dst; p = first.p; q = (first.q.0, other.q.1) }
+-- along which sides a box may go on from another one
+abbrev pub GoesOnBy : Along → Box5 → Box5 → Type 0
+GoesOnBy along.Q = GoesOn
+GoesOnBy along.PAndQ = GoesOnEitherWay
 
--- the last of the rows has the word of the one that goes on from it, and now reaches as far
-pub record IsJoined {W : Type 0} (old : List (Row W)) (row : Row W) (new : List (Row W)) : Type 0 where
+-- the box as far as the last p and q of the other
+abbrev pub span : Box5 → Box5 → Box5
+span first other = record { proto = first.proto; src = first.src; dst = first.dst; p = (first.p.0, other.p.1); q = (first.q.0, other.q.1) }
+
+-- two rows as one
+abbrev pub joined_row : {W : Type 0} → Row W → Row W → Row W
+joined_row first other = record { part = span first.part other.part; word = first.word }
+
+-- the last of the rows and one that goes on from it are one
+pub record IsOneWithLast {W : Type 0} (On : Box5 → Box5 → Type 0) (rows : List (Row W)) (row new : Row W) : Type 0 where
   pub before : List (Row W)
   pub last : Row W
-  pub ended : old ≡ before ++ last ∷ []
-  pub word : last.word ≡ row.word
-  pub goes_on : GoesOn last.part row.part
-  pub ends : new ≡ before ++ record { part = up_to last.part row.part; word = last.word } ∷ []
+  pub ended : rows ≡ before ++ last ∷ []
+  pub can : CanJoin On last row
+  pub new_is : new ≡ joined_row last row
 
--- the row was added, or joined to the last one
-abbrev pub IsKept : {W : Type 0} → List (Row W) → Row W → List (Row W) → Type 0
-IsKept old row new = (new ≡ old ++ row ∷ []) ⊎ IsJoined old row new
+-- what the old rows and some open boxes split, the new rows and these boxes split
+abbrev pub KeepsSplit : {W : Type 0} → List (Row W) → List (Row W) → Type 0
+KeepsSplit {W} old new =
+    (meaning : Header → Option W) (cuts : CutLists) (sought : Header → Bool) (sides : Box5) (open_boxes : List Box5)
+    → AreSplit meaning cuts sought sides open_boxes old → AreSplit meaning cuts sought sides open_boxes new

@@ -1,4 +1,5 @@
 pub mod Cover
+pub mod Gathered
 pub mod Corner
 pub mod Open
 pub mod Joined

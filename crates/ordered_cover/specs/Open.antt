@@ -1,5 +1,5 @@
 -- Boxes that a search has still to ask.
-use Rattle.std.specs.Prelude.{ℕ, ◌≡◌, ◌+◌, Bool, true, List, ◌∷◌, ◌++◌, Option, All, cond, sum_by}
+use Rattle.std.specs.Prelude.{ℕ, ◌≡◌, ◌≤◌, ◌+◌, Bool, true, List, ◌∷◌, ◌++◌, Option, All, cond, is_some, sum_by}
 use Rattle.std.specs.List.Sorted.{IsPermutation}
 use Rattle.vpc_base.specs.Header.{IsBefore}
 use Rattle.vpc_base.specs.Cuts.{CutLists}
@@ -48,11 +48,20 @@ pub record IsAsked {W : Type 0} (meaning : Header → Option W) (cuts : CutLists
   pub rest : AreRest cuts whole part pieces
   pub left : IsPermutation (others ++ pieces) new
 
--- ordered true rows and open boxes that begin after them hold each header of the sides once, and no other header
-pub record AreSplit {W : Type 0} (meaning : Header → Option W) (cuts : CutLists) (sides : Box5) (open_boxes : List Box5) (rows : List (Row W)) : Type 0 where
+-- every header
+abbrev pub every : Header → Bool
+every h = true
+
+-- the headers that are told something
+abbrev pub told : {W : Type 0} → (Header → Option W) → Header → Bool
+told meaning h = is_some (meaning h)
+
+-- ordered true rows and open boxes that begin after them hold each header of the sides at most once, those that are sought once, and no other header
+pub record AreSplit {W : Type 0} (meaning : Header → Option W) (cuts : CutLists) (sought : Header → Bool) (sides : Box5) (open_boxes : List Box5) (rows : List (Row W)) : Type 0 where
   pub are_true : AreTrueRows meaning sides rows
   pub ordered : AreOrdered cuts sides rows
-  pub each : (h : Header) → holders open_boxes h + row_holders rows h ≡ one_if (holds h sides)
+  pub once : (h : Header) → holders open_boxes h + row_holders rows h ≤ one_if (holds h sides)
+  pub all : (h : Header) → holds h sides ≡ true → sought h ≡ true → 1 ≤ holders open_boxes h + row_holders rows h
   pub within : All (λ b. IsWithin b sides) open_boxes
   pub aligned : All (λ b. IsAligned cuts b sides) open_boxes
   pub begun : All (λ r. All (λ b. IsBefore (low_of r.part) (low_of b)) open_boxes) rows
@@ -60,4 +69,4 @@ pub record AreSplit {W : Type 0} (meaning : Header → Option W) (cuts : CutList
 -- some rows and the open boxes split the sides
 pub record AreSplitBySome {W : Type 0} (meaning : Header → Option W) (cuts : CutLists) (sides : Box5) (open_boxes : List Box5) : Type 0 where
   pub rows : List (Row W)
-  pub split : AreSplit meaning cuts sides open_boxes rows
+  pub split : AreSplit meaning cuts every sides open_boxes rows

@@ -1,8 +1,9 @@
-//! Asks a question of every header of a box: the first header that gets through, disjoint boxes that hold all
-//! headers, each with the one word that all its headers have, or the ports that are open.
+//! Asks a question of every header of a box: the first header that gets through; disjoint boxes that hold all headers,
+//! or all that are told something, each with the one word that all its headers have; or the ports that are open.
 #![tactic(auto)]
 
 mod corner;
+mod joining;
 mod open;
 pub mod ports;
 mod probe;
@@ -11,4 +12,4 @@ pub mod search;
 
 pub use header_boxes::Row;
 pub use probe::Probe;
-pub use rows::Cover;
+pub use rows::{Cover, Gathered};

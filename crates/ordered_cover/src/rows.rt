@@ -1,4 +1,4 @@
-// What a cover answers.
+// What searches answer.
 use header_boxes::Row;
 use vpc_base::Header;
 
@@ -10,5 +10,14 @@ pub enum Cover<W> {
     /// None gets through: rows that hold all headers.
     Blocked(Vec<Row<W>>),
     /// As many rows as were allowed, and the first header outside them.
+    More(Vec<Row<W>>, Header),
+}
+
+/// What is known of the headers of a box that are told something.
+#[derive(Drop)]
+pub enum Gathered<W> {
+    /// Rows that hold all of them.
+    All(Vec<Row<W>>),
+    /// As many rows as there was room for, and the first of them outside the rows.
     More(Vec<Row<W>>, Header),
 }

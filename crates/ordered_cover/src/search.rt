@@ -1,16 +1,16 @@
 //! The search for the first header that gets through. Boxes that are still open are asked in the order of
 //! their low corners, so what is known always reaches from the least header of the sides up to the least
 //! open low corner.
-ghost use Rattle.std.specs.Prelude.{◌≡◌, ◌≤◌, ◌↔◌, List, [], Option, All, IfOk, OnOk, IfNone, IfSome, IsTrue};
+ghost use Rattle.std.specs.Prelude.{◌≡◌, ◌≤◌, List, [], Option, All, IfOk, IfNone, IfSome};
 ghost use Rattle.header_boxes.specs.Boxes.{IsValid};
 ghost use Rattle.header_boxes.specs.Rows.{IsFirst};
 ghost use Rattle.ordered_cover.specs.Cover.{IsCover};
-ghost use Rattle.ordered_cover.specs.Joined.{AreJoined, CanJoin, GoesOn};
-ghost use Rattle.ordered_cover.specs.Kept.{IsKept};
+ghost use Rattle.ordered_cover.specs.Gathered.{IsGathered};
 ghost use Rattle.ordered_cover.specs.Open.{IsAsked};
 
+use crate::joining::{Along, join_last};
 use crate::open::OpenBoxes;
-use crate::{Cover, Probe};
+use crate::{Cover, Gathered, Probe};
 use header_boxes::{Box5, Row};
 use std::alloc::{AllocError, Global};
 use vpc_base::{Header, NoMemory};
@@ -48,39 +48,6 @@ pub fn first<P: Probe>(alloc: Global, p: &P, sides: Box5) -> Result<Option<Heade
     Ok(None)
 }
 
-// Whether a part has the sides of another one, but that it begins one past the other's last port.
-fn goes_on(part: &Box5, other: &Box5) -> bool
-    ensures { IsTrue result ↔ GoesOn other.now part.now }
-{
-    other.proto == part.proto
-        && other.src == part.src
-        && other.dst == part.dst
-        && other.p == part.p
-        && u32::from(other.q.1) + 1 == u32::from(part.q.0)
-}
-
-// Whether a row goes on from another one with its word.
-fn can_join<P: Probe>(last: &Row<P::Word>, row: &Row<P::Word>) -> bool
-    ensures { IsTrue result ↔ CanJoin GoesOn last.now row.now }
-{
-    goes_on(&row.part, &last.part) && P::is_same(last.word, row.word)
-}
-
-// One more row, or the last row as far as the new one where that goes on from it with its word.
-fn keep<P: Probe>(rows: &mut Vec<Row<P::Word>>, row: Row<P::Word>) -> Result<(), AllocError>
-    ensures kept { OnOk result (IsKept rows.old.items row rows.new.items) }
-    ensures joined { OnOk result (AreJoined GoesOn rows.old.items → AreJoined GoesOn rows.new.items) }
-{
-    if let Some(last) = rows.last_mut() {
-        if can_join::<P>(last, &row) {
-            last.part.q.1 = row.part.q.1;
-            return Ok(());
-        }
-    }
-    rows.push(row)?;
-    Ok(())
-}
-
 /// What the probe says of all headers of the sides, in at most `max` rows: the first header that gets through,
 /// or rows that hold all headers, or as many rows as are allowed and the first header outside them. Parts that
 /// follow each other with one word, and differ in q alone, are one row.
@@ -102,11 +69,41 @@ pub fn cover<P: Probe>(
         };
         match word {
             None => return Ok(Cover::Found(part.low())),
-            Some(word) => keep::<P>(&mut rows, Row { part, word })?,
+            Some(word) => {
+                let row = join_last::<P>(Along::Q, &mut rows, Row { part, word });
+                rows.push(row)?;
+            }
         }
     }
     match boxes.take_first() {
         None => Ok(Cover::Blocked(rows)),
         Some(next) => Ok(Cover::More(rows, next.low())),
     }
+}
+
+/// What the probe says of all headers of the sides that it tells something, in at most `room` rows: rows that hold all
+/// of these headers, or as many rows as there is room for and the first of these headers outside them. Headers that get
+/// through are passed over. Parts that follow each other with one word, and differ in p or in q alone, are one row.
+pub fn gather<P: Probe>(
+    alloc: Global,
+    p: &P,
+    sides: Box5,
+    room: u32,
+) -> Result<Gathered<P::Word>, NoMemory>
+    requires valid { IsValid sides }
+    ensures { IfOk result (IsGathered (P.meaning p.now) (P.cuts p.now) sides room) }
+{
+    let mut boxes = OpenBoxes::of(alloc, sides)?;
+    let mut rows = Vec::new(alloc);
+    'asked: while let Some((part, word)) = ask(p, &mut boxes)? {
+        let Some(word) = word else {
+            continue;
+        };
+        let row = join_last::<P>(Along::PAndQ, &mut rows, Row { part, word });
+        if rows.len() == room as usize {
+            return Ok(Gathered::More(rows, part.low()));
+        }
+        rows.push(row)?;
+    }
+    Ok(Gathered::All(rows))
 }

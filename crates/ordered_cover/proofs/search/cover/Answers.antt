@@ -1,10 +1,15 @@
-use Rattle.std.proofs.Common.{◌≡◌, length, arith}
+use Rattle.std.proofs.Common.{◌≡◌, ◌<◌, ◌≤◌, ◌⊎◌, ◌++◌, ◌∷◌, [], List, ap, arith, inl, inr, length, ℕ}
+use Rattle.std.proofs.lemmas.List.{length-append}
 use Rattle.std.proofs.lemmas.List.Elements.{All-head}
 use Rattle.std.proofs.lemmas.List.Sorted.{All-permutation}
 use Rattle.header_boxes.specs.Boxes.{IsValid}
-use Rattle.ordered_cover.proofs.Joined.{kept_few, split_kept}
 use Rattle.ordered_cover.proofs.Splits.{split_at_start, found_from_asked, split_after, valid_from_split, blocked_from_split, more_from_split, volume_falls}
 use Rattle.ordered_cover.proofs.search.cover.Goals as goal
+
+-- where they are fewer than the most there may be, with one more they aren't too many
+one_more : {X : Type 0} (old new : List X) (x : X) (max : ℕ) → (new ≡ old) ⊎ (length new < length old) → length old < max → length (new ++ x ∷ []) ≤ max
+one_more old new x max (inl e) few = let l = length-append new (x ∷ []) in let k = ap length e in omega (arith, l, k, few)
+one_more old new x max (inr lt) few = let l = length-append new (x ∷ []) in omega (arith, l, lt, few)
 
 pub kept-init : goal.kept-init
 kept-init g c = record {
@@ -31,11 +36,12 @@ pub kept-preserved : goal.kept-preserved
 kept-preserved g c =
     let asked = rw c.in-Some.is at c.in_ok-part.ensures.asked in
     let after = split_after c.in-Some-word.word c.kept.invariant.split (rw c.in-Some-word.is at asked) in
-    record {
-      split = split_kept _ _ _ c.in_ok-keep-in-Some-word.ensures.kept after;
-      few = let more = kept_few _ _ _ c.in_ok-keep-in-Some-word.ensures.kept in omega (arith, more, c.kept-test.true, c.len.ensures);
-      joined = c.in_ok-keep-in-Some-word.ensures.joined c.kept.invariant.joined;
-    }
+    rw c.in_ok-push-in-Some-word.ensures.items (record {
+      split = c.join_last-row.ensures.kept _ _ _ _ _ after;
+      few = one_more c.kept.rows.items c.join_last-row.new.rows.items c.join_last-row.result c.args.max c.join_last-row.ensures.same
+          (let t = c.kept-test.true in let l = c.len.ensures in omega (arith, t, l));
+      joined = c.join_last-row.ensures.joined c.kept.invariant.joined;
+    })
 
 pub returns-in-None-take_first : goal.returns-in-None-take_first
 returns-in-None-take_first g c = blocked_from_split c.args.max c.kept.invariant.split c.in-None-take_first.ensures.none c.kept.invariant.few c.kept.invariant.joined
