@@ -1,0 +1,98 @@
+-- The interfaces that belong to no gateway, and their order.
+use Rattle.std.proofs.Common.{◌≡◌, ◌∙◌, ◌+◌, ◌++◌, ◌<◌, ◌^◌, ◌∷◌, [], Bool, List, bytes_eq, ap, append-nil, arith, cond, false, filter, get_or, is_lt, length, map, refl, subst, sym, true, ℕ}
+use Rattle.std.specs.Cmp.Lexicographic.{slice_cmp}
+use Rattle.std.specs.List.{AllPairs, IsDistinct, range_with_len}
+use Rattle.std.specs.List.Sorted.{IsPermutation, IsSortedByKey}
+use Rattle.std.specs.Ordering.{is_eq, nat_cmp, ordering_reverse}
+use Rattle.std.specs.declared.cmp.Ordering.{Ordering}
+use Rattle.std.specs.declared.cmp.Ordering.TheVariants.{Equal, Greater, Less}
+use Rattle.std.proofs.lemmas.Bool.{false_from_ne_true, lt-ltb}
+use Rattle.std.proofs.lemmas.Cmp.{nat_list_cmp_total, nat_list_eq_equiv}
+use Rattle.std.proofs.lemmas.List.{get_or_default}
+use Rattle.std.proofs.lemmas.List.FromFn.{filter_of_map_range_with_len_more, get_or-map-range_with_len, length-map-range_with_len}
+use Rattle.std.proofs.lemmas.List.Kept.{AllPairs-filter}
+use Rattle.std.proofs.lemmas.List.Sorted.{ranks_by, sorted_far}
+use Rattle.std.proofs.lemmas.Map.Keys.{IsDistinct-IsPermutation, IsDistinct-from_apart, apart_from_distinct}
+use Rattle.std.proofs.lemmas.Map.Text.{is_eq-slice_cmp}
+use Rattle.vpc_laws.proofs.Lengths.{accepted_has_short_lists}
+use Rattle.vpc_laws.proofs.Numbering.{accepted_numbers_are_own, same_bytes}
+use Rattle.vpc_laws.specs.Types.{Description, EniNo, Interface}
+use Rattle.vpc_model.specs.Accepted.{IsAccepted}
+use Rattle.vpc_model.specs.Lookup.{eni_no, interface_at, no_interface}
+use Rattle.described_hosts.specs.Hosts.{AreHostsById, ComesBefore, hosts_of, id_of, is_host, numbered}
+
+-- ---- in the order of the description
+
+-- those with numbers below k
+abbrev pub hosts_below : Description → ℕ → List EniNo
+hosts_below d k = filter (λ i. is_host (interface_at d i)) (map numbered (range_with_len 0 k))
+
+-- one of them, or none
+abbrev pub host_or_none : Interface → ℕ → List EniNo
+host_or_none e k = cond (is_host e) (numbered k ∷ []) []
+
+-- one more number
+pub hosts_more : (d : Description) (k : ℕ) (e : Interface) → k < length d.interfaces → e ≡ get_or d.interfaces k e → hosts_below d k ++ host_or_none e k ≡ hosts_below d (k + 1)
+hosts_more d k e within at =
+    let row : e ≡ interface_at d (numbered k) = at ∙ get_or_default d.interfaces k e no_interface within in
+    ap (λ (x : Interface). hosts_below d k ++ host_or_none x k) row
+    ∙ sym (filter_of_map_range_with_len_more (λ (i : EniNo). is_host (interface_at d i)) numbered 0 k k (omega arith))
+
+pub few_interfaces : (d : Description) (k : ℕ) → IsAccepted d → k < length d.interfaces → k < 2 ^ 32
+few_interfaces d k accepted within =
+    let lists = accepted_has_short_lists d accepted in
+    let short = lists.interfaces in
+    omega arith
+
+-- ---- in the order of their ids
+
+abbrev same_id : Description → EniNo → EniNo → Bool
+same_id d i j = bytes_eq (id_of d i) (id_of d j)
+
+numbers_differ : (d : Description) (i j : ℕ) → IsAccepted d → i < j → j < length d.interfaces → same_id d (numbered i) (numbered j) ≡ false
+numbers_differ d i j accepted less within =
+    let own = accepted_numbers_are_own d accepted in
+    let n = length d.interfaces in
+    false_from_ne_true (same_id d (numbered i) (numbered j)) (λ same.
+    let first = own.interface (numbered i) (lt-ltb i n (omega arith)) in
+    let second = own.interface (numbered j) (lt-ltb j n within) in
+    let one = sym first ∙ (ap (eni_no d) (same_bytes (id_of d (numbered i)) (id_of d (numbered j)) same) ∙ second) in
+    let k : i ≡ j = ap (λ (x : EniNo). x.0) one in
+    absurd (omega arith))
+
+rows_apart : (d : Description) → IsAccepted d → AllPairs (λ i j. same_id d i j ≡ false) (map numbered (range_with_len 0 (length d.interfaces)))
+rows_apart d accepted i j x less within =
+    let n = length d.interfaces in
+    let long = length-map-range_with_len numbered 0 n in
+    let below : j < n = omega arith in
+    let first = get_or-map-range_with_len numbered 0 n i i x (omega arith) (omega arith) in
+    let second = get_or-map-range_with_len numbered 0 n j j x below (omega arith) in
+    subst (λ (y : EniNo). same_id d y (get_or (map numbered (range_with_len 0 n)) j x) ≡ false) (sym first)
+    (subst (λ (y : EniNo). same_id d (numbered i) y ≡ false) (sym second) (numbers_differ d i j accepted less below))
+
+hosts_apart : (d : Description) → IsAccepted d → IsDistinct (same_id d) (hosts_of d)
+hosts_apart d accepted =
+    IsDistinct-from_apart (same_id d) (hosts_of d)
+    (AllPairs-filter (λ i j. same_id d i j ≡ false) (λ (i : EniNo). is_host (interface_at d i)) (map numbered (range_with_len 0 (length d.interfaces))) (rows_apart d accepted))
+
+is-less : (o : Ordering) → is_eq o ≡ false → is_lt (ordering_reverse o) ≡ false → o ≡ Less
+is-less Less e l = refl
+is-less Equal e l = absurd cc
+is-less Greater e l = absurd cc
+
+comes-before : (a b : List ℕ) → bytes_eq a b ≡ false → is_lt (slice_cmp nat_cmp b a) ≡ false → slice_cmp nat_cmp a b ≡ Less
+comes-before a b apart up =
+    is-less (slice_cmp nat_cmp a b) (is_eq-slice_cmp a b ∙ apart) (ap is_lt (sym (nat_list_cmp_total.antisymm b a)) ∙ up)
+
+ascend : (d : Description) (hosts sorted : List EniNo) → IsDistinct (same_id d) hosts → IsPermutation hosts sorted → IsSortedByKey (id_of d) (slice_cmp nat_cmp) sorted → AllPairs (ComesBefore d) sorted
+ascend d hosts sorted distinct moved up i j x less within =
+    let still = IsDistinct-IsPermutation (same_id d) (λ a b. nat_list_eq_equiv.symm (id_of d a) (id_of d b)) hosts sorted moved distinct in
+    comes-before (id_of d (get_or sorted i x)) (id_of d (get_or sorted j x))
+    (apart_from_distinct (same_id d) sorted i j x still less within)
+    (sorted_far (λ (a b : EniNo). is_lt (slice_cmp nat_cmp (id_of d a) (id_of d b))) (ranks_by nat_list_cmp_total (id_of d)) sorted up i j x (omega arith) within)
+
+pub hosts_by_id : (d : Description) (hosts sorted : List EniNo) → IsAccepted d → hosts ≡ hosts_of d → IsPermutation hosts sorted → IsSortedByKey (id_of d) (slice_cmp nat_cmp) sorted
+    → AreHostsById d sorted
+hosts_by_id d hosts sorted accepted are moved up =
+    let all = subst (λ (xs : List EniNo). IsPermutation xs sorted) are moved in
+    record { all = all; ascending = ascend d (hosts_of d) sorted (hosts_apart d accepted) all up }
