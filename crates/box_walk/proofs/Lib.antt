@@ -2,3 +2,4 @@ pub mod Rests
 pub mod Telling
 pub mod Texts
 pub mod Missed
+pub mod JourneyLemmas

@@ -74,7 +74,7 @@ tells_after d appliances label enough rest_enough word rest_word old mid new end
 }
 
 -- the low corner lies in a body
-low_in_body : (body part : Box5) → IsBody body part → holds (low_of part) body ≡ true
+pub low_in_body : (body part : Box5) → IsBody body part → holds (low_of part) body ≡ true
 low_in_body body part b = subst (λ (g : Header). holds g body ≡ true) b.low (holds_low body (valid_if_within body part b.within))
 
 -- ---- cuts
@@ -305,7 +305,7 @@ request_among d appliances start goal old requests cuts e =
     (among_through (cuts_of_hops d walk.hops) (near_cuts d appliances start goal low) cuts (left_among (cuts_of_hops d walk.hops) (cuts_of_hops d (reply_hops d appliances start goal low))) e)
 
 -- the walk of a request
-request_led : (d : Description) (appliances : Appliances) (start : End) (old new : BoxMoment) (ending : Ending) → AreRequests start old
+pub request_led : (d : Description) (appliances : Appliances) (start : End) (old new : BoxMoment) (ending : Ending) → AreRequests start old
     → IsWalkOn d appliances labels.Opening old new ending → (h : Header) → holds h new.header.part ≡ true → IsWalkTo (request_walk d appliances start h) h new ending
 request_led d appliances start old new ending requests w h inside =
     subst (λ (m : Moment). IsWalkTo (walk_of d appliances labels.Opening m) h new ending) (requests h) (w.walk h inside)

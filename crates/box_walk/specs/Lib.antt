@@ -4,3 +4,6 @@ pub mod Asking
 pub mod Seeking
 pub mod Told
 pub mod Laws
+pub mod Journeys
+pub mod Open
+pub mod Goal

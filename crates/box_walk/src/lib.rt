@@ -2,7 +2,10 @@
 //! replies return.
 #![tactic(auto)]
 
+mod goal;
+mod journeys;
 mod laws;
+mod open;
 mod probe;
 mod seeking;
 mod through;
@@ -10,7 +13,10 @@ mod verdict;
 mod walks;
 
 pub use box_steps::{BoxMoment, BoxNext, ImageNat, step_on};
+pub use goal::GoalProbe;
+pub use journeys::{Journey, journeys_are_verdicts};
 pub use laws::{misses_never_arrive, nothing_stops_through, words_have_texts};
+pub use open::OpenProbe;
 pub use probe::RoundProbe;
 pub use through::ThroughProbe;
 pub use walks::{Ending, walk_on};

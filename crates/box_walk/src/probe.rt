@@ -36,7 +36,7 @@ pub struct RoundProbe<'a> {
 }
 
 // Requests at the start, of which nothing is remembered.
-fn begin(m: &mut BoxMoment, start: End, sides: &Box5)
+pub(crate) fn begin(m: &mut BoxMoment, start: End, sides: &Box5)
     requires { IsValid sides.now }
     ensures place { m.new.place ≡ start_of start }
     ensures part { m.new.header.part ≡ sides.now }
@@ -52,7 +52,7 @@ fn begin(m: &mut BoxMoment, start: End, sides: &Box5)
     m.nats.clear();
 }
 
-fn moment_at(start: End, sides: &Box5) -> BoxMoment
+pub(crate) fn moment_at(start: End, sides: &Box5) -> BoxMoment
     requires { IsValid sides.now }
 {
     BoxMoment::at(start_place(&start), Image::of(sides))
@@ -74,6 +74,25 @@ impl<'a> RoundProbe<'a> {
             goal,
             followed: RefCell::from(moment_at(start, &Box5::default())),
         }
+    }
+
+    /// Asks about other ends from here on. The moment of the probe, which is 14 kilobytes, serves them as well: many pairs
+    /// of ends are asked about by one probe.
+    pub fn turn(&mut self, start: End, goal: End)
+        requires start { IsTrue (is_end self.old.fabric.now start) }
+        requires goal { IsTrue (is_end self.old.fabric.now goal) }
+        ensures { asked self.new.fabric.now self.new.start self.new.goal
+            ≡ asked self.old.fabric.now start goal }
+    {
+        self.start = start;
+        self.goal = goal;
+    }
+
+    /// Where the requests are to arrive.
+    pub(crate) fn goal(&self) -> End
+        ensures { result ≡ self.now.goal }
+    {
+        self.goal
     }
 
     // What stops the requests of a part of the sides, or their replies, by the moment that follows them.

@@ -58,7 +58,7 @@ fn word_of_answer(f: &Fabric, deciders: &Deciders, start: End, m: &mut BoxMoment
 }
 
 // Of requests that have arrived at an end: it should be the goal, and they should have replies.
-fn word_of_arrival(
+pub(crate) fn word_of_arrival(
     f: &Fabric,
     deciders: &Deciders,
     start: End,

@@ -1,0 +1,5 @@
+use Rattle.cut_laws.proofs.Among.{among_itself}
+use Rattle.box_walk.proofs.goal.GoalProbeProbe.probe.Goals as goal
+
+pub returns-clause-aligned : goal.returns-clause-aligned
+returns-clause-aligned g c = c.is_stopped_on-answer.ensures.aligned _ (among_itself _)

@@ -1,0 +1,131 @@
+// The probe that asks at which end requests from a start get through.
+ghost use Rattle.std.specs.Prelude.{◌≡◌, ◌↔◌, IsTrue, None, true};
+ghost use Rattle.vpc_base.specs.Cuts.{AreAmong};
+ghost use Rattle.header_boxes.specs.Boxes.{IsValid, low_of};
+ghost use Rattle.box_images.specs.Answers.{Answers};
+ghost use Rattle.vpc_model.specs.Appliances.{appliances_of};
+ghost use Rattle.vpc_model.specs.Sound.{is_end};
+ghost use Rattle.box_walk.specs.Journeys.{journey_of, open_cuts, reached_end};
+ghost use Rattle.box_walk.specs.Open.{starting};
+
+use crate::journeys::{Journey, journey_on};
+use crate::probe::{begin, moment_at};
+use appliances::Deciders;
+use box_images::Part;
+use box_steps::BoxMoment;
+use fabric::Fabric;
+use header_boxes::Box5;
+use ordered_cover::Probe;
+use packet_emulator::same_end;
+use std::cell::RefCell;
+use vpc_model::End;
+
+/// At which end requests from a start get through, whatever end that is. A part that is answered is one for which all
+/// requests pass the same places to the same end, and so do their replies.
+#[derive(Drop)]
+pub struct OpenProbe<'a> {
+    fabric: &'a Fabric,
+    deciders: &'a Deciders,
+    start: End,
+    // As that of the probe with a goal.
+    followed: RefCell<BoxMoment>,
+    ghost known: { is_end fabric.now start ≡ true },
+    ghost described: { deciders.now.appliances ≡ appliances_of fabric.now },
+}
+
+fn reached_end(journey: Journey) -> Option<End>
+    ensures { result ≡ reached_end journey }
+{
+    match journey {
+        Journey::Reached(end) => Some(end),
+        Journey::Stopped(_, _) => None,
+    }
+}
+
+impl<'a> OpenProbe<'a> {
+    /// The probe for the requests from the end `start`, with the appliances that the network describes.
+    pub fn of(f: &'a Fabric, deciders: &'a Deciders, start: End) -> OpenProbe<'a>
+        requires appliances { deciders.now.appliances ≡ appliances_of f.now }
+        requires start { IsTrue (is_end f.now start) }
+        ensures { starting result.fabric.now result.start ≡ starting f.now start }
+    {
+        OpenProbe {
+            fabric: f,
+            deciders,
+            start,
+            followed: RefCell::from(moment_at(start, &Box5::default())),
+        }
+    }
+
+    /// Asks about another start from here on, by the same moment.
+    pub fn turn(&mut self, start: End)
+        requires { IsTrue (is_end self.old.fabric.now start) }
+        ensures { starting self.new.fabric.now self.new.start ≡ starting self.old.fabric.now start }
+    {
+        self.start = start;
+    }
+
+    // What becomes of the requests of a part of the sides, by the moment that follows them.
+    fn follow(&self, sides: &Box5, m: &mut BoxMoment) -> Part<Journey>
+        requires { IsValid sides.now }
+        ensures { Answers
+            (AreAmong (open_cuts self.now.fabric.now (appliances_of self.now.fabric.now) self.now.start (low_of sides.now)))
+            (journey_of self.now.fabric.now (appliances_of self.now.fabric.now) self.now.start None) sides.now result }
+    {
+        begin(m, self.start, sides);
+        let told = journey_on(self.fabric, self.deciders, self.start, m);
+        let body = m.header.part;
+        Part { body, told }
+    }
+
+    // The same by a moment of its own.
+    fn follow_apart(&self, sides: &Box5) -> Part<Journey>
+        requires { IsValid sides.now }
+        ensures { Answers
+            (AreAmong (open_cuts self.now.fabric.now (appliances_of self.now.fabric.now) self.now.start (low_of sides.now)))
+            (journey_of self.now.fabric.now (appliances_of self.now.fabric.now) self.now.start None) sides.now result }
+    {
+        self.follow(sides, &mut moment_at(self.start, sides))
+    }
+
+    /// What becomes of the requests of a part of the sides: at which end they get through, or what stops them or their
+    /// replies.
+    pub fn journey_on(&self, sides: &Box5) -> Part<Journey>
+        requires { IsValid sides.now }
+        ensures { Answers
+            (AreAmong (open_cuts self.now.fabric.now (appliances_of self.now.fabric.now) self.now.start (low_of sides.now)))
+            (journey_of self.now.fabric.now (appliances_of self.now.fabric.now) self.now.start None) sides.now result }
+    {
+        match self.followed.try_borrow_mut() {
+            Ok(mut m) => self.follow(sides, &mut m),
+            Err(_) => self.follow_apart(sides),
+        }
+    }
+}
+
+impl<'a> Probe for OpenProbe<'a> {
+    ghost use Rattle.vpc_model.specs.Cuts.{cuts_of};
+    ghost use Rattle.box_walk.specs.Journeys.{reached_of};
+    ghost use Rattle.box_walk.specs.Open.{open_cuts_are_among_all};
+
+    type Word = End;
+
+    ghost meaning = { λ p h. reached_of p.fabric.now (appliances_of p.fabric.now) p.start None h };
+
+    ghost cuts = { λ p. cuts_of p.fabric.now };
+
+    ghost near = { λ p h. open_cuts p.fabric.now (appliances_of p.fabric.now) p.start h };
+
+    ghost near_among = { λ p h. open_cuts_are_among_all p.fabric.now p.start h };
+
+    fn is_same(one: End, other: End) -> bool
+        ensures { IsTrue result ↔ (one ≡ other) }
+    {
+        same_end(one, other)
+    }
+
+    fn probe(&self, sides: &Box5) -> (Box5, Option<End>) {
+        let answer = self.journey_on(sides);
+        (answer.body, reached_end(answer.told))
+    }
+}
