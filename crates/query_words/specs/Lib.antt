@@ -3,6 +3,8 @@ pub mod Events
 pub mod Packet
 pub mod Pairs
 pub mod Query
+pub mod ReachQuery
 pub mod Refusal
 pub mod Sides
+pub mod Unbounded
 pub mod Words

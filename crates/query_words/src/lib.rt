@@ -10,8 +10,10 @@ mod lines;
 mod packets;
 mod pairs;
 mod queries;
+mod reaches;
 mod refusal;
 mod sides;
+mod unbounded;
 mod values;
 mod words;
 
@@ -19,5 +21,7 @@ pub use events::{EventFault, read_events};
 pub use lines::{first_words, lines_of};
 pub use packets::read_packet;
 pub use queries::{Query, read_line_query, read_query};
+pub use reaches::{ReachPairs, ReachQuery, read_reach_query};
 pub use refusal::QueryRefusal;
+pub use unbounded::read_unbounded_query;
 pub use words::word;

@@ -28,7 +28,7 @@ pub(crate) struct Pairs {
     pub max: u32,
 }
 
-fn has_pair<W: NumberedWords>(words: &W, name: &[u8], next: usize) -> bool
+pub(crate) fn has_pair<W: NumberedWords>(words: &W, name: &[u8], next: usize) -> bool
     requires { 3 ≤ next }
     ensures pair { result ≡ has_pair name.now (W.words words.now) next }
     ensures within { IsTrue result → next < length (W.words words.now) }
@@ -37,7 +37,10 @@ fn has_pair<W: NumberedWords>(words: &W, name: &[u8], next: usize) -> bool
     next < words.count() && words.word(next) == name
 }
 
-fn read_proto_pair<W: NumberedWords>(words: &W, next: usize) -> Result<Taken<u8>, QueryRefusal>
+pub(crate) fn read_proto_pair<W: NumberedWords>(
+    words: &W,
+    next: usize,
+) -> Result<Taken<u8>, QueryRefusal>
     requires { 3 ≤ next }
     ensures pair { result
         ≡ pair_or 6 (codes "proto") (read_as proto_of) (W.words words.now) next }
@@ -53,7 +56,7 @@ fn read_proto_pair<W: NumberedWords>(words: &W, next: usize) -> Result<Taken<u8>
     })
 }
 
-fn read_side_pair<W: NumberedWords>(
+pub(crate) fn read_side_pair<W: NumberedWords>(
     words: &W,
     name: &[u8],
     next: usize,
@@ -74,7 +77,7 @@ fn read_side_pair<W: NumberedWords>(
 }
 
 // A protocol without ports has 0 in their places, and no words for them.
-fn read_ports_pair<W: NumberedWords>(
+pub(crate) fn read_ports_pair<W: NumberedWords>(
     words: &W,
     proto: u8,
     name: &[u8],
@@ -104,7 +107,10 @@ fn read_ports_pair<W: NumberedWords>(
     })
 }
 
-fn read_max_pair<W: NumberedWords>(words: &W, next: usize) -> Result<Taken<u32>, QueryRefusal>
+pub(crate) fn read_max_pair<W: NumberedWords>(
+    words: &W,
+    next: usize,
+) -> Result<Taken<u32>, QueryRefusal>
     requires { 3 ≤ next }
     ensures pair { result
         ≡ pair_or 20000 (codes "max") read_max (W.words words.now) next }
@@ -124,7 +130,7 @@ fn read_max_pair<W: NumberedWords>(words: &W, next: usize) -> Result<Taken<u32>,
     })
 }
 
-fn no_more<W: NumberedWords>(words: &W, next: usize) -> Result<(), QueryRefusal>
+pub(crate) fn no_more<W: NumberedWords>(words: &W, next: usize) -> Result<(), QueryRefusal>
     ensures { result ≡ no_more (W.words words.now) next }
 {
     if next <= words.count() {

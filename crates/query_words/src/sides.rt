@@ -37,7 +37,7 @@ fn own_side(alloc: Global, n: &Network, end: End) -> Result<(u32, u32), QueryRef
     }
 }
 
-fn src_of(
+pub(crate) fn src_of(
     alloc: Global,
     n: &Network,
     start: End,

@@ -105,7 +105,7 @@ pub(crate) fn has_ports(proto: u8) -> bool
 }
 
 // The greatest number that a protocol has in the place of a port.
-fn port_limit(proto: u8) -> u64
+pub(crate) fn port_limit(proto: u8) -> u64
     ensures { result ≡ port_limit proto }
 {
     if has_ports(proto) { 65535 } else { 0 }
