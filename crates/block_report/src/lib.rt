@@ -13,10 +13,13 @@ mod walks;
 mod words;
 
 pub use hops::{print_hops, put_by, put_by_group, put_hops, put_place};
+pub use places::end_id;
 pub use queries::put_query_refusal;
 pub use refusals::put_cause;
 pub use replays::put_replay;
-pub use reports::{print_more, print_report, put_more, put_report, put_row, put_told};
+pub use reports::{
+    print_more, print_report, put_box_word, put_more, put_report, put_row, put_told,
+};
 pub use stops::{name_text, route_at, stop_id, stop_text, tgw_route_at};
 pub use walks::{put_arrived, put_stop, put_stop_words, put_stopped, put_walk};
 pub use words::{

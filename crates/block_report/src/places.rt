@@ -49,6 +49,7 @@ pub fn place_id<'a>(n: &'a Network, p: &Place) -> &'a [u8]
     }
 }
 
+/// The id of an end: that of its interface, or `internet`.
 pub fn end_id<'a>(n: &'a Network, end: &End) -> &'a [u8]
     requires { IsTrue (is_end n.now end.now) }
     ensures value { result.now ≡ end_id n.now end.now }

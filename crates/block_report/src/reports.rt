@@ -61,7 +61,8 @@ fn put_box(out: &mut Vec<u8>, b: &Box5) -> Result<(), NoMemory>
     put_ports_word(out, b.q)
 }
 
-fn put_box_word(out: &mut Vec<u8>, b: &Box5) -> Result<(), NoMemory>
+/// Appends a blank and a box: five ranges.
+pub fn put_box_word(out: &mut Vec<u8>, b: &Box5) -> Result<(), NoMemory>
     ensures { OnOk result (out.new.items ≡ out.old.items ++ word (box_text b.now)) }
 {
     put(out, b" ")?;
