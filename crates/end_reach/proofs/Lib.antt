@@ -1,0 +1,7 @@
+pub mod WordLemmas
+pub mod SideLemmas
+pub mod StartLemmas
+pub mod RowLemmas
+pub mod BodyLemmas
+pub mod AnswerLemmas
+pub mod Decided

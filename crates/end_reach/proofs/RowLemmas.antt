@@ -1,0 +1,80 @@
+-- The rows of one start: the ends that they reach are described.
+use Rattle.std.proofs.Common.{◌≡◌, [], All, Bool, IfSome, List, None, Option, Some, cond, false, get_or, subst, sym, true, ℕ}
+use Rattle.box_gather.specs.Over.{AreRowsOver, IsGatheredOver, IsPartOf}
+use Rattle.box_walk.proofs.Telling.{start-sound}
+use Rattle.box_walk.specs.Journeys.{journey_after, journey_by, reached_end, reached_of}
+use Rattle.box_walk.specs.Open.{Starting}
+use Rattle.box_walk.specs.Asking.{Asking}
+use Rattle.header_boxes.proofs.Held.{holds_low, valid_if_within}
+use Rattle.header_boxes.specs.Boxes.{low_of}
+use Rattle.header_boxes.specs.declared.boxes.Box5.{Box5}
+use Rattle.header_boxes.specs.declared.rows.Row.{Row}
+use Rattle.ordered_cover.specs.declared.rows.Gathered.{Gathered}
+use Rattle.vpc_base.specs.Header.{reply_of}
+use Rattle.vpc_base.specs.declared.headers.Header.{Header}
+use Rattle.vpc_base.specs.declared.headers.Label.TheVariants as labels
+use Rattle.vpc_laws.proofs.Telling.{walks_are_sound}
+use Rattle.vpc_laws.specs.Sound.{EndsWell}
+use Rattle.vpc_laws.specs.Types.{Description, End, Outcome, Verdict}
+use Rattle.vpc_model.specs.Accepted.{IsAccepted}
+use Rattle.vpc_model.specs.Appliances.{Appliances, appliances_of}
+use Rattle.vpc_model.specs.Cuts.{cuts_of}
+use Rattle.vpc_model.specs.Place.{start_of}
+use Rattle.vpc_model.specs.Sound.{is_end}
+use Rattle.vpc_model.specs.Verdict.{request_walk, same_end, verdict_of, verdict_of_arrival}
+use Rattle.vpc_model.specs.Walk.{Walk}
+use Rattle.vpc_model.specs.declared.outcomes.Outcome.TheVariants as outcomes
+use Rattle.vpc_model.specs.declared.outcomes.Phase.TheVariants as phases
+use Rattle.vpc_model.specs.declared.outcomes.Verdict.TheVariants as verdicts
+use Rattle.vpc_model.specs.declared.stops.Stop.TheVariants as stops
+use Rattle.box_walk.specs.declared.journeys.Journey.TheVariants as journeys
+
+-- ---- one request
+
+by_verdict : (goal end : End) (v : Verdict) → reached_end (journey_by goal v) ≡ Some end → end ≡ goal
+by_verdict goal end verdicts.Through is = cc
+by_verdict goal end (verdicts.Stopped phase s) is = absurd cc
+
+by_place : (at end : End) (back : Bool) (v : Verdict) → reached_end (cond back (journeys.Stopped phases.Request (stops.WrongPlace at)) (journey_by at v)) ≡ Some end → end ≡ at
+by_place at end true v is = absurd cc
+by_place at end false v is = by_verdict at end v is
+
+by_outcome : (d : Description) (a : Appliances) (start end : End) (h : Header) (w : Walk) (o : Outcome) → EndsWell d o → reached_end (journey_after d a start h w o) ≡ Some end → is_end d end ≡ true
+by_outcome d a start end h w (outcomes.Stopped s) well is = absurd cc
+by_outcome d a start end h w (outcomes.Arrived at k) well is =
+    subst (λ (e : End). is_end d e ≡ true) (sym (by_place at end (same_end at start) (verdict_of_arrival d a start at h w (reply_of k)) is)) well
+
+-- what is reached is a described end
+pub reached_is_end : (d : Description) (a : Appliances) (start end : End) (goal : Option End) (h : Header) → IsAccepted d → is_end d start ≡ true → IfSome goal (λ e. is_end d e ≡ true)
+    → reached_of d a start goal h ≡ Some end → is_end d end ≡ true
+reached_is_end d a start end (Some goal) h accepted there known is =
+    subst (λ (e : End). is_end d e ≡ true) (sym (by_verdict goal end (verdict_of d a start goal h) is)) known
+reached_is_end d a start end None h accepted there known is =
+    let w = request_walk d a start h in
+    let sound = walks_are_sound d a labels.Opening (record { place = start_of start; header = h; conns = []; nats = [] }) accepted (start-sound d start there) in
+    by_outcome d a start end h w w.outcome sound.1 is
+
+-- ---- rows
+
+pub rows_reach_ends : (d : Description) (a : Appliances) (start : End) (goal : Option End) (boxes : List Box5) (rows : List (Row End)) → IsAccepted d → is_end d start ≡ true
+    → IfSome goal (λ e. is_end d e ≡ true) → AreRowsOver (reached_of d a start goal) (cuts_of d) boxes rows → All (λ r. is_end d r.word ≡ true) rows
+rows_reach_ends d a start goal boxes rows accepted there known are k x below =
+    let row = get_or rows k x in
+    let part : IsPartOf (cuts_of d) boxes row.part = are.parts k x below in
+    let low = low_of row.part in
+    reached_is_end d a start row.word goal low accepted there known (are.word k x below low (holds_low row.part (valid_if_within row.part part.whole part.within)))
+
+-- ---- what the probes tell
+
+-- a probe from the same start in the same network
+pub gathered_by_start : (s t : Starting) (boxes : List Box5) (room : ℕ) (g : Gathered End) → s ≡ t
+    → IsGatheredOver (reached_of s.network (appliances_of s.network) s.start None) (cuts_of s.network) boxes room g
+    → IsGatheredOver (reached_of t.network (appliances_of t.network) t.start None) (cuts_of t.network) boxes room g
+gathered_by_start s t boxes room g same k =
+    subst (λ (x : Starting). IsGatheredOver (reached_of x.network (appliances_of x.network) x.start None) (cuts_of x.network) boxes room g) same k
+
+pub gathered_by_ends : (s t : Asking) (boxes : List Box5) (room : ℕ) (g : Gathered End) → s ≡ t
+    → IsGatheredOver (reached_of s.network (appliances_of s.network) s.start (Some s.goal)) (cuts_of s.network) boxes room g
+    → IsGatheredOver (reached_of t.network (appliances_of t.network) t.start (Some t.goal)) (cuts_of t.network) boxes room g
+gathered_by_ends s t boxes room g same k =
+    subst (λ (x : Asking). IsGatheredOver (reached_of x.network (appliances_of x.network) x.start (Some x.goal)) (cuts_of x.network) boxes room g) same k

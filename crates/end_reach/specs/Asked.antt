@@ -1,0 +1,94 @@
+-- Which requests a question for all that gets through is about.
+use Rattle.std.specs.List.{flat_map}
+use Rattle.std.specs.List.Sorted.{IsStrictlyIncreasing}
+use Rattle.std.specs.Prelude.{◌≡◌, ◌↔◌, ◌&&◌, ◌++◌, ◌∷◌, [], if◌then◌else◌, Bool, Contains, List, None, Option, Some, false, filter, is_some, map, not, option_map, ℕ}
+use Rattle.header_boxes.specs.declared.boxes.Box5.{Box5}
+use Rattle.query_words.specs.Sides.{all_addresses}
+use Rattle.query_words.specs.declared.reaches.ReachPairs.{ReachPairs}
+use Rattle.query_words.specs.declared.reaches.ReachQuery.{ReachQuery}
+use Rattle.vpc_laws.specs.Types.{Description, End, EniNo, Interface}
+use Rattle.vpc_model.specs.Lookup.{both_addresses, interface_at}
+use Rattle.vpc_model.specs.Verdict.{same_end}
+use Rattle.vpc_model.specs.declared.places.End.TheVariants as ends
+use Rattle.described_hosts.specs.Hosts.{AreHostsById}
+
+-- ---- sources
+
+-- one address
+abbrev pub alone : ℕ → ℕ × ℕ
+alone a = (a, a)
+
+-- those of a start: its primary address, if it has one; all, of the internet
+abbrev pub own_sources : Description → End → Option (ℕ × ℕ)
+own_sources d (ends.Interface i) = let e = interface_at d i in option_map alone e.primary
+own_sources d ends.Internet = Some all_addresses
+
+-- those that are asked for: those that are given, else the start's own
+abbrev pub sources_of : Description → Option (ℕ × ℕ) → End → Option (ℕ × ℕ)
+sources_of d (Some side) start = Some side
+sources_of d None start = own_sources d start
+
+-- ---- destinations
+
+-- the private and public addresses of an interface
+abbrev pub own_addresses : Interface → List ℕ
+own_addresses e = flat_map both_addresses e.addresses
+
+-- each of some addresses, alone, in ascending order
+pub record AreEachAlone (addresses : List ℕ) (sides : List (ℕ × ℕ)) : Type 0 where
+  pub order : List ℕ
+  pub ascending : IsStrictlyIncreasing order
+  pub members : (a : ℕ) → Contains order a ↔ Contains addresses a
+  pub are : sides ≡ map alone order
+
+-- those that are asked for: those that are given; else each address of an interface that is the goal, and all where none is
+abbrev pub AreTargets : Description → Option (ℕ × ℕ) → Option End → List (ℕ × ℕ) → Type 0
+AreTargets d (Some side) goal targets = targets ≡ side ∷ []
+AreTargets d None None targets = targets ≡ all_addresses ∷ []
+AreTargets d None (Some ends.Internet) targets = targets ≡ all_addresses ∷ []
+AreTargets d None (Some (ends.Interface i)) targets = AreEachAlone (own_addresses (interface_at d i)) targets
+
+-- ---- boxes
+
+-- the headers between two sides of addresses
+abbrev pub sides_between : ReachPairs → ℕ × ℕ → ℕ × ℕ → Box5
+sides_between pairs src dst = record { proto = pairs.proto; src = src; dst = dst; p = pairs.p; q = pairs.q }
+
+-- one box for each destination; none where there is no source
+abbrev pub boxes_by : ReachPairs → List (ℕ × ℕ) → Option (ℕ × ℕ) → List Box5
+boxes_by pairs targets None = []
+boxes_by pairs targets (Some src) = map (sides_between pairs src) targets
+
+-- the headers that are asked for from a start
+abbrev pub boxes_at : Description → ReachQuery → List (ℕ × ℕ) → End → List Box5
+boxes_at d query targets start = boxes_by query.pairs targets (sources_of d query.pairs.src start)
+
+-- ---- starts
+
+-- the end is the goal
+abbrev pub is_goal : Option End → End → Bool
+is_goal None e = false
+is_goal (Some goal) e = same_end e goal
+
+abbrev pub has_primary : Description → EniNo → Bool
+has_primary d i = let e = interface_at d i in is_some e.primary
+
+-- an interface that has a primary address and isn't the goal
+abbrev pub is_start : Description → Option End → EniNo → Bool
+is_start d goal i = has_primary d i && not (is_goal goal (ends.Interface i))
+
+-- the internet, and then such hosts, without the goal
+abbrev pub starts_among : Description → Option End → List EniNo → List End
+starts_among d goal hosts =
+    (if is_goal goal ends.Internet then [] else ends.Internet ∷ []) ++ map ends.Interface (filter (is_start d goal) hosts)
+
+-- they, with the hosts in the order of their ids
+pub record AreAllStarts (d : Description) (goal : Option End) (starts : List End) : Type 0 where
+  pub hosts : List EniNo
+  pub by_id : AreHostsById d hosts
+  pub are : starts ≡ starts_among d goal hosts
+
+-- where requests start: at the end that is given, or at all
+abbrev pub AreStarts : Description → Option End → Option End → List End → Type 0
+AreStarts d (Some start) goal starts = starts ≡ start ∷ []
+AreStarts d None goal starts = AreAllStarts d goal starts

@@ -1,0 +1,5 @@
+pub mod Asked
+pub mod Told
+pub mod Texts
+pub mod Bodies
+pub mod Answered

@@ -1,0 +1,134 @@
+// The rows of all starts.
+ghost use Rattle.std.specs.Prelude.{◌≡◌, ◌≤◌, ◌+◌, ◌++◌, All, IfOk, IsTrue, OnOk, length};
+ghost use Rattle.query_words.specs.ReachQuery.{AreGivenEnds, AreReachPairs};
+ghost use Rattle.vpc_model.specs.Appliances.{appliances_of};
+ghost use Rattle.vpc_model.specs.Sound.{is_end};
+ghost use Rattle.end_reach.specs.Asked.{AreTargets};
+ghost use Rattle.end_reach.specs.Bodies.{IsAdded, IsBody, IsGatheredFrom};
+ghost use Rattle.end_reach.specs.Texts.{row_lines_from};
+
+use crate::rows::{gather_from, put_rows};
+use crate::sides::boxes_at;
+use appliances::Deciders;
+use box_gather::Gathered;
+use fabric::Fabric;
+use header_boxes::Row;
+use query_words::ReachQuery;
+use reference_check::Network;
+use std::alloc::Global;
+use vpc_base::{Header, NoMemory};
+use vpc_model::End;
+
+/// The lines of rows, how many there are, and where rows are left out the first header that is, with its start.
+#[derive(Drop)]
+pub struct Body {
+    pub text: Vec<u8>,
+    pub count: u32,
+    pub next: Option<(End, Header)>,
+}
+
+// What is gathered from a start.
+fn gather_at(
+    alloc: Global,
+    f: &Fabric,
+    deciders: &Deciders,
+    query: &ReachQuery,
+    targets: &[(u32, u32)],
+    start: End,
+    room: u32,
+) -> Result<Gathered<End>, NoMemory>
+    requires appliances { deciders.now.appliances ≡ appliances_of f.now }
+    requires ends { AreGivenEnds f.now query.now }
+    requires pairs { AreReachPairs query.now.pairs }
+    requires targets { AreTargets f.now query.now.pairs.dst query.now.goal targets.now }
+    requires start { IsTrue (is_end f.now start) }
+    ensures { IfOk result (IsGatheredFrom f.now query.now targets.now start room) }
+{
+    let boxes = boxes_at(alloc, f.network(), query, targets, start)?;
+    gather_from(
+        alloc,
+        f,
+        deciders,
+        start,
+        query.goal,
+        boxes.as_slice(),
+        room,
+    )
+}
+
+// Adds the lines of rows.
+fn add_rows(body: &mut Body, n: &Network, start: End, rows: &[Row<End>]) -> Result<(), NoMemory>
+    requires start { IsTrue (is_end n.now start) }
+    requires ends { All (λ row. IsTrue (is_end n.now row.word)) rows.now }
+    requires few { body.old.count + length rows.now ≤ 20000 }
+    ensures lines { OnOk result (body.new.text.items
+        ≡ body.old.text.items ++ row_lines_from n.now (body.old.count + 1) start rows.now) }
+    ensures count { OnOk result (body.new.count ≡ body.old.count + length rows.now) }
+    ensures next { OnOk result (body.new.next ≡ body.old.next) }
+{
+    put_rows(&mut body.text, n, body.count + 1, start, rows)?;
+    body.count += rows.len() as u32;
+    Ok(())
+}
+
+// Adds what is gathered from a start.
+fn add_start(
+    alloc: Global,
+    f: &Fabric,
+    deciders: &Deciders,
+    query: &ReachQuery,
+    targets: &[(u32, u32)],
+    start: End,
+    body: &mut Body,
+) -> Result<(), NoMemory>
+    requires appliances { deciders.now.appliances ≡ appliances_of f.now }
+    requires ends { AreGivenEnds f.now query.now }
+    requires pairs { AreReachPairs query.now.pairs }
+    requires targets { AreTargets f.now query.now.pairs.dst query.now.goal targets.now }
+    requires start { IsTrue (is_end f.now start) }
+    requires few { body.old.count ≤ query.now.pairs.max }
+    ensures { OnOk result (IsAdded f.now query.now targets.now start
+        body.old.text.items body.old.count body.old.next body.new.text.items body.new.count body.new.next) }
+{
+    let room = query.pairs.max - body.count;
+    // That the network is accepted is a clause of this call.
+    let _ = f.network().description();
+    match gather_at(alloc, f, deciders, query, targets, start, room)? {
+        Gathered::All(rows) => add_rows(body, f.network(), start, rows.as_slice()),
+        Gathered::More(rows, next) => {
+            add_rows(body, f.network(), start, rows.as_slice())?;
+            body.next = Some((start, next));
+            Ok(())
+        }
+    }
+}
+
+/// The rows of all starts, not more than asked for.
+pub fn body_of(
+    alloc: Global,
+    f: &Fabric,
+    deciders: &Deciders,
+    query: &ReachQuery,
+    targets: &[(u32, u32)],
+    starts: &[End],
+) -> Result<Body, NoMemory>
+    requires appliances { deciders.now.appliances ≡ appliances_of f.now }
+    requires ends { AreGivenEnds f.now query.now }
+    requires pairs { AreReachPairs query.now.pairs }
+    requires targets { AreTargets f.now query.now.pairs.dst query.now.goal targets.now }
+    requires starts { All (λ e. IsTrue (is_end f.now e)) starts.now }
+    ensures { IfOk result (λ b. IsBody f.now query.now targets.now starts.now b.text.items b.count b.next) }
+{
+    let mut body = Body {
+        text: Vec::new(alloc),
+        count: 0,
+        next: None,
+    };
+    for start in starts {
+        add_start(alloc, f, deciders, query, targets, *start, &mut body)?;
+        if body.next.is_some() {
+            return Ok(body);
+        }
+    }
+    Ok(body)
+}

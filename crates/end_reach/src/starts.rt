@@ -1,0 +1,126 @@
+// Where the requests that are asked for start.
+ghost use Rattle.std.specs.Prelude.{◌≡◌, ◌++◌, ◌∷◌, [], All, IfOk, IfSome, IsTrue, OnOk, cond, filter, map};
+ghost use Rattle.vpc_model.specs.Sound.{is_end, is_eni};
+ghost use Rattle.vpc_model.specs.declared.places.End.TheVariants as ends;
+ghost use Rattle.end_reach.specs.Asked.{AreAllStarts, AreStarts, has_primary, is_goal, is_start, starts_among};
+
+use described_hosts::hosts_by_id;
+use packet_emulator::same_end;
+use reference_check::Network;
+use std::alloc::Global;
+use vpc_base::NoMemory;
+use vpc_model::{End, EniNo};
+
+fn is_goal(goal: Option<End>, end: End) -> bool
+    ensures { result ≡ is_goal goal end }
+{
+    match goal {
+        Some(goal) => same_end(end, goal),
+        None => false,
+    }
+}
+
+fn has_primary(n: &Network, eni: EniNo) -> bool
+    ensures { result ≡ has_primary n.now eni }
+{
+    match n.description().interfaces.as_slice().get(eni.0 as usize) {
+        Some(interface) => interface.primary.is_some(),
+        None => false,
+    }
+}
+
+fn is_start(n: &Network, goal: Option<End>, eni: EniNo) -> bool
+    ensures { result ≡ is_start n.now goal eni }
+{
+    has_primary(n, eni) && !is_goal(goal, End::Interface(eni))
+}
+
+// Adds a host, where it is a start.
+fn add_host(
+    starts: &mut Vec<End>,
+    n: &Network,
+    goal: Option<End>,
+    host: EniNo,
+) -> Result<(), NoMemory>
+    ensures { OnOk result (starts.new.items
+        ≡ starts.old.items ++ cond (is_start n.now goal host) (ends.Interface host ∷ []) []) }
+{
+    if is_start(n, goal, host) {
+        starts.push(End::Interface(host))?;
+    }
+    Ok(())
+}
+
+// Adds the hosts that are starts.
+fn add_hosts(
+    starts: &mut Vec<End>,
+    n: &Network,
+    goal: Option<End>,
+    hosts: &[EniNo],
+) -> Result<(), NoMemory>
+    ensures { OnOk result (starts.new.items
+        ≡ starts.old.items ++ map ends.Interface (filter (is_start n.now goal) hosts.now)) }
+{
+    for host in hosts {
+        add_host(starts, n, goal, *host)?;
+    }
+    Ok(())
+}
+
+// The internet, where it isn't the goal.
+fn first_starts(alloc: Global, goal: Option<End>) -> Result<Vec<End>, NoMemory>
+    ensures { IfOk result (λ v. v.items ≡ cond (is_goal goal ends.Internet) [] (ends.Internet ∷ [])) }
+{
+    let mut starts = Vec::new(alloc);
+    if !is_goal(goal, End::Internet) {
+        starts.push(End::Internet)?;
+    }
+    Ok(starts)
+}
+
+// The internet, and then the hosts.
+fn starts_among(
+    alloc: Global,
+    n: &Network,
+    goal: Option<End>,
+    hosts: &[EniNo],
+) -> Result<Vec<End>, NoMemory>
+    ensures { IfOk result (λ v. v.items ≡ starts_among n.now goal hosts.now) }
+{
+    let mut starts = first_starts(alloc, goal)?;
+    add_hosts(&mut starts, n, goal, hosts)?;
+    Ok(starts)
+}
+
+fn all_starts(alloc: Global, n: &Network, goal: Option<End>) -> Result<Vec<End>, NoMemory>
+    ensures { IfOk result (λ v. AreAllStarts n.now goal v.items) }
+{
+    let hosts = hosts_by_id(alloc, n)?;
+    starts_among(alloc, n, goal, hosts.as_slice())
+}
+
+fn only(alloc: Global, start: End) -> Result<Vec<End>, NoMemory>
+    ensures { IfOk result (λ v. v.items ≡ start ∷ []) }
+{
+    let mut starts = Vec::new(alloc);
+    starts.push(start)?;
+    Ok(starts)
+}
+
+/// Where requests start: at the end that is given, or at the internet and all hosts that have a primary address, without
+/// the goal.
+pub fn starts_of(
+    alloc: Global,
+    n: &Network,
+    start: Option<End>,
+    goal: Option<End>,
+) -> Result<Vec<End>, NoMemory>
+    requires { IfSome start (λ e. IsTrue (is_end n.now e)) }
+    ensures starts { IfOk result (λ v. AreStarts n.now start goal v.items) }
+    ensures described { IfOk result (λ v. All (λ e. IsTrue (is_end n.now e)) v.items) }
+{
+    match start {
+        Some(start) => only(alloc, start),
+        None => all_starts(alloc, n, goal),
+    }
+}
