@@ -1,0 +1,24 @@
+-- Descriptions with other network ACLs and security groups.
+use Rattle.std.specs.Prelude.{List}
+use Rattle.vpc_model.specs.declared.rows.Acl.{Acl}
+use Rattle.vpc_model.specs.declared.rows.Description.{Description}
+use Rattle.vpc_model.specs.declared.rows.Group.{Group}
+
+-- these in place of its own, and all else the same
+abbrev pub with_filters : Description → List Acl → List Group → Description
+with_filters d acls groups = record {
+  vpcs = d.vpcs;
+  subnets = d.subnets;
+  interfaces = d.interfaces;
+  tables = d.tables;
+  lists = d.lists;
+  acls = acls;
+  groups = groups;
+  igws = d.igws;
+  nats = d.nats;
+  peerings = d.peerings;
+  attachments = d.attachments;
+  associations = d.associations;
+  tgw_tables = d.tgw_tables;
+  appliances = d.appliances;
+}

@@ -1,0 +1,115 @@
+-- Lists that are alike item by item, and lists with one item less.
+use Rattle.std.proofs.Common.{◌≡◌, ◌≤◌, ◌+◌, ◌∙◌, ◌||◌, ◌++◌, ◌∷◌, [], Bool, List, ap, ap₂, arith, cond, drop, false, get_or, length, map, refl, slice_set, subst, suc, sym, take, zero, ℕ}
+use Rattle.std.specs.List.{count_by, filter, flat_map, list_any, remove}
+use Rattle.std.proofs.lemmas.Bool.{or_from, or_parts}
+use Rattle.std.proofs.lemmas.List.Sums.{sum_by-cons}
+use Rattle.vpc_laws.proofs.Members.{append-nothing}
+
+-- ---- alike
+
+-- as long, and each two items in one place are in the relation
+abbrev pub Alike : {X : Type 0} → (X → X → Type 0) → List X → List X → Type 0
+Alike R [] [] = Unit {0}
+Alike R (x ∷ xs) (y ∷ ys) = R x y × Alike R xs ys
+Alike R _ _ = ⊥
+
+pub alike_itself : {X : Type 0} (R : X → X → Type 0) → ((x : X) → R x x) → (xs : List X) → Alike R xs xs
+alike_itself R itself [] = tt
+alike_itself R itself (x ∷ xs) = (itself x, alike_itself R itself xs)
+
+-- one item is replaced
+pub alike_set : {X : Type 0} (R : X → X → Type 0) → ((x : X) → R x x) → (xs : List X) (k : ℕ) (none y : X) → R (get_or xs k none) y → Alike R xs (slice_set xs k y)
+alike_set R itself [] k none y one = tt
+alike_set R itself (x ∷ xs) zero none y one = (one, alike_itself R itself xs)
+alike_set R itself (x ∷ xs) (suc k) none y one = (itself x, alike_set R itself xs k none y one)
+
+-- ---- what is the same of lists that are alike
+
+pub length-alike : {X : Type 0} (R : X → X → Type 0) (xs ys : List X) → Alike R xs ys → length xs ≡ length ys
+length-alike R [] [] alike = refl
+length-alike R (x ∷ xs) (y ∷ ys) alike = ap suc (length-alike R xs ys alike.1)
+length-alike R [] (y ∷ ys) alike = absurd alike
+length-alike R (x ∷ xs) [] alike = absurd alike
+
+pub map-alike : {X Y : Type 0} (R : X → X → Type 0) (f : X → Y) → ((x y : X) → R x y → f x ≡ f y) → (xs ys : List X) → Alike R xs ys → map f xs ≡ map f ys
+map-alike R f same [] [] alike = refl
+map-alike R f same (x ∷ xs) (y ∷ ys) alike = ap₂ (λ a rest. a ∷ rest) (same x y alike.0) (map-alike R f same xs ys alike.1)
+map-alike R f same [] (y ∷ ys) alike = absurd alike
+map-alike R f same (x ∷ xs) [] alike = absurd alike
+
+pub flat_map-alike : {X Y : Type 0} (R : X → X → Type 0) (f : X → List Y) → ((x y : X) → R x y → f x ≡ f y) → (xs ys : List X) → Alike R xs ys → flat_map f xs ≡ flat_map f ys
+flat_map-alike R f same [] [] alike = refl
+flat_map-alike R f same (x ∷ xs) (y ∷ ys) alike = ap₂ (λ a rest. a ++ rest) (same x y alike.0) (flat_map-alike R f same xs ys alike.1)
+flat_map-alike R f same [] (y ∷ ys) alike = absurd alike
+flat_map-alike R f same (x ∷ xs) [] alike = absurd alike
+
+pub list_any-alike : {X : Type 0} (R : X → X → Type 0) (p : X → Bool) → ((x y : X) → R x y → p x ≡ p y) → (xs ys : List X) → Alike R xs ys → list_any p xs ≡ list_any p ys
+list_any-alike R p same [] [] alike = refl
+list_any-alike R p same (x ∷ xs) (y ∷ ys) alike = ap₂ (λ a b. a || b) (same x y alike.0) (list_any-alike R p same xs ys alike.1)
+list_any-alike R p same [] (y ∷ ys) alike = absurd alike
+list_any-alike R p same (x ∷ xs) [] alike = absurd alike
+
+count-cons : {X : Type 0} (p : X → Bool) (x : X) (xs : List X) → count_by p (x ∷ xs) ≡ cond (p x) 1 0 + count_by p xs
+count-cons p x xs = sum_by-cons (λ a. cond (p a) 1 0) x xs
+
+pub count-alike : {X : Type 0} (R : X → X → Type 0) (p : X → Bool) → ((x y : X) → R x y → p x ≡ p y) → (xs ys : List X) → Alike R xs ys → count_by p xs ≡ count_by p ys
+count-alike R p same [] [] alike = refl
+count-alike R p same (x ∷ xs) (y ∷ ys) alike =
+    count-cons p x xs ∙ (ap₂ (λ b n. cond b 1 0 + n) (same x y alike.0) (count-alike R p same xs ys alike.1) ∙ sym (count-cons p y ys))
+count-alike R p same [] (y ∷ ys) alike = absurd alike
+count-alike R p same (x ∷ xs) [] alike = absurd alike
+
+-- where nothing is made of the items of one, nothing is made of those of the other
+pub nothing-alike : {X Y : Type 0} (R : X → X → Type 0) (f : X → List Y) → ((x y : X) → R x y → f x ≡ [] → f y ≡ []) → (xs ys : List X) → Alike R xs ys → flat_map f xs ≡ [] → flat_map f ys ≡ []
+nothing-alike R f less [] [] alike none = refl
+nothing-alike R f less (x ∷ xs) (y ∷ ys) alike none =
+    let parts = append-nothing (f x) (flat_map f xs) none in
+    both-nothing (f y) (flat_map f ys) (less x y alike.0 parts.0) (nothing-alike R f less xs ys alike.1 parts.1)
+  where
+    both-nothing : {Z : Type 0} (cs ds : List Z) → cs ≡ [] → ds ≡ [] → cs ++ ds ≡ []
+    both-nothing cs ds a b = ap₂ (λ c d. c ++ d) a b
+nothing-alike R f less [] (y ∷ ys) alike none = absurd alike
+nothing-alike R f less (x ∷ xs) [] alike none = absurd alike
+
+-- where none of the items of one passes, none of the other does
+pub none-alike : {X : Type 0} (R : X → X → Type 0) (p : X → Bool) → ((x y : X) → R x y → p x ≡ false → p y ≡ false) → (xs ys : List X) → Alike R xs ys → list_any p xs ≡ false → list_any p ys ≡ false
+none-alike R p less [] [] alike none = refl
+none-alike R p less (x ∷ xs) (y ∷ ys) alike none =
+    let parts = or_parts (p x) (list_any p xs) none in
+    or_from (p y) (list_any p ys) (less x y alike.0 parts.0) (none-alike R p less xs ys alike.1 parts.1)
+none-alike R p less [] (y ∷ ys) alike none = absurd alike
+none-alike R p less (x ∷ xs) [] alike none = absurd alike
+
+-- ---- functions that agree
+
+pub flat_map-same : {X Y : Type 0} (f g : X → List Y) → ((x : X) → f x ≡ g x) → (xs : List X) → flat_map f xs ≡ flat_map g xs
+flat_map-same f g same [] = refl
+flat_map-same f g same (x ∷ xs) = ap₂ (λ a rest. a ++ rest) (same x) (flat_map-same f g same xs)
+
+pub filter-same : {X : Type 0} (p q : X → Bool) → ((x : X) → p x ≡ q x) → (xs : List X) → filter p xs ≡ filter q xs
+filter-same p q same [] = refl
+filter-same p q same (x ∷ xs) = ap₂ (λ b rest. cond b (x ∷ rest) rest) (same x) (filter-same p q same xs)
+
+-- ---- one item less
+
+pub length-less : {X : Type 0} (xs : List X) (k : ℕ) → length (remove xs k) ≤ length xs
+length-less [] zero = omega arith
+length-less [] (suc k) = omega arith
+length-less (x ∷ xs) zero = omega arith
+length-less (x ∷ xs) (suc k) = let rest = length-less xs k in omega arith
+
+pub none-less : {X : Type 0} (p : X → Bool) (xs : List X) (k : ℕ) → list_any p xs ≡ false → list_any p (remove xs k) ≡ false
+none-less p [] zero none = refl
+none-less p [] (suc k) none = refl
+none-less p (x ∷ xs) zero none = let parts = or_parts (p x) (list_any p xs) none in parts.1
+none-less p (x ∷ xs) (suc k) none =
+    let parts = or_parts (p x) (list_any p xs) none in
+    or_from (p x) (list_any p (remove xs k)) parts.0 (none-less p xs k parts.1)
+
+pub nothing-less : {X Y : Type 0} (f : X → List Y) (xs : List X) (k : ℕ) → flat_map f xs ≡ [] → flat_map f (remove xs k) ≡ []
+nothing-less f [] zero none = refl
+nothing-less f [] (suc k) none = refl
+nothing-less f (x ∷ xs) zero none = let parts = append-nothing (f x) (flat_map f xs) none in parts.1
+nothing-less f (x ∷ xs) (suc k) none =
+    let parts = append-nothing (f x) (flat_map f xs) none in
+    ap₂ (λ a rest. a ++ rest) parts.0 (nothing-less f xs k parts.1)

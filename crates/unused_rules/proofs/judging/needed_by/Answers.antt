@@ -1,0 +1,27 @@
+use Rattle.std.proofs.Common.{◌≡◌, ◌∙◌, ap, subst, sym, true}
+use Rattle.vpc_laws.specs.Types.{Description}
+use Rattle.vpc_model.specs.Appliances.{appliances_of}
+use Rattle.vpc_model.specs.Sound.{is_end}
+use Rattle.unused_rules.specs.Without.{without}
+use Rattle.unused_rules.proofs.Needing.{appliances-same, is_end-same, need_of}
+use Rattle.unused_rules.proofs.judging.needed_by.Goals as goal
+
+pub of-after-requires-clause-appliances : goal.of-after-requires-clause-appliances
+of-after-requires-clause-appliances g c =
+    let less : c.in_ok-fabric.fabric ≡ without c.args.f.now c.args.rule.now = c.in_ok-fabric.ensures ∙ ap (λ (d : Description). without d c.args.rule.now) c.network.ensures in
+    c.requires.appliances ∙ sym (ap appliances_of less ∙ appliances-same c.args.f.now c.args.rule.now)
+
+pub of-after-requires-clause-start : goal.of-after-requires-clause-start
+of-after-requires-clause-start g c =
+    let less : c.in_ok-fabric.fabric ≡ without c.args.f.now c.args.rule.now = c.in_ok-fabric.ensures ∙ ap (λ (d : Description). without d c.args.rule.now) c.network.ensures in
+    ap (λ (d : Description). is_end d c.args.query.now.start) less ∙ (is_end-same c.args.f.now c.args.rule.now c.args.query.now.start ∙ c.requires.query.start)
+
+pub of-after-requires-clause-goal : goal.of-after-requires-clause-goal
+of-after-requires-clause-goal g c =
+    let less : c.in_ok-fabric.fabric ≡ without c.args.f.now c.args.rule.now = c.in_ok-fabric.ensures ∙ ap (λ (d : Description). without d c.args.rule.now) c.network.ensures in
+    ap (λ (d : Description). is_end d c.args.query.now.goal) less ∙ (is_end-same c.args.f.now c.args.rule.now c.args.query.now.goal ∙ c.requires.query.goal)
+
+pub returns : goal.returns
+returns g c =
+    let less : c.in_ok-fabric.fabric ≡ without c.args.f.now c.args.rule.now = c.in_ok-fabric.ensures ∙ ap (λ (d : Description). without d c.args.rule.now) c.network.ensures in
+    need_of c.args.f.now c.in_ok-fabric.fabric c.args.rule.now c.args.query.now _ _ c.first_apart.result less c.requires.before c.of-after.ensures c.first_apart.ensures
