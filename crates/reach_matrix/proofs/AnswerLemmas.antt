@@ -1,5 +1,5 @@
 -- What is answered.
-use Rattle.std.proofs.Common.{◌≡◌, ◌∙◌, ◌<◌, ◌≤◌, Err, IfOk, List, Ok, Result, arith, length, map, refl, subst, sym, true, None, ℕ}
+use Rattle.std.proofs.Common.{◌≡◌, ◌∙◌, ◌++◌, ◌<◌, ◌≤◌, Err, IfOk, List, Ok, Result, arith, codes, get_or, length, map, refl, subst, sym, true, None, ℕ}
 use Rattle.std.specs.Global.{Vec}
 use Rattle.std.specs.List.{All, range_with_len}
 use Rattle.std.proofs.lemmas.Bool.{lt-ltb}

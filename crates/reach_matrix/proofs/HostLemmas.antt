@@ -1,5 +1,5 @@
 -- The interfaces that belong to no gateway, and their order.
-use Rattle.std.proofs.Common.{◌≡◌, ◌∙◌, ◌+◌, ◌++◌, ◌<◌, ◌^◌, ◌∷◌, [], Bool, List, bytes_eq, ap, arith, cond, false, filter, get_or, is_lt, length, map, refl, subst, sym, ℕ}
+use Rattle.std.proofs.Common.{◌≡◌, ◌∙◌, ◌+◌, ◌++◌, ◌<◌, ◌^◌, ◌∷◌, [], Bool, List, bytes_eq, ap, append-nil, arith, cond, false, filter, get_or, is_lt, length, map, refl, subst, sym, true, ℕ}
 use Rattle.std.specs.Cmp.Lexicographic.{slice_cmp}
 use Rattle.std.specs.List.{AllPairs, IsDistinct, range_with_len}
 use Rattle.std.specs.List.Sorted.{IsPermutation, IsSortedByKey}

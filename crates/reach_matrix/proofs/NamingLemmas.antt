@@ -1,6 +1,7 @@
 -- The words of `ask` about a pair give the query about it.
-use Rattle.std.proofs.Common.{◌≡◌, ◌∙◌, ◌<◌, ◌≤◌, Bool, Err, List, None, Ok, Option, Result, Some, ap, arith, bytes_eq, codes, false, is_some, nat_le, not, refl, sym, true, unwrap_or, ℕ}
+use Rattle.std.proofs.Common.{◌≡◌, ◌∙◌, ◌<◌, ◌≤◌, ◌&&◌, ◌^◌, Bool, Err, List, None, Ok, Option, Result, Some, ap, arith, bytes_eq, codes, false, is_some, nat_le, not, refl, subst, sym, true, unwrap_or, ℕ}
 use Rattle.std.specs.Prelude.{if◌then◌else◌, ok_or}
+use Rattle.std.proofs.lemmas.Bool.{ltb-true, not-true}
 use Rattle.std.proofs.lemmas.Bool.Decides.{nat_tests}
 use Rattle.prefix_text.specs.Range.{range_of, range_text}
 use Rattle.prefix_text.proofs.RangeLaws.{range_of-range_text}
@@ -9,6 +10,7 @@ use Rattle.query_words.specs.Pairs.{pairs_of, some_ports}
 use Rattle.query_words.specs.Query.{query_of}
 use Rattle.query_words.specs.Refusal.{◌>>=◌}
 use Rattle.query_words.specs.Sides.{primary_side, sides_of}
+use Rattle.query_words.specs.declared.queries.Query.{Query}
 use Rattle.query_words.specs.declared.refusal.QueryRefusal.{QueryRefusal}
 use Rattle.query_words.specs.declared.refusal.QueryRefusal.TheVariants as refusals
 use Rattle.vpc_laws.proofs.Members.{member-list_any}

@@ -1,5 +1,5 @@
 -- The ports of a pair, and the queries about each of them.
-use Rattle.std.proofs.Common.{◌≡◌, ◌≤◌, List, [], ◌↔◌, None, Option, Some, arith, is_some, refl, subst, true, ℕ}
+use Rattle.std.proofs.Common.{◌≡◌, ◌≤◌, List, [], ◌↔◌, None, Option, Some, arith, false, is_some, refl, subst, true, ℕ}
 use Rattle.std.proofs.lemmas.Bool.{false_from_ne_true}
 use Rattle.header_boxes.proofs.Held.{holds_from_in, in_from_holds}
 use Rattle.header_boxes.specs.Boxes.{holds}

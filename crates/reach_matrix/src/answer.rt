@@ -6,6 +6,7 @@ ghost use Rattle.reach_matrix.specs.Words.{IsMatrixCount};
 
 use crate::hosts::{host_count, hosts_by_id};
 use crate::lines::put_rows;
+use crate::pairs::probe_of;
 use crate::words::ports_asked;
 use appliances::Deciders;
 use block_report::put_line;
@@ -42,7 +43,8 @@ impl Job for Mapping {
         let hosts = hosts_by_id(alloc, f.network())?;
         let mut text = Vec::new(alloc);
         put_line(&mut text, b"matrix")?;
-        put_rows(&mut text, f, deciders, self.ports, hosts.as_slice())?;
+        let mut round = probe_of(f, deciders);
+        put_rows(&mut text, f, &mut round, self.ports, hosts.as_slice())?;
         Ok(Answer {
             status: Status::Yes,
             text,

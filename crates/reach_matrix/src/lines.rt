@@ -1,14 +1,13 @@
 // The lines of a matrix.
 ghost use Rattle.std.specs.List.{flat_map};
 ghost use Rattle.std.specs.Prelude.{◌≡◌, ◌≤◌, ◌∷◌, ◌++◌, [], All, OnOk, IsTrue};
-ghost use Rattle.vpc_model.specs.Appliances.{appliances_of};
 ghost use Rattle.vpc_model.specs.Sound.{is_eni};
 ghost use Rattle.reach_matrix.specs.Pairs.{have_addresses};
 ghost use Rattle.reach_matrix.specs.Matrix.{Adds, AreTexts, IsPairLine, IsTold, names_text, pairs_from, pairs_of, range_word, ranges_text};
 
-use crate::pairs::{has_primary, reach};
-use appliances::Deciders;
+use crate::pairs::{has_primary, reach_by};
 use block_report::{put, put_end, put_word};
+use box_walk::RoundProbe;
 use fabric::Fabric;
 use fabric::rows::interface_at;
 use prefix_text::put_number;
@@ -57,21 +56,22 @@ fn have_addresses(f: &Fabric, from: EniNo, to: EniNo) -> bool
 fn put_told(
     out: &mut Vec<u8>,
     f: &Fabric,
-    deciders: &Deciders,
+    round: &mut RoundProbe,
     ports: (u16, u16),
     from: EniNo,
     to: EniNo,
 ) -> Result<(), NoMemory>
-    requires appliances { deciders.now.appliances ≡ appliances_of f.now }
+    requires network { round.old.fabric.now ≡ f.now }
     requires ports { ports.0 ≤ ports.1 }
     requires from { IsTrue (is_eni f.now from) }
     requires to { IsTrue (is_eni f.now to) }
-    ensures { OnOk result (Adds (IsTold f.now ports (from, to)) out.old.items out.new.items) }
+    ensures text { OnOk result (Adds (IsTold f.now ports (from, to)) out.old.items out.new.items) }
+    ensures network { round.new.fabric.now ≡ f.now }
 {
     if !have_addresses(f, from, to) {
         return put_word(out, b"no-address");
     }
-    let ranges = reach(*out.allocator(), f, deciders, from, to, ports)?;
+    let ranges = reach_by(*out.allocator(), f, round, from, to, ports)?;
     put_ranges(out, ranges.as_slice())
 }
 
@@ -88,19 +88,20 @@ fn put_names(out: &mut Vec<u8>, f: &Fabric, from: EniNo, to: EniNo) -> Result<()
 fn put_pair(
     out: &mut Vec<u8>,
     f: &Fabric,
-    deciders: &Deciders,
+    round: &mut RoundProbe,
     ports: (u16, u16),
     from: EniNo,
     to: EniNo,
 ) -> Result<(), NoMemory>
-    requires appliances { deciders.now.appliances ≡ appliances_of f.now }
+    requires network { round.old.fabric.now ≡ f.now }
     requires ports { ports.0 ≤ ports.1 }
     requires from { IsTrue (is_eni f.now from) }
     requires to { IsTrue (is_eni f.now to) }
-    ensures { OnOk result (Adds (IsPairLine f.now ports (from, to)) out.old.items out.new.items) }
+    ensures text { OnOk result (Adds (IsPairLine f.now ports (from, to)) out.old.items out.new.items) }
+    ensures network { round.new.fabric.now ≡ f.now }
 {
     put_names(out, f, from, to)?;
-    put_told(out, f, deciders, ports, from, to)?;
+    put_told(out, f, round, ports, from, to)?;
     put_end(out)
 }
 
@@ -108,42 +109,44 @@ fn put_pair(
 fn put_unless_same(
     out: &mut Vec<u8>,
     f: &Fabric,
-    deciders: &Deciders,
+    round: &mut RoundProbe,
     ports: (u16, u16),
     from: EniNo,
     to: EniNo,
 ) -> Result<(), NoMemory>
-    requires appliances { deciders.now.appliances ≡ appliances_of f.now }
+    requires network { round.old.fabric.now ≡ f.now }
     requires ports { ports.0 ≤ ports.1 }
     requires from { IsTrue (is_eni f.now from) }
     requires to { IsTrue (is_eni f.now to) }
-    ensures { OnOk result (Adds
+    ensures text { OnOk result (Adds
         (AreTexts (IsPairLine f.now ports) (pairs_from (to ∷ []) from)) out.old.items out.new.items) }
+    ensures network { round.new.fabric.now ≡ f.now }
 {
     if to.0 == from.0 {
         return Ok(());
     }
-    put_pair(out, f, deciders, ports, from, to)
+    put_pair(out, f, round, ports, from, to)
 }
 
 // The lines of an interface with each of the others.
 fn put_row(
     out: &mut Vec<u8>,
     f: &Fabric,
-    deciders: &Deciders,
+    round: &mut RoundProbe,
     ports: (u16, u16),
     from: EniNo,
     hosts: &[EniNo],
 ) -> Result<(), NoMemory>
-    requires appliances { deciders.now.appliances ≡ appliances_of f.now }
+    requires network { round.old.fabric.now ≡ f.now }
     requires ports { ports.0 ≤ ports.1 }
     requires from { IsTrue (is_eni f.now from) }
     requires hosts { All (λ i. IsTrue (is_eni f.now i)) hosts.now }
-    ensures { OnOk result (Adds
+    ensures text { OnOk result (Adds
         (AreTexts (IsPairLine f.now ports) (pairs_from hosts.now from)) out.old.items out.new.items) }
+    ensures network { round.new.fabric.now ≡ f.now }
 {
     for to in hosts {
-        put_unless_same(out, f, deciders, ports, from, *to)?;
+        put_unless_same(out, f, round, ports, from, *to)?;
     }
     Ok(())
 }
@@ -152,18 +155,19 @@ fn put_row(
 pub(crate) fn put_rows(
     out: &mut Vec<u8>,
     f: &Fabric,
-    deciders: &Deciders,
+    round: &mut RoundProbe,
     ports: (u16, u16),
     hosts: &[EniNo],
 ) -> Result<(), NoMemory>
-    requires appliances { deciders.now.appliances ≡ appliances_of f.now }
+    requires network { round.old.fabric.now ≡ f.now }
     requires ports { ports.0 ≤ ports.1 }
     requires hosts { All (λ i. IsTrue (is_eni f.now i)) hosts.now }
-    ensures { OnOk result (Adds
+    ensures text { OnOk result (Adds
         (AreTexts (IsPairLine f.now ports) (pairs_of hosts.now)) out.old.items out.new.items) }
+    ensures network { round.new.fabric.now ≡ f.now }
 {
     for from in hosts {
-        put_row(out, f, deciders, ports, *from, hosts)?;
+        put_row(out, f, round, ports, *from, hosts)?;
     }
     Ok(())
 }

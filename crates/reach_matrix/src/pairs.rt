@@ -44,6 +44,35 @@ fn requests_between(src: u32, dst: u32, ports: (u16, u16)) -> Box5
     }
 }
 
+/// The same as `reach`, by a probe of the network that is turned to the pair: one moment serves all pairs.
+pub(crate) fn reach_by(
+    alloc: Global,
+    f: &Fabric,
+    round: &mut RoundProbe,
+    from: EniNo,
+    to: EniNo,
+    ports: (u16, u16),
+) -> Result<Vec<(u16, u16)>, NoMemory>
+    requires network { round.old.fabric.now ≡ f.now }
+    requires from { IsAddressed f.now from }
+    requires to { IsAddressed f.now to }
+    requires ports { ports.0 ≤ ports.1 }
+    ensures ranges { IfOk result (λ v. ArePairRanges f.now ports (from, to) v.items) }
+    ensures network { round.new.fabric.now ≡ f.now }
+{
+    round.turn(End::Interface(from), End::Interface(to));
+    let sides = requests_between(address_of(f, from), address_of(f, to), ports);
+    open_ports(alloc, &ThroughProbe::of(round), sides)
+}
+
+/// A probe of the network, which is still to be turned to a pair.
+pub(crate) fn probe_of<'a>(f: &'a Fabric, deciders: &'a Deciders) -> RoundProbe<'a>
+    requires { deciders.now.appliances ≡ appliances_of f.now }
+    ensures { result.fabric.now ≡ f.now }
+{
+    RoundProbe::of(f, deciders, End::Internet, End::Internet)
+}
+
 /// The TCP ports of one interface, of those in a range, that another one reaches from its primary private address and
 /// some port: such a request gets to the other's primary private address, and its reply back. Fails for want of
 /// memory alone.
@@ -61,7 +90,5 @@ pub fn reach(
     requires ports { ports.0 ≤ ports.1 }
     ensures { IfOk result (λ v. ArePairRanges f.now ports (from, to) v.items) }
 {
-    let round = RoundProbe::of(f, deciders, End::Interface(from), End::Interface(to));
-    let sides = requests_between(address_of(f, from), address_of(f, to), ports);
-    open_ports(alloc, &ThroughProbe::of(&round), sides)
+    reach_by(alloc, f, &mut probe_of(f, deciders), from, to, ports)
 }
