@@ -330,7 +330,7 @@ beyond-enters d i h k (places.Peer x v) passed other same = absurd passed
 beyond-enters d i h k (places.Tgw a t) passed other same = absurd passed
 beyond-enters d i h k (places.TgwLeave a t) passed other same = absurd passed
 
--- the ACL is asked only where there is a border
+-- the ACL is evaluated only where there is a border
 border-none : (b : Bool) (o : Option Stop) → (not b ≡ true → o ≡ None) → cond b None o ≡ None
 border-none true o passes = refl
 border-none false o passes = passes refl

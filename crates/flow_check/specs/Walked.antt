@@ -54,7 +54,7 @@ has_border d i dir h = not (is_neighbour d (interface_at d i) (far_address dir h
 abbrev pub subnet_of_nat : Description → NatNo → SubnetNo
 subnet_of_nat d n = let row = nat_at d n in subnet_no d (own_subnet row.life)
 
--- the subnet's router hands a packet on to this place inside the subnet, where no ACL is asked
+-- the subnet's router hands a packet on to this place inside the subnet, where no ACL is evaluated
 abbrev pub is_inside : Description → SubnetNo → Place → Bool
 is_inside d s (places.Into i) = let t = subnet_of d i in s.0 == t.0
 is_inside d s (places.NatIn n) = let t = subnet_of_nat d n in s.0 == t.0

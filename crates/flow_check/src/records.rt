@@ -11,7 +11,7 @@ use prefix_text::{read_addr, read_number};
 use std::marker::Model;
 
 /// What became of the packets of a flow.
-#[derive(Clone, Copy, PartialEq, Eq)]
+#[derive(Clone, Copy)]
 pub enum Action {
     /// The security groups and the network ACL let them pass.
     Accept,
@@ -42,7 +42,7 @@ impl<'a> EniWord<'a> {
 }
 
 /// A protocol (IANA, "Protocol Numbers") with the ports of its packets, both 0 where it isn't TCP or UDP.
-#[derive(Clone, Copy, PartialEq, Eq)]
+#[derive(Clone, Copy)]
 pub struct Ports {
     pub proto: u8,
     pub p: u16,

@@ -29,7 +29,7 @@ fn acl_stop(f: &Fabric, i: EniNo, dir: Dir, h: &Header) -> Option<Stop>
     }
 }
 
-/// The same where the packet crosses the border of the subnet: between neighbours no ACL is asked.
+/// The same where the packet crosses the border of the subnet: between neighbours no ACL is evaluated.
 pub fn border_stop(f: &Fabric, i: EniNo, dir: Dir, h: &Header, inside: bool) -> Option<Stop>
     requires { IsTrue (is_eni f.now i) }
     ensures { result ≡ border_stop f.now i dir h.now inside }
