@@ -13,6 +13,8 @@ use Rattle.report_check.proofs.Decided.{check_is_none}
 use Rattle.replay_log.proofs.Decided.{replay_is_none}
 use Rattle.made_reach.proofs.Decided.{make_is_none}
 use Rattle.reach_matrix.proofs.AnswerLemmas.{matrix_tells_of_no_device}
+use Rattle.end_reach.proofs.Decided.{reach_is_none}
+use Rattle.unused_rules.proofs.Decided.{unused_tells_of_no_device}
 use Rattle.flow_check.proofs.Decided.{flows_tell_of_no_device}
 use Rattle.policy_check.proofs.Decided.{policies_are_of_no_device}
 use Rattle.vpc_commands.specs.Complete.{ReadFailed}
@@ -86,6 +88,12 @@ answer_is_read commands.Flows words told failed status text is answer h =
 answer_is_read commands.Matrix words told failed status text is answer h =
     in_is_read told failed (file_name words) _ (ReadFailed words failed) status text (failed_at words failed commands.Matrix 2 is refl)
     (λ d so device. absurd (matrix_tells_of_no_device d words status text so device)) answer h
+answer_is_read commands.Reach words told failed status text is answer h =
+    in_is_read told failed (file_name words) _ (ReadFailed words failed) status text (failed_at words failed commands.Reach 2 is refl)
+    (λ d so device. absurd (reach_is_none d words status text so device)) answer h
+answer_is_read commands.Unused words told failed status text is answer h =
+    in_is_read told failed (file_name words) _ (ReadFailed words failed) status text (failed_at words failed commands.Unused 2 is refl)
+    (λ d so device. absurd (unused_tells_of_no_device d words status text so device)) answer h
 answer_is_read commands.Make words told failed status text is answer h = absurd (make_is_none words status text answer h)
 
 -- a device is told of where reading failed, and of reading alone

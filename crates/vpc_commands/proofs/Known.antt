@@ -23,6 +23,8 @@ use Rattle.report_check.specs.Checked.{IsReportTrue}
 use Rattle.replay_log.proofs.Decided.{replay_is_decided}
 use Rattle.made_reach.proofs.Decided.{make_is_decided}
 use Rattle.reach_matrix.proofs.AnswerLemmas.{matrix_is_decided}
+use Rattle.end_reach.proofs.Decided.{reach_is_decided}
+use Rattle.unused_rules.proofs.Decided.{unused_is_decided}
 use Rattle.flow_check.proofs.Decided.{flows_is_decided}
 use Rattle.policy_check.proofs.Decided.{expect_is_decided}
 use Rattle.vpc_commands.specs.Complete.{IsComplete, IsFault}
@@ -181,5 +183,11 @@ complete_if_due words told failed status text answer = record {
   matrix = λ d named at.
       or_known (matrix_is_decided d words status text)
       (or_either (known_in told failed (file_name words) _ d status text at) (known_of commands.Matrix words told failed status text answer named));
+  reach = λ d named at.
+      or_known (reach_is_decided d words status text)
+      (or_either (known_in told failed (file_name words) _ d status text at) (known_of commands.Reach words told failed status text answer named));
+  unused = λ d named at.
+      or_known (unused_is_decided d words status text)
+      (or_either (known_in told failed (file_name words) _ d status text at) (known_of commands.Unused words told failed status text answer named));
   make = λ named. or_known (make_is_decided words status text) (known_of commands.Make words told failed status text answer named);
 }

@@ -30,6 +30,8 @@ complete_if_fault words told status fault = record {
   replay = λ d bytes named at there. inl fault;
   make = λ named. inl fault;
   matrix = λ d named at. inl fault;
+  reach = λ d named at. inl fault;
+  unused = λ d named at. inl fault;
   flows = λ d bytes named at there. inl fault;
   expect = λ d bytes named at there. inl fault;
 }

@@ -13,6 +13,8 @@ use Rattle.made_reach.specs.Made.{IsMakeDecided}
 use Rattle.policy_check.specs.Policy.{IsExpectDecided}
 use Rattle.flow_check.specs.Answers.{IsFlowsDecided}
 use Rattle.reach_matrix.specs.Answered.{IsMatrixDecided}
+use Rattle.end_reach.specs.Answered.{IsReachDecided}
+use Rattle.unused_rules.specs.Answered.{IsUnusedDecided}
 use Rattle.vpc_commands.specs.Files.{AreToldBytes, IsToldNetwork}
 use Rattle.vpc_commands.specs.Words.{command_of, file_name, files_of, second_name}
 use Rattle.vpc_commands.specs.declared.words.Command.{Command}
@@ -42,6 +44,10 @@ pub record IsComplete (words : List (List ℕ)) (told : List ℕ → Option (Lis
       → AreToldBytes told (second_name words) text → IsFault status ⊎ IsFlowsDecided d text status
   pub matrix : (d : Description) → command_of words ≡ Ok commands.Matrix → IsToldNetwork told (file_name words) d
       → IsFault status ⊎ IsMatrixDecided d words status
+  pub reach : (d : Description) → command_of words ≡ Ok commands.Reach → IsToldNetwork told (file_name words) d
+      → IsFault status ⊎ IsReachDecided d words status
+  pub unused : (d : Description) → command_of words ≡ Ok commands.Unused → IsToldNetwork told (file_name words) d
+      → IsFault status ⊎ IsUnusedDecided d words status
 
 -- ---- failed reads
 

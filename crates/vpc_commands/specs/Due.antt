@@ -13,6 +13,8 @@ use Rattle.made_reach.specs.Made.{IsMade}
 use Rattle.policy_check.specs.Policy.{ArePoliciesJudged, rules_refusal_line}
 use Rattle.flow_check.specs.Answers.{AreFlowsJudged, log_refusal_line}
 use Rattle.reach_matrix.specs.Answered.{IsMatrixAnswered}
+use Rattle.end_reach.specs.Answered.{IsReachAnswered}
+use Rattle.unused_rules.specs.Answered.{IsUnusedAnswered}
 use Rattle.vpc_commands.specs.Files.{IsAnsweredIn, IsAnsweredTo}
 use Rattle.vpc_commands.specs.Words.{command_of, file_name, second_name}
 use Rattle.vpc_commands.specs.declared.words.Command.{Command}
@@ -43,6 +45,8 @@ IsAnswered commands.Expect words told failed =
 IsAnswered commands.Flows words told failed =
     IsAnsweredIn told failed (file_name words) (λ d. IsAnsweredTo told failed (second_name words) log_refusal_line (AreFlowsJudged d))
 IsAnswered commands.Matrix words told failed = IsAnsweredIn told failed (file_name words) (λ d. IsMatrixAnswered d words)
+IsAnswered commands.Reach words told failed = IsAnsweredIn told failed (file_name words) (λ d. IsReachAnswered d words)
+IsAnswered commands.Unused words told failed = IsAnsweredIn told failed (file_name words) (λ d. IsUnusedAnswered d words)
 
 -- the pairs that are due for these words: the refusal of a wrong word, what the command answers, or that memory was wanting
 pub data IsDue (words : List (List ℕ)) (told : List ℕ → Option (List ℕ)) (failed : List ℕ → Type 0) (status : Status) (text : List ℕ) : Type 0 where

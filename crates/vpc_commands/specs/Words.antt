@@ -29,7 +29,9 @@ command_named name =
     else (if bytes_eq name (codes "make") then Some commands.Make
     else (if bytes_eq name (codes "expect") then Some commands.Expect
     else (if bytes_eq name (codes "flows") then Some commands.Flows
-    else (if bytes_eq name (codes "matrix") then Some commands.Matrix else None)))))))
+    else (if bytes_eq name (codes "matrix") then Some commands.Matrix
+    else (if bytes_eq name (codes "reach") then Some commands.Reach
+    else (if bytes_eq name (codes "unused") then Some commands.Unused else None)))))))))
 
 -- the command that the first word names
 abbrev pub first_named : List (List ℕ) → Option Command
@@ -46,6 +48,8 @@ count_of commands.Make = record { least = 2; most = 2; pairs = false }
 count_of commands.Expect = record { least = 3; most = 3; pairs = false }
 count_of commands.Flows = record { least = 3; most = 3; pairs = false }
 count_of commands.Matrix = record { least = 2; most = 4; pairs = true }
+count_of commands.Reach = record { least = 2; most = 18; pairs = true }
+count_of commands.Unused = record { least = 6; most = 16; pairs = true }
 
 -- the numbers of the words that name its files
 abbrev pub files_of : Command → List ℕ
@@ -57,6 +61,8 @@ files_of commands.Make = []
 files_of commands.Expect = 2 ∷ 3 ∷ []
 files_of commands.Flows = 2 ∷ 3 ∷ []
 files_of commands.Matrix = 2 ∷ []
+files_of commands.Reach = 2 ∷ []
+files_of commands.Unused = 2 ∷ []
 
 -- ---- how many words there are
 

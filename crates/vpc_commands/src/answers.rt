@@ -8,6 +8,7 @@ use crate::files::{answer_file, answer_files};
 use crate::refusals::refuse_words;
 use crate::words::{Command, read_words};
 use command_job::Answer;
+use end_reach::ReachCommand;
 use flow_check::FlowsCommand;
 use made_reach::make;
 use network_reach::AskCommand;
@@ -17,6 +18,7 @@ use reach_matrix::MatrixCommand;
 use replay_log::ReplayCommand;
 use report_check::CheckCommand;
 use std::alloc::Global;
+use unused_rules::UnusedCommand;
 use vpc_base::NoMemory;
 use vpc_io::Shelf;
 
@@ -38,6 +40,8 @@ fn answer_command<S: Shelf>(
         Command::Replay => answer_files(alloc, &ReplayCommand, words, shelf),
         Command::Make => make(alloc, words),
         Command::Matrix => answer_file(alloc, &MatrixCommand, words, shelf),
+        Command::Reach => answer_file(alloc, &ReachCommand, words, shelf),
+        Command::Unused => answer_file(alloc, &UnusedCommand, words, shelf),
         Command::Flows => answer_files(alloc, &FlowsCommand, words, shelf),
         Command::Expect => answer_files(alloc, &ExpectCommand, words, shelf),
     }

@@ -22,6 +22,10 @@ pub enum Command {
     Flows,
     /// `matrix`: who reaches whom, on which TCP ports.
     Matrix,
+    /// `reach`: all that gets through.
+    Reach,
+    /// `unused`: which rules decide nothing for a query.
+    Unused,
 }
 
 /// How many words a command may have, its own name included.
@@ -82,6 +86,10 @@ fn command_named(name: &str) -> Option<Command>
         Some(Command::Flows)
     } else if name == "matrix" {
         Some(Command::Matrix)
+    } else if name == "reach" {
+        Some(Command::Reach)
+    } else if name == "unused" {
+        Some(Command::Unused)
     } else {
         None
     }
@@ -110,6 +118,8 @@ fn count_of(command: Command) -> Count
         Command::Expect => (3, 3, false),
         Command::Flows => (3, 3, false),
         Command::Matrix => (2, 4, true),
+        Command::Reach => (2, 18, true),
+        Command::Unused => (6, 16, true),
     };
     Count { least, most, pairs }
 }

@@ -21,5 +21,11 @@ returns-in-Flows g c = rw c.in-Flows.is c.answer_files-in-Flows.ensures
 pub returns-in-Matrix : goal.returns-in-Matrix
 returns-in-Matrix g c = rw c.in-Matrix.is c.answer_file-in-Matrix.ensures
 
+pub returns-in-Reach : goal.returns-in-Reach
+returns-in-Reach g c = rw c.in-Reach.is c.answer_file-in-Reach.ensures
+
+pub returns-in-Unused : goal.returns-in-Unused
+returns-in-Unused g c = rw c.in-Unused.is c.answer_file-in-Unused.ensures
+
 pub returns-in-Make : goal.returns-in-Make
 returns-in-Make g c = rw c.in-Make.is c.make.ensures
