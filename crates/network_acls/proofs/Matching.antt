@@ -1,6 +1,7 @@
 -- Rows asked of images.
-use Rattle.std.proofs.Common.{◌≡◌, ◌∷◌, [], Bool, true, false, List, Option, Some, ℕ, ap, refl, subst, sym, arith, ◌∙◌}
+use Rattle.std.proofs.Common.{◌≡◌, ◌&&◌, ◌∷◌, [], Bool, true, false, List, Option, Some, ℕ, ap, refl, subst, sym, arith, ◌∙◌}
 use Rattle.std.specs.List.{Contains, find}
+use Rattle.std.proofs.Math.Bool.{and_comm}
 use Rattle.vpc_base.specs.declared.headers.Dir.{Dir}
 use Rattle.vpc_base.specs.declared.headers.Header.{Header}
 use Rattle.header_boxes.specs.declared.boxes.Box5.{Box5}
@@ -12,7 +13,7 @@ use Rattle.box_images.specs.declared.images.Image.{Image}
 use Rattle.box_images.specs.declared.images.Part.{Part}
 use Rattle.cut_laws.proofs.Among.{among_through, on_sides_among, row_among}
 use Rattle.cut_laws.specs.Dividing.{Divide}
-use Rattle.image_tests.proofs.Answering.{answers_more, answers_same}
+use Rattle.image_tests.proofs.Answering.{answers_more, answers_refused, answers_rule, answers_same}
 use Rattle.image_tests.proofs.Trying.{header_of_rest}
 use Rattle.image_tests.specs.Tests.{cuts_of_block, fits_rule}
 use Rattle.prefix_text.specs.Block.{holds}
@@ -44,6 +45,18 @@ block_of_row i dir r s body x far k =
     })
     (answers_same (Divide (cuts_of_block r.block)) (λ h. holds (number_of (header_at i h) s) r.block) (λ h. holds (far_address dir (header_at i h)) r.block) body x
     (λ h. ap (λ a. holds a r.block) (far (header_at i h))) k)
+
+-- a row whose block doesn't hold the far address doesn't match
+pub block_refuses : (i : Image) (dir : Dir) (r : AclRow) (s : Side) (x : Part Bool) → ((h : Header) → number_of h s ≡ far_address dir h) → x.told ≡ false
+    → Answers (Divide (cuts_of_block r.block)) (λ h. holds (number_of (header_at i h) s) r.block) i.part x
+    → Answers (Divide (cuts_of_acl_row r)) (λ h. row_matches dir (header_at i h) r) i.part x
+block_refuses i dir r s x far refused k =
+    let enough = Divide (cuts_of_acl_row r) in
+    let fits : Header → Bool = λ h. fits_rule r.proto r.q_from r.q_to (header_at i h) in
+    let held : Header → Bool = λ h. holds (far_address dir (header_at i h)) r.block in
+    answers_rule enough r.proto r.q_from r.q_to i held i.part x
+    (answers_same enough (λ h. held h && fits h) (λ h. fits h && held h) i.part x (λ h. and_comm (held h) (fits h))
+    (answers_refused enough held fits i.part x refused (block_of_row i dir r s i.part x far k)))
 
 -- the first of some rows that matches
 abbrev pub first_match : Dir → Image → List AclRow → Header → Option AclRow

@@ -13,19 +13,23 @@ use image_tests::{block_on, far_side, rule_on};
 use vpc_base::Dir;
 use vpc_model::AclRow;
 
-// Whether a row of the direction matches. One that doesn't by its block is told so of all protocols and ports.
+// Whether a row of the direction matches. One that doesn't by its block is told so of all protocols and ports, and
+// where the block has none of the image's far addresses, these aren't asked.
 fn matches_on(row: &AclRow, dir: Dir, i: &Image) -> Part<bool>
     requires valid { IsValidImage i.now }
     requires walk { IsImageOfWalk i.now }
     ensures { Answers (Divide (cuts_of_acl_row row.now))
         (λ h. row_matches dir (header_at i.now h) row.now) i.now.part result }
 {
+    let side = far_side(dir);
+    let far = block_on(i, side, &row.block);
+    if !far.told && far.body == i.part {
+        return far;
+    }
     let fits = rule_on(i, row.proto, row.q_from, row.q_to);
     if !fits.told {
         return fits;
     }
-    let side = far_side(dir);
-    let far = block_on(i, side, &row.block);
     if !far.told {
         return far;
     }

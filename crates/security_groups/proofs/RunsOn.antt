@@ -1,12 +1,12 @@
 -- Rules that are asked of images run by run.
-use Rattle.std.proofs.Common.{◌≡◌, ◌∙◌, ◌&&◌, ◌||◌, ◌*◌, ◌+◌, ◌<◌, ◌≤◌, ◌∷◌, [], ℕ, Bool, List, ap, arith, drop, false, get_or, length, nat_le, refl, subst, suc, sym, take, true}
+use Rattle.std.proofs.Common.{◌≡◌, ◌∙◌, ◌&&◌, ◌||◌, ◌*◌, ◌+◌, ◌-◌, ◌<◌, ◌≤◌, ◌∷◌, ⊎_elim, [], ℕ, Bool, List, ap, arith, drop, false, get_or, length, nat_le, refl, subst, suc, sym, take, true}
 use Rattle.std.proofs.Math.Seq.{drop-cons, drop-drop}
-use Rattle.std.specs.List.{All, list_any}
+use Rattle.std.specs.List.{All, AllWithin, list_any}
 use Rattle.std.specs.List.Sorted.{IsNonDecreasingBy}
-use Rattle.std.proofs.lemmas.Bool.{lt-leb}
+use Rattle.std.proofs.lemmas.Bool.{cases_lt, lt-leb}
 use Rattle.std.proofs.lemmas.Bool.Decides.{nat_tests}
-use Rattle.std.proofs.lemmas.List.{get_or-drop, get_or_default, drop_all, length-drop, take-append-drop}
-use Rattle.std.proofs.lemmas.List.Elements.{All-contains, All-drop, All-head, All-tail, All-take}
+use Rattle.std.proofs.lemmas.List.{get_or-drop, get_or_default, drop_all, length-drop, take-append-drop, take_rest}
+use Rattle.std.proofs.lemmas.List.Elements.{All-contains, All-drop, All-head, All-tail, All-take, AllWithin-more, at_read}
 use Rattle.std.proofs.lemmas.List.Folds.{list_any-append}
 use Rattle.address_sets.specs.declared.sets.Run.{Run}
 use Rattle.vpc_base.specs.Cuts.{CutLists}
@@ -33,7 +33,7 @@ use Rattle.security_groups.proofs.AskingOn.{rule_test}
 use Rattle.security_groups.proofs.OnceEach.{or_false}
 use Rattle.security_groups.proofs.Runs.{starts-later}
 use Rattle.security_groups.specs.Asking.{allows, names}
-use Rattle.security_groups.specs.Dividing.{DivideRule, DivideRules, IsLeftWith, any_allows}
+use Rattle.security_groups.specs.Dividing.{AllowsNone, DivideRule, DivideRules, IsLeftWith, any_allows}
 use Rattle.security_groups.specs.Tables.{AreBegun, BeginAfter, EndBy, run_of}
 
 -- ---- one of some rules
@@ -75,19 +75,59 @@ none-ended lists members dir h last rules ends before =
     none-of (allows lists members dir h) rules
     (λ k d within. let end = ends k d within in ended-before lists members dir h (get_or rules k d) (omega arith))
 
--- ---- before the next rule
+-- ---- before the next rule that could allow a header
 
-pub left-before : (lists : List (List Run)) (members : List ℕ) (dir : Dir) (rules : List Rule) (begun : ℕ) (i : Image) (next : Rule) (x : Part Bool)
-    → IsValidImage i → begun < length rules → next ≡ get_or rules begun next → IsNonDecreasingBy (λ r. r.q_from) rules → BeginAfter rules begun (header_at i (low_of i.part)).q
+-- a rule after the first ones is one of all
+pub later-rule : (rules : List Rule) (begun k : ℕ) (r : Rule) → r ≡ get_or (take (length rules - begun) (drop begun rules)) k r → r ≡ get_or rules (begun + k) r
+later-rule rules begun k r is = is ∙ ap (λ rs. get_or rs k r) (take_rest rules begun) ∙ get_or-drop begun rules k r
+
+-- one more allows none of the headers
+pub refused-more : (lists : List (List Run)) (members : List ℕ) (dir : Dir) (i : Image) (rules : List Rule) (begun k : ℕ) (r : Rule)
+    → k < length (take (length rules - begun) (drop begun rules)) → r ≡ get_or (take (length rules - begun) (drop begun rules)) k r → AllowsNone lists members dir i r
+    → AllWithin (AllowsNone lists members dir i) rules begun (begun + k) → AllWithin (AllowsNone lists members dir i) rules begun (begun + (k + 1))
+refused-more lists members dir i rules begun k r within is none before =
+    let left = ap length (take_rest rules begun) in
+    let long = length-drop begun rules in
+    let next : begun + k + 1 ≡ begun + (k + 1) = omega arith in
+    subst (AllWithin (AllowsNone lists members dir i) rules begun) next
+    (AllWithin-more (AllowsNone lists members dir i) rules begun (begun + k) before
+    (at_read rules (AllowsNone lists members dir i) (begun + k) r (omega arith) (later-rule rules begun k r is) none))
+
+-- those that allow none of the headers
+refused : (lists : List (List Run)) (members : List ℕ) (dir : Dir) (i : Image) (rules : List Rule) (begun k n : ℕ) (d : Rule) (h : Header)
+    → AllWithin (AllowsNone lists members dir i) rules begun (begun + k) → holds h i.part ≡ true → n < k → allows lists members dir (header_at i h) (get_or (drop begun rules) n d) ≡ false
+refused lists members dir i rules begun k n d h before t less =
+    ap (allows lists members dir (header_at i h)) (get_or-drop begun rules n d) ∙ before (begun + n) d (omega arith) (omega arith) h t
+
+pub left-all : (lists : List (List Run)) (members : List ℕ) (dir : Dir) (rules : List Rule) (begun k : ℕ) (i : Image) → IsValidImage i
+    → length (take (length rules - begun) (drop begun rules)) ≤ k → AllWithin (AllowsNone lists members dir i) rules begun (begun + k)
+    → IsLeftWith lists members dir rules (take begun rules) i i.part
+left-all lists members dir rules begun k i valid ended before =
+    let left = ap length (take_rest rules begun) in
+    let whole : Header → Bool = λ h. any_allows lists members dir rules (header_at i h) in
+    reduced_same (DivideRules lists members rules) whole whole (λ h. any_allows lists members dir (take begun rules) (header_at i h)) i.part i.part
+    (λ h t. first-decide (allows lists members dir (header_at i h)) rules begun
+    (none-of (allows lists members dir (header_at i h)) (drop begun rules) (λ n d inside. refused lists members dir i rules begun k n d h before t (omega arith))))
+    (reduced_nothing (DivideRules lists members rules) whole i.part valid.part)
+
+pub left-before : (lists : List (List Run)) (members : List ℕ) (dir : Dir) (rules : List Rule) (begun k : ℕ) (i : Image) (next : Rule) (x : Part Bool)
+    → k < length (take (length rules - begun) (drop begun rules)) → next ≡ get_or (take (length rules - begun) (drop begun rules)) k next
+    → IsNonDecreasingBy (λ r. r.q_from) rules → BeginAfter rules begun (header_at i (low_of i.part)).q → AllWithin (AllowsNone lists members dir i) rules begun (begun + k)
     → ((to : ℕ) → Answers (Divide (cuts_of_range next.q_from to)) (λ h. nat_le next.q_from (header_at i h).q) i.part x)
     → IsLeftWith lists members dir rules (take begun rules) i x.body
-left-before lists members dir rules begun i next x valid within is ascend later k = record {
+left-before lists members dir rules begun k i next x below is ascend later before answer = record {
   same = λ h t. first-decide (allows lists members dir (header_at i h)) rules begun (none-of (allows lists members dir (header_at i h)) (drop begun rules) (after h t));
-  inside = (k 0).body;
-  aligned = λ cuts all. (k next.q_to).aligned cuts
-      (range_cuts cuts (All-contains (λ r. DivideRule lists members r cuts) rules next all (begun, within, sym is)));
+  inside = (answer 0).body;
+  aligned = λ cuts all. (answer next.q_to).aligned cuts
+      (range_cuts cuts (All-contains (λ r. DivideRule lists members r cuts) rules next all (begun + k, within, sym at)));
 }
   where
+    at : next ≡ get_or rules (begun + k) next
+    at = later-rule rules begun k next is
+
+    within : begun + k < length rules
+    within = let left = ap length (take_rest rules begun) in let long = length-drop begun rules in omega arith
+
     range_cuts : (cuts : CutLists) → DivideRule lists members next cuts → Divide (cuts_of_range next.q_from next.q_to) cuts
     range_cuts cuts d = range_of_rule next.proto next.q_from next.q_to cuts d.rule
 
@@ -95,31 +135,35 @@ left-before lists members dir rules begun i next x valid within is ascend later 
     low = low_of i.part
 
     low_in_body : holds low x.body ≡ true
-    low_in_body = subst (λ (h : Header). holds h x.body ≡ true) (k 0).body.low (holds_low x.body (valid_if_within x.body i.part (k 0).body.within))
+    low_in_body = subst (λ (h : Header). holds h x.body ≡ true) (answer 0).body.low (holds_low x.body (valid_if_within x.body i.part (answer 0).body.within))
 
     next_is_later : (header_at i low).q < next.q_from
     next_is_later =
-        let at = get_or-drop begun rules 0 next in
         let long = length-drop begun rules in
-        let less = later 0 next (omega arith) in
-        let same : get_or (drop begun rules) 0 next ≡ next = at ∙ ap (λ n. get_or rules n next) (omega arith) ∙ sym is in
-        subst (λ (r : Rule). (header_at i low).q < r.q_from) same less
+        let inside = within in
+        subst (λ (r : Rule). (header_at i low).q < r.q_from) (get_or-drop begun rules k next ∙ sym at) (later k next (omega arith))
 
-    below : (h : Header) → holds h x.body ≡ true → (header_at i h).q < next.q_from
-    below h t = less (header_at i h).q (sym ((k 0).told h t) ∙ (k 0).told low low_in_body ∙ lt-leb next.q_from (header_at i low).q next_is_later)
+    ends_before : (h : Header) → holds h x.body ≡ true → (header_at i h).q < next.q_from
+    ends_before h t = less (header_at i h).q (sym ((answer 0).told h t) ∙ (answer 0).told low low_in_body ∙ lt-leb next.q_from (header_at i low).q next_is_later)
       where
         less : (q : ℕ) → nat_le next.q_from q ≡ false → q < next.q_from
         less q e = grind (arith, nat_tests)
 
+    from_next : (h : Header) → holds h x.body ≡ true → (n : ℕ) (d : Rule) → n < length (drop begun rules) → k ≤ n → allows lists members dir (header_at i h) (get_or (drop begun rules) n d) ≡ false
+    from_next h t n d inside more =
+        let long = length-drop begun rules in
+        let rises = ascend (begun + k) (begun + n) d (omega arith) (omega arith) in
+        let first : (get_or rules (begun + k) d).q_from ≡ next.q_from = ap (λ (r : Rule). r.q_from) (get_or_default rules (begun + k) d next within ∙ sym at) in
+        let same = ap (λ (r : Rule). r.q_from) (get_or-drop begun rules n d) in
+        let here = ends_before h t in
+        starts-later lists members dir (header_at i h) (get_or (drop begun rules) n d) (omega arith)
+
     after : (h : Header) → holds h x.body ≡ true → All (λ r. allows lists members dir (header_at i h) r ≡ false) (drop begun rules)
     after h t n d inside =
-        let long = length-drop begun rules in
-        let at = get_or-drop begun rules n d in
-        let rises = ascend begun (begun + n) d (omega arith) (omega arith) in
-        let first : (get_or rules begun d).q_from ≡ next.q_from = ap (λ (r : Rule). r.q_from) (get_or_default rules begun d next within ∙ sym is) in
-        let same = ap (λ (r : Rule). r.q_from) at in
-        let here = below h t in
-        starts-later lists members dir (header_at i h) (get_or (drop begun rules) n d) (omega arith)
+        ⊎_elim
+        (λ less. refused lists members dir i rules begun k n d h before (within_holds x.body i.part h (answer 0).body.within t) less)
+        (λ more. from_next h t n d inside more)
+        (cases_lt n k)
 
 -- ---- what is left of an image after some runs
 

@@ -6,6 +6,7 @@ use Rattle.address_sets.specs.declared.sets.Run.{Run}
 use Rattle.box_images.specs.Answers.{Answers, Reduces}
 use Rattle.box_images.specs.Images.{header_at}
 use Rattle.box_images.specs.declared.images.Image.{Image}
+use Rattle.header_boxes.specs.Boxes.{holds}
 use Rattle.header_boxes.specs.declared.boxes.Box5.{Box5}
 use Rattle.cut_laws.specs.Dividing.{CutOut, Divide, DivideTurns}
 use Rattle.vpc_base.specs.Cuts.{CutLists}
@@ -48,6 +49,10 @@ FindsOne test rules (Some k) = (k < length rules) × (test (rule_at rules k) ≡
 -- one of the rules allows the packet
 abbrev pub any_allows : List (List Run) → List ℕ → Dir → List Rule → Header → Bool
 any_allows lists members dir rules h = list_any (allows lists members dir h) rules
+
+-- the rule allows none of an image's headers
+abbrev pub AllowsNone : List (List Run) → List ℕ → Dir → Image → Rule → Type 0
+AllowsNone lists members dir i r = (h : Header) → holds h i.part ≡ true → allows lists members dir (header_at i h) r ≡ false
 
 -- of the headers of a body, an image's are allowed by one of all rules where they are by one of the first ones
 abbrev pub IsLeftWith : List (List Run) → List ℕ → Dir → List Rule → List Rule → Image → Box5 → Type 0

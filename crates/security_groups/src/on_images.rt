@@ -1,5 +1,5 @@
 // Whether a rule allows the headers of an image.
-ghost use Rattle.std.specs.Prelude.{◌||◌, All};
+ghost use Rattle.std.specs.Prelude.{◌||◌, ◌≡◌, ◌↔◌, All, IsTrue, false};
 ghost use Rattle.std.specs.List.{list_any};
 ghost use Rattle.box_images.specs.Answers.{Answers};
 ghost use Rattle.box_images.specs.Fields.{number_of};
@@ -7,12 +7,12 @@ ghost use Rattle.box_images.specs.Images.{IsImageOfWalk, IsValidImage, header_at
 ghost use Rattle.cut_laws.specs.Dividing.{CutOut, DivideTurns};
 ghost use Rattle.image_tests.specs.Tests.{IsAddressSide};
 ghost use Rattle.security_groups.specs.Asking.{allows, has_entry, has_member, names};
-ghost use Rattle.security_groups.specs.Dividing.{DivideRule, lists_name};
+ghost use Rattle.security_groups.specs.Dividing.{AllowsNone, DivideRule, lists_name};
 
 use crate::rules::Rule;
 use address_sets::AddressSet;
 use box_images::{Image, Part, Side};
-use image_tests::{far_side, member_on, rule_on, set_on};
+use image_tests::{far_side, member_on, proto_on, rule_on, set_on};
 use number_tables::NumberSet;
 use vpc_base::Dir;
 
@@ -132,8 +132,35 @@ fn names_on(
     listed_on(lists, members, rule, side, &i.within(&block.body))
 }
 
+// Whether no header of an image passes a test, by the answer for a body of it.
+fn none_passes(answer: &Part<bool>, i: &Image) -> bool
+    ensures { IsTrue result ↔ ((answer.now.told ≡ false) × (answer.now.body ≡ i.now.part)) }
+{
+    !answer.told && answer.body == i.part
+}
+
+/// Whether a rule could allow a header of an image, its ports aside. It couldn't where it names none of the far
+/// addresses, or where no header has its protocol.
+pub fn could_allow(
+    lists: &[AddressSet],
+    members: &NumberSet,
+    rule: &Rule,
+    dir: Dir,
+    i: &Image,
+) -> bool
+    requires valid { IsValidImage i.now }
+    requires walk { IsImageOfWalk i.now }
+    ensures { result ≡ false → AllowsNone lists.now members.now dir i.now rule.now }
+{
+    let named = names_on(lists, members, rule, far_side(dir), i);
+    if none_passes(&named, i) {
+        return false;
+    }
+    !none_passes(&proto_on(i, rule.proto), i)
+}
+
 /// Whether a rule allows the headers of an image. One that doesn't name the address is told so of all
-/// protocols and ports.
+/// protocols and ports, and where it names none of the image's far addresses, these aren't asked.
 pub fn allows_on(
     lists: &[AddressSet],
     members: &NumberSet,
@@ -146,12 +173,15 @@ pub fn allows_on(
     ensures { Answers (DivideRule lists.now members.now rule.now)
         (λ h. allows lists.now members.now dir (header_at i.now h) rule.now) i.now.part result }
 {
+    let side = far_side(dir);
+    let named = names_on(lists, members, rule, side, i);
+    if none_passes(&named, i) {
+        return named;
+    }
     let fits = rule_on(i, rule.proto, rule.q_from, rule.q_to);
     if !fits.told {
         return fits;
     }
-    let side = far_side(dir);
-    let named = names_on(lists, members, rule, side, i);
     if !named.told {
         return named;
     }

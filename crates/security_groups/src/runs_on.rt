@@ -1,8 +1,7 @@
 // Whether one of some rules allows the headers of an image.
-ghost use Rattle.std.specs.Prelude.{◌≡◌, ◌≤◌, List, length, take, true, ℕ};
+ghost use Rattle.std.specs.Prelude.{◌≡◌, ◌≤◌, length, take, true};
 ghost use Rattle.security_groups.specs.Asking.{allows};
 ghost use Rattle.std.specs.List.Sorted.{IsNonDecreasingBy};
-ghost use Rattle.address_sets.specs.declared.sets.Run.{Run};
 ghost use Rattle.box_images.specs.Answers.{Answers};
 ghost use Rattle.box_images.specs.Images.{IsImageOfWalk, IsValidImage, header_at};
 ghost use Rattle.header_boxes.specs.Boxes.{holds, low_of};
@@ -11,7 +10,7 @@ ghost use Rattle.security_groups.specs.Dividing.{DivideRules, FindsOne, IsLeftWi
 ghost use Rattle.security_groups.specs.Tables.{AreLasts, BeginAfter};
 
 use crate::asking::allows;
-use crate::on_images::allows_on;
+use crate::on_images::{allows_on, could_allow};
 use crate::rules::Rule;
 use crate::tables::run_of;
 use address_sets::AddressSet;
@@ -91,22 +90,31 @@ pub fn any_in_runs_on(
     }
 }
 
-/// The body of headers whose port is below the first one of the rules from this number on, as that of the
-/// low corner is. None of these rules allows them.
-pub fn before_next(rules: &[Rule], begun: usize, i: &Image) -> Box5
+/// The body of headers that none of the rules from this number on allows, all of which begin after the port of
+/// the low corner. It ends before the first port of the first one that could allow a header, if one comes to that port.
+pub fn before_next(
+    lists: &[AddressSet],
+    members: &NumberSet,
+    rules: &[Rule],
+    begun: usize,
+    dir: Dir,
+    i: &Image,
+) -> Box5
     requires valid { IsValidImage i.now }
     requires walk { IsImageOfWalk i.now }
     requires ascend { IsNonDecreasingBy (λ r. r.q_from) rules.now }
     requires within { begun ≤ length rules.now }
     requires later { BeginAfter rules.now begun (header_at i.now (low_of i.now.part)).q }
-    ensures { (lists : List (List Run)) (members : List ℕ) (dir : Dir)
-        → IsLeftWith lists members dir rules.now (take begun rules.now) i.now result }
+    ensures { IsLeftWith lists.now members.now dir rules.now (take begun rules.now) i.now result }
 {
-    if begun < rules.len() {
-        begins_on(i, rules[begun].q_from).body
-    } else {
-        i.part
+    for rule in &rules[begun..] {
+        let before = begins_on(i, rule.q_from).body;
+        // Where no header comes to a rule's first port, none comes to that of a later one.
+        if before == i.part || could_allow(lists, members, rule, dir, i) {
+            return before;
+        }
     }
+    i.part
 }
 
 fn allowing_in(

@@ -208,7 +208,8 @@ impl RuleTable {
     }
 
     /// Whether one of the rules allows the headers of an image. It asks those that begin at or before the
-    /// port of the low corner, run by run, but no run of which all rules end before it.
+    /// port of the low corner, run by run, but no run of which all rules end before it. Of those that begin
+    /// later, the first one that could allow a header ends the body.
     pub fn any_allows_on(
         &self,
         lists: &[AddressSet],
@@ -224,7 +225,14 @@ impl RuleTable {
     {
         let q = i.value(&i.part.low()).q;
         let (rules, lasts) = self.begun(q);
-        let rest = i.within(&before_next(self.rules.as_slice(), rules.len(), i));
+        let rest = i.within(&before_next(
+            lists,
+            members,
+            self.rules.as_slice(),
+            rules.len(),
+            dir,
+            i,
+        ));
         any_in_runs_on(lists, members, rules, lasts, dir, q, &rest)
     }
 }

@@ -321,7 +321,9 @@ fn asks_groups(rt: HostRuntime) -> Result<(), Fail> {
         // by the second group, on all that its rule has
         ((200, 81), (true, 299, 90)),
         // not up to the first group's port, nor at addresses that the second one's rules lack
-        ((100, 81), (false, 149, 84)),
+        ((90, 81), (false, 149, 84)),
+        // the first group's rule names none of these addresses
+        ((100, 81), (false, 149, 199)),
         ((100, 86), (false, 149, 199)),
     ];
     for (from, answer) in cases {

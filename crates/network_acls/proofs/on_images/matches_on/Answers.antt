@@ -1,17 +1,16 @@
-use Rattle.std.proofs.Common.{◌&&◌, Bool, subst, ◌≡◌, not, true, false, refl}
-use Rattle.std.proofs.Math.Bool.{and_comm}
+use Rattle.std.proofs.Common.{Bool, subst}
 use Rattle.vpc_base.specs.declared.headers.Header.{Header}
 use Rattle.box_images.specs.Answers.{Answers}
 use Rattle.box_images.specs.Fields.{number_of}
 use Rattle.box_images.specs.Images.{header_at}
 use Rattle.box_images.specs.declared.images.Image.{Image}
 use Rattle.cut_laws.specs.Dividing.{Divide}
-use Rattle.image_tests.proofs.Answering.{answers_both, answers_refused, answers_rule, answers_same}
+use Rattle.image_tests.proofs.Answering.{answers_both, answers_refused, answers_rule}
 use Rattle.image_tests.specs.Tests.{cuts_of_block, fits_rule}
 use Rattle.prefix_text.specs.Block.{holds}
 use Rattle.vpc_model.specs.Cuts.{cuts_of_acl_row}
 use Rattle.vpc_model.specs.Filter.{far_address}
-use Rattle.network_acls.proofs.Matching.{block_of_row, rule_of_row}
+use Rattle.network_acls.proofs.Matching.{block_of_row, block_refuses, rule_of_row}
 use Rattle.network_acls.proofs.on_images.matches_on.Goals as goal
 
 pub returns-then-not-fits : goal.returns-then-not-fits
@@ -25,23 +24,15 @@ returns-then-not-fits c =
     answers_rule enough r.proto r.q_from r.q_to i far i.part c.rule_on-fits.result
     (answers_refused enough fits far i.part c.rule_on-fits.result c.if-not-fits.true (rule_of_row i r c.rule_on-fits.result c.rule_on-fits.ensures))
 
-fails : (b : Bool) → not b ≡ true → b ≡ false
-fails true e = absurd (let g : false ≡ true = e in cc)
-fails false e = refl
+pub returns-then-eq : goal.returns-then-eq
+returns-then-eq c =
+    block_refuses c.args.i.now c.args.dir c.args.row.now c.far_side-side.result c.block_on-far.result c.far_side-side.ensures.far c.if-not-far.true
+    c.block_on-far.ensures
 
-pub returns-then-not-far : goal.returns-then-not-far
-returns-then-not-far c =
-    let i = c.args.i.now in
-    let r = c.args.row.now in
-    let dir = c.args.dir in
-    let x = c.block_on-far.result in
-    let enough = Divide (cuts_of_acl_row r) in
-    let fits : Header → Bool = λ h. fits_rule r.proto r.q_from r.q_to (header_at i h) in
-    let far : Header → Bool = λ h. holds (far_address dir (header_at i h)) r.block in
-    answers_rule enough r.proto r.q_from r.q_to i far i.part x
-    (answers_same enough (λ h. far h && fits h) (λ h. fits h && far h) i.part x (λ h. and_comm (far h) (fits h))
-    (answers_refused enough far fits i.part x (fails x.told c.if-not-far.true)
-    (block_of_row i dir r c.far_side-side.result i.part x c.far_side-side.ensures.far c.block_on-far.ensures)))
+pub returns-then-not-far-2 : goal.returns-then-not-far-2
+returns-then-not-far-2 c =
+    block_refuses c.args.i.now c.args.dir c.args.row.now c.far_side-side.result c.block_on-far.result c.far_side-side.ensures.far c.if-not-far-2.true
+    c.block_on-far.ensures
 
 pub returns : goal.returns
 returns c =

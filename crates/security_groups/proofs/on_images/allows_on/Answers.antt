@@ -1,4 +1,4 @@
-use Rattle.std.proofs.Common.{◌&&◌, [], Bool, ap, subst, ◌≡◌, not, true, false, refl}
+use Rattle.std.proofs.Common.{◌&&◌, [], Bool, ap, subst}
 use Rattle.std.proofs.Math.Bool.{and_comm}
 use Rattle.vpc_base.specs.declared.headers.Header.{Header}
 use Rattle.box_images.specs.Answers.{Answers}
@@ -26,10 +26,6 @@ returns-then-not-fits c =
     (answers_refused enough fits far i.part x c.if-not-fits.true
     (answers_more (Divide (cuts_of_rule r.proto r.q_from r.q_to [])) enough fits i.part x (λ cuts d. d.rule) c.rule_on-fits.ensures))
 
-fails : (b : Bool) → not b ≡ true → b ≡ false
-fails true e = absurd (let g : false ≡ true = e in cc)
-fails false e = refl
-
 pub returns-then-not-named : goal.returns-then-not-named
 returns-then-not-named c =
     let i = c.args.i.now in
@@ -44,7 +40,7 @@ returns-then-not-named c =
     let at : Header → Bool = λ h. names lists members (number_of (header_at i h) s) r in
     answers_rule enough r.proto r.q_from r.q_to i far i.part x
     (answers_same enough (λ h. far h && fits h) (λ h. fits h && far h) i.part x (λ h. and_comm (far h) (fits h))
-    (answers_refused enough far fits i.part x (fails x.told c.if-not-named.true)
+    (answers_refused enough far fits i.part x c.if-not-named.true
     (answers_same enough at far i.part x (λ h. ap (λ a. names lists members a r) (c.far_side-side.ensures.far (header_at i h))) c.names_on-named.ensures)))
 
 pub returns : goal.returns

@@ -1,17 +1,17 @@
-use Rattle.std.proofs.Common.{ℕ, arith, nat_le, subst, sym}
-use Rattle.box_images.specs.Answers.{Answers}
-use Rattle.box_images.specs.Images.{header_at}
-use Rattle.cut_laws.specs.Dividing.{Divide}
-use Rattle.image_tests.specs.Tests.{cuts_of_range}
-use Rattle.security_groups.proofs.RunsOn.{left-before}
+use Rattle.security_groups.proofs.RunsOn.{left-all, left-before, refused-more}
 use Rattle.security_groups.proofs.runs_on.before_next.Goals as goal
-use Rattle.security_groups.specs.declared.rules.Rule.{Rule}
 
-pub returns-then-begun-rules : goal.returns-then-begun-rules
-returns-then-begun-rules c = λ lists members dir.
-    let i = c.args.i.now in
-    let x = c.begins_on.result in
-    let begins = subst (λ (r : Rule). (to : ℕ) → Answers (Divide (cuts_of_range r.q_from to)) (λ h. nat_le r.q_from (header_at i h).q) i.part x)
-    (sym c.index-rules-begun.is) c.begins_on.ensures in
-    left-before lists members dir c.args.rules.now c.args.begun i c.index-rules-begun.result x c.requires.valid (omega arith)
-    c.index-rules-begun.is c.requires.ascend c.requires.later begins
+pub loop-rule-preserved : goal.loop-rule-preserved
+loop-rule-preserved c =
+    refused-more c.args.lists.now c.args.members.now c.args.dir c.args.i.now c.args.rules.now c.args.begun c.loop-rule.rule-index c.rule-item.result
+    c.loop-rule-test.true c.rule-item.is (c.could_allow.ensures c.if-could_allow.false) c.loop-rule.invariant
+
+pub returns-then-eq : goal.returns-then-eq
+returns-then-eq c =
+    left-before c.args.lists.now c.args.members.now c.args.dir c.args.rules.now c.args.begun c.loop-rule.rule-index c.args.i.now c.rule-item.result c.begins_on.result
+    c.loop-rule-test.true c.rule-item.is c.requires.ascend c.requires.later c.loop-rule.invariant c.begins_on.ensures
+
+pub returns : goal.returns
+returns c =
+    left-all c.args.lists.now c.args.members.now c.args.dir c.args.rules.now c.args.begun c.loop-rule.rule-index c.args.i.now
+    c.requires.valid c.loop-rule-test.false c.loop-rule.invariant

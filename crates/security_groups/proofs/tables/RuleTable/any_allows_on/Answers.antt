@@ -14,7 +14,7 @@ before_next-requires-clause-later c =
     (ap (λ h. h.q) c.value-q.ensures.value ∙ ap (value_of c.args.i.now.q) c.low.ensures.value) c.begun.ensures.rules
 
 pub within-rest-requires-clause-within : goal.within-rest-requires-clause-within
-within-rest-requires-clause-within c = (c.before_next.ensures c.args.lists.now c.args.members.now c.args.dir).inside.within
+within-rest-requires-clause-within c = c.before_next.ensures.inside.within
 
 pub any_in_runs_on-requires-clause-walk : goal.any_in_runs_on-requires-clause-walk
 any_in_runs_on-requires-clause-walk c = walk_within c.args.i.now c.within-rest.result c.requires.walk c.within-rest.ensures.kind
@@ -24,7 +24,7 @@ any_in_runs_on-requires-clause-above c =
     let i = c.args.i.now in
     ports-above i c.within-rest.result c.before_next.result c.value-q.result.q
     (ap (λ h. h.q) c.value-q.ensures.value ∙ ap (value_of i.q) c.low.ensures.value)
-    (c.before_next.ensures c.args.lists.now c.args.members.now c.args.dir).inside.within c.within-rest.ensures.image
+    c.before_next.ensures.inside.within c.within-rest.ensures.image
 
 pub returns : goal.returns
 returns c =
@@ -32,4 +32,4 @@ returns c =
     let members = c.args.members.now in
     let dir = c.args.dir in
     any-allows lists members dir c.args.self.now c.as_slice.result.now c.begun.result.0.now c.value-q.result.q c.args.i.now c.within-rest.result c.before_next.result
-    c.any_in_runs_on.result (c.as_slice.ensures.value ∙ c.self.view_is) c.begun.ensures.rules (c.before_next.ensures lists members dir) c.within-rest.ensures.image c.any_in_runs_on.ensures
+    c.any_in_runs_on.result (c.as_slice.ensures.value ∙ c.self.view_is) c.begun.ensures.rules c.before_next.ensures c.within-rest.ensures.image c.any_in_runs_on.ensures
