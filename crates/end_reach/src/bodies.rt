@@ -6,8 +6,9 @@ ghost use Rattle.vpc_model.specs.Sound.{is_end};
 ghost use Rattle.end_reach.specs.Asked.{AreTargets};
 ghost use Rattle.end_reach.specs.Bodies.{IsAdded, IsBody, IsGatheredFrom};
 ghost use Rattle.end_reach.specs.Texts.{row_lines_from};
+ghost use Rattle.end_reach.specs.Walked.{AreOf};
 
-use crate::rows::{gather_from, put_rows};
+use crate::rows::{Walks, gather_from, put_rows};
 use crate::sides::boxes_at;
 use appliances::Deciders;
 use box_gather::Gathered;
@@ -31,29 +32,22 @@ pub struct Body {
 fn gather_at(
     alloc: Global,
     f: &Fabric,
-    deciders: &Deciders,
+    walks: &mut Walks,
     query: &ReachQuery,
     targets: &[(u32, u32)],
     start: End,
     room: u32,
 ) -> Result<Gathered<End>, NoMemory>
-    requires appliances { deciders.now.appliances ≡ appliances_of f.now }
+    requires walks { AreOf f.now walks.old.toward.fabric.now walks.old.to_any.fabric.now }
     requires ends { AreGivenEnds f.now query.now }
     requires pairs { AreReachPairs query.now.pairs }
     requires targets { AreTargets f.now query.now.pairs.dst query.now.goal targets.now }
     requires start { IsTrue (is_end f.now start) }
-    ensures { IfOk result (IsGatheredFrom f.now query.now targets.now start room) }
+    ensures gathered { IfOk result (IsGatheredFrom f.now query.now targets.now start room) }
+    ensures walks { AreOf f.now walks.new.toward.fabric.now walks.new.to_any.fabric.now }
 {
     let boxes = boxes_at(alloc, f.network(), query, targets, start)?;
-    gather_from(
-        alloc,
-        f,
-        deciders,
-        start,
-        query.goal,
-        boxes.as_slice(),
-        room,
-    )
+    gather_from(alloc, f, walks, start, query.goal, boxes.as_slice(), room)
 }
 
 // Adds the lines of rows.
@@ -75,25 +69,26 @@ fn add_rows(body: &mut Body, n: &Network, start: End, rows: &[Row<End>]) -> Resu
 fn add_start(
     alloc: Global,
     f: &Fabric,
-    deciders: &Deciders,
+    walks: &mut Walks,
     query: &ReachQuery,
     targets: &[(u32, u32)],
     start: End,
     body: &mut Body,
 ) -> Result<(), NoMemory>
-    requires appliances { deciders.now.appliances ≡ appliances_of f.now }
+    requires walks { AreOf f.now walks.old.toward.fabric.now walks.old.to_any.fabric.now }
     requires ends { AreGivenEnds f.now query.now }
     requires pairs { AreReachPairs query.now.pairs }
     requires targets { AreTargets f.now query.now.pairs.dst query.now.goal targets.now }
     requires start { IsTrue (is_end f.now start) }
     requires few { body.old.count ≤ query.now.pairs.max }
-    ensures { OnOk result (IsAdded f.now query.now targets.now start
+    ensures added { OnOk result (IsAdded f.now query.now targets.now start
         body.old.text.items body.old.count body.old.next body.new.text.items body.new.count body.new.next) }
+    ensures walks { AreOf f.now walks.new.toward.fabric.now walks.new.to_any.fabric.now }
 {
     let room = query.pairs.max - body.count;
     // That the network is accepted is a clause of this call.
     let _ = f.network().description();
-    match gather_at(alloc, f, deciders, query, targets, start, room)? {
+    match gather_at(alloc, f, walks, query, targets, start, room)? {
         Gathered::All(rows) => add_rows(body, f.network(), start, rows.as_slice()),
         Gathered::More(rows, next) => {
             add_rows(body, f.network(), start, rows.as_slice())?;
@@ -124,8 +119,9 @@ pub fn body_of(
         count: 0,
         next: None,
     };
+    let mut walks = Walks::of(f, deciders);
     for start in starts {
-        add_start(alloc, f, deciders, query, targets, *start, &mut body)?;
+        add_start(alloc, f, &mut walks, query, targets, *start, &mut body)?;
         if body.next.is_some() {
             return Ok(body);
         }

@@ -9,6 +9,7 @@ ghost use Rattle.vpc_model.specs.Cuts.{cuts_of};
 ghost use Rattle.vpc_model.specs.Sound.{is_end};
 ghost use Rattle.vpc_model.specs.Told.{end_id};
 ghost use Rattle.end_reach.specs.Texts.{row_line, row_lines_from};
+ghost use Rattle.end_reach.specs.Walked.{AreOf};
 
 use appliances::Deciders;
 use block_report::{end_id, put, put_box_word, put_end, put_number_word, put_word};
@@ -23,70 +24,93 @@ use vpc_model::End;
 
 // ---- what is gathered
 
+/// The walks of a network's requests, toward a goal and without one. They are made once, since each has room for all that a
+/// walk may leave behind, and turned to one start after the other.
+#[derive(Drop)]
+pub struct Walks<'a> {
+    toward: RoundProbe<'a>,
+    to_any: OpenProbe<'a>,
+}
+
+impl<'a> Walks<'a> {
+    /// The walks with the appliances that the network describes.
+    pub fn of(f: &'a Fabric, deciders: &'a Deciders) -> Walks<'a>
+        requires { deciders.now.appliances ≡ appliances_of f.now }
+        ensures { AreOf f.now result.toward.fabric.now result.to_any.fabric.now }
+    {
+        Walks {
+            toward: RoundProbe::of(f, deciders, End::Internet, End::Internet),
+            to_any: OpenProbe::of(f, deciders, End::Internet),
+        }
+    }
+}
+
 // Toward whatever end a request arrives at.
 fn gather_to_any(
     alloc: Global,
     f: &Fabric,
-    deciders: &Deciders,
+    probe: &mut OpenProbe,
     start: End,
     boxes: &[Box5],
     room: u32,
 ) -> Result<Gathered<End>, NoMemory>
-    requires appliances { deciders.now.appliances ≡ appliances_of f.now }
+    requires network { probe.old.fabric.now ≡ f.now }
     requires start { IsTrue (is_end f.now start) }
     requires valid { All IsValid boxes.now }
     requires disjoint { AllPairs AreDisjoint boxes.now }
-    ensures { IfOk result (IsGatheredOver
+    ensures gathered { IfOk result (IsGatheredOver
         (reached_of f.now (appliances_of f.now) start None) (cuts_of f.now) boxes.now room) }
+    ensures network { probe.new.fabric.now ≡ f.now }
 {
-    let probe = OpenProbe::of(f, deciders, start);
-    gather_over(alloc, &probe, boxes, room)
+    probe.turn(start);
+    gather_over(alloc, probe, boxes, room)
 }
 
 // Toward a goal: requests are given up where they can't arrive there.
 fn gather_to(
     alloc: Global,
     f: &Fabric,
-    deciders: &Deciders,
+    round: &mut RoundProbe,
     start: End,
     goal: End,
     boxes: &[Box5],
     room: u32,
 ) -> Result<Gathered<End>, NoMemory>
-    requires appliances { deciders.now.appliances ≡ appliances_of f.now }
+    requires network { round.old.fabric.now ≡ f.now }
     requires start { IsTrue (is_end f.now start) }
     requires goal { IsTrue (is_end f.now goal) }
     requires valid { All IsValid boxes.now }
     requires disjoint { AllPairs AreDisjoint boxes.now }
-    ensures { IfOk result (IsGatheredOver
+    ensures gathered { IfOk result (IsGatheredOver
         (reached_of f.now (appliances_of f.now) start (Some goal)) (cuts_of f.now) boxes.now room) }
+    ensures network { round.new.fabric.now ≡ f.now }
 {
-    let round = RoundProbe::of(f, deciders, start, goal);
-    let probe = GoalProbe::of(&round);
-    gather_over(alloc, &probe, boxes, room)
+    round.turn(start, goal);
+    gather_over(alloc, &GoalProbe::of(round), boxes, room)
 }
 
 /// Which headers of the boxes reach an end from the start, the goal if there is one, in at most `room` rows.
 pub fn gather_from(
     alloc: Global,
     f: &Fabric,
-    deciders: &Deciders,
+    walks: &mut Walks,
     start: End,
     goal: Option<End>,
     boxes: &[Box5],
     room: u32,
 ) -> Result<Gathered<End>, NoMemory>
-    requires appliances { deciders.now.appliances ≡ appliances_of f.now }
+    requires walks { AreOf f.now walks.old.toward.fabric.now walks.old.to_any.fabric.now }
     requires start { IsTrue (is_end f.now start) }
     requires goal { IfSome goal (λ e. IsTrue (is_end f.now e)) }
     requires valid { All IsValid boxes.now }
     requires disjoint { AllPairs AreDisjoint boxes.now }
-    ensures { IfOk result (IsGatheredOver
+    ensures gathered { IfOk result (IsGatheredOver
         (reached_of f.now (appliances_of f.now) start goal) (cuts_of f.now) boxes.now room) }
+    ensures walks { AreOf f.now walks.new.toward.fabric.now walks.new.to_any.fabric.now }
 {
     match goal {
-        Some(goal) => gather_to(alloc, f, deciders, start, goal, boxes, room),
-        None => gather_to_any(alloc, f, deciders, start, boxes, room),
+        Some(goal) => gather_to(alloc, f, &mut walks.toward, start, goal, boxes, room),
+        None => gather_to_any(alloc, f, &mut walks.to_any, start, boxes, room),
     }
 }
 

@@ -1,7 +1,11 @@
 use Rattle.std.proofs.Common.{take}
+use Rattle.end_reach.specs.Walked.{AreOf}
 use Rattle.end_reach.proofs.BodyLemmas.{IsSoFar}
 use Rattle.end_reach.proofs.bodies.body_of.Given as goal
 
 -- all rows of the starts so far
 abbrev pub invariant-loop-start : goal.invariant-loop-start
-invariant-loop-start g l = IsSoFar l.f l.query l.targets (take l.start-index l.starts) l.body.text.items l.body.count l.body.next
+invariant-loop-start g l = record {
+  told : IsSoFar l.f l.query l.targets (take l.start-index l.starts) l.body.text.items l.body.count l.body.next;
+  walks : AreOf l.f l.walks.toward.fabric.now l.walks.to_any.fabric.now;
+}
