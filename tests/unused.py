@@ -137,6 +137,24 @@ def check(run, path, folder, rng, most):
         check_rule(run, path, bundle, ends, (proto, one[1], other[1]), line, folder, rng)
 
 
+def check_limit(run, folder):
+    """2,000 rules are judged, and one more is refused."""
+    path = os.path.join(TOP, "crates", "cli_rows", "data", "two_thousand_and_one_rules.json")
+    words = ["from", "eni-a", "to", "eni-b", "port", "443-443"]
+    code, text = run.answer("unused", path, *words)
+    if (code, text) != (4, "refused unused TooManyRules\n"):
+        run.note((path, *words), f"status {code}: {text[:200]!r}")
+    with open(path, "rb") as file:
+        bundle = json.load(file)
+    del bundle["SecurityGroups"][0]["IpPermissions"][-1]
+    path = os.path.join(folder, "at_the_limit.json")
+    with open(path, "w", encoding="utf-8") as file:
+        json.dump(bundle, file)
+    code, text = run.answer("unused", path, *words)
+    if code != 0 or not text.startswith("rules 2000\n") or text.count("\nrule ") != 2000:
+        run.note((path, *words), f"status {code}: {text[:200]!r}")
+
+
 def main():
     words = argparse.ArgumentParser()
     words.add_argument("program")
@@ -147,6 +165,7 @@ def main():
     given = words.parse_args()
     run, rng = Run(os.path.abspath(given.program)), random.Random(given.seed)
     with tempfile.TemporaryDirectory() as folder:
+        check_limit(run, folder)
         for path in given.files or sorted(glob.glob(os.path.join(TOP, "examples", "*.json"))):
             check(run, path, folder, rng, given.rules)
         for number in range(given.cases):
