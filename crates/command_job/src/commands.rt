@@ -45,3 +45,28 @@ pub trait TwoFiles {
     fn answer(&self, alloc: Global, network: Network, bytes: &[u8]) -> Result<Answer, NoMemory>
         ensures { IfOk result (λ a. answers self.now network bytes.now a.status a.text.items) };
 }
+
+/// A command with two descriptions, which is answered in both networks.
+pub trait TwoNetworks {
+    ghost use Rattle.std.specs.Prelude.{List, ℕ};
+    ghost use Rattle.vpc_model.specs.declared.rows.Description.{Description};
+    ghost use Rattle.command_job.specs.declared.status.Status.{Status};
+
+    /// That there may be so many words, the command's own name and its files included.
+    ghost counts: { Self → ℕ → Type 0 };
+
+    /// The status and the text that are answered to words.
+    ghost answers: { Self → List (List ℕ) → Description → Description → Status → List ℕ → Type 0 };
+
+    /// What is answered to the words, by the network of the first file and that of the second.
+    fn answer(
+        &self,
+        alloc: Global,
+        before: Network,
+        after: Network,
+        words: &[String],
+    ) -> Result<Answer, NoMemory>
+        requires count { counts self.now (length words.now) }
+        ensures { IfOk result (λ a.
+            answers self.now (map string_bytes words.now) before after a.status a.text.items) };
+}

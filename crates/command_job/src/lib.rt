@@ -8,7 +8,8 @@ mod jobs;
 mod lines;
 mod status;
 
-pub use commands::{OneFile, TwoFiles};
+pub use commands::{OneFile, TwoFiles, TwoNetworks};
+pub use deciders::deciders_of;
 pub use jobs::{Job, answer_job};
 pub use lines::{answer_line, refuse_query};
 pub use status::{Answer, Status};

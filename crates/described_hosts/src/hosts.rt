@@ -47,8 +47,8 @@ fn add(hosts: &mut Vec<EniNo>, interface: &Interface, number: u32) -> Result<(),
     Ok(())
 }
 
-// They, in the order of the description.
-fn hosts_of(alloc: Global, n: &Network) -> Result<Vec<EniNo>, NoMemory>
+/// They, in the order of the description.
+pub fn hosts_of(alloc: Global, n: &Network) -> Result<Vec<EniNo>, NoMemory>
     ensures { IfOk result (λ v. v.items ≡ hosts_of n.now) }
 {
     let interfaces = n.description().interfaces.as_slice();

@@ -3,4 +3,4 @@
 
 mod hosts;
 
-pub use hosts::{host_count, hosts_by_id, id_of};
+pub use hosts::{host_count, hosts_by_id, hosts_of, id_of};

@@ -8,3 +8,4 @@ pub mod Refusal
 pub mod Sides
 pub mod Unbounded
 pub mod Words
+pub mod ChangeQuery

@@ -19,7 +19,7 @@ pub(crate) fn interface_at(n: &Network, eni: EniNo) -> &Interface
 }
 
 // An interface as an end, where it belongs to no gateway.
-fn end_at(alloc: Global, n: &Network, eni: EniNo) -> Result<End, QueryRefusal>
+pub(crate) fn end_at(alloc: Global, n: &Network, eni: EniNo) -> Result<End, QueryRefusal>
     requires { IsTrue (is_eni n.now eni) }
     ensures answer { Answers (end_at n.now eni) result }
     ensures described { IfOk result (λ e. IsTrue (is_end n.now e)) }

@@ -4,6 +4,7 @@
 //! first one that can't be taken is the refusal.
 #![tactic(auto)]
 
+mod changes;
 mod ends;
 mod events;
 mod lines;
@@ -17,6 +18,7 @@ mod unbounded;
 mod values;
 mod words;
 
+pub use changes::{ChangeQuery, ChangedEnd, read_change_query};
 pub use events::{EventFault, read_events};
 pub use lines::{first_words, lines_of};
 pub use packets::read_packet;

@@ -63,7 +63,7 @@ fn read_end_pair<W: NumberedWords>(
 }
 
 // Between hosts of the internet no described network stands.
-fn apart(start: Option<End>, goal: Option<End>) -> Result<(), QueryRefusal>
+pub(crate) fn apart(start: Option<End>, goal: Option<End>) -> Result<(), QueryRefusal>
     ensures { result ≡ apart start goal }
 {
     match (start, goal) {

@@ -1,0 +1,224 @@
+// The words of a question for what a change opens and closes.
+ghost use Rattle.std.specs.Prelude.{◌≡◌, ◌≤◌, IfOk, IfSome, IsTrue, None, codes, length, map, string_bytes};
+ghost use Rattle.vpc_model.specs.Sound.{is_end};
+ghost use Rattle.query_words.specs.ChangeQuery.{AreChangedEnds, IsChangedEnd, before_of, change_query_of, change_sourced, changed_end_of, end_in, given_changed_end, has_source, in_either, internet_in_both, named_end, primary_in, without_address};
+ghost use Rattle.query_words.specs.Pairs.{IsSide, pair_or};
+ghost use Rattle.query_words.specs.ReachQuery.{AreReachPairs};
+ghost use Rattle.query_words.specs.Refusal.{Answers};
+
+use crate::QueryRefusal;
+use crate::ends::{end_at, interface_at};
+use crate::pairs::{Taken, has_pair};
+use crate::reaches::{ReachPairs, apart, read_reach_pairs};
+use crate::words::{CommandWords, NumberedWords};
+use reference_check::Network;
+use std::alloc::Global;
+use vpc_model::End;
+
+/// An end by its id, as it stands in each of two networks.
+#[derive(Clone, Copy)]
+pub struct ChangedEnd {
+    /// None where the first network has no such end.
+    pub before: Option<End>,
+    /// None where the second one has none.
+    pub after: Option<End>,
+}
+
+/// Of which packets the change is asked for, from one end or from all, to one end or to any.
+#[derive(Clone, Copy)]
+pub struct ChangeQuery {
+    pub start: Option<ChangedEnd>,
+    pub goal: Option<ChangedEnd>,
+    pub pairs: ReachPairs,
+}
+
+// ---- ends
+
+fn internet() -> ChangedEnd
+    ensures { result ≡ internet_in_both }
+{
+    ChangedEnd {
+        before: Some(End::Internet),
+        after: Some(End::Internet),
+    }
+}
+
+fn end_in(alloc: Global, n: &Network, id: &[u8]) -> Result<Option<End>, QueryRefusal>
+    ensures answer { Answers (end_in n.now id.now) result }
+    ensures described { IfOk result (λ end. IfSome end (λ e. IsTrue (is_end n.now e))) }
+{
+    match n.eni(id) {
+        Some(eni) => Ok(Some(end_at(alloc, n, eni)?)),
+        None => Ok(None),
+    }
+}
+
+fn in_either(end: ChangedEnd, number: usize) -> Result<ChangedEnd, QueryRefusal>
+    ensures { result ≡ in_either end number }
+{
+    match (end.before, end.after) {
+        (None, None) => Err(QueryRefusal::UnknownId(number as u64)),
+        _ => Ok(end),
+    }
+}
+
+// The end that an id names, which isn't `internet`.
+fn named_end(
+    alloc: Global,
+    before: &Network,
+    after: &Network,
+    id: &[u8],
+) -> Result<ChangedEnd, QueryRefusal>
+    ensures answer { Answers (named_end before.now after.now id.now) result }
+    ensures before_is { IfOk result (λ end. IfSome end.before (λ e. IsTrue (is_end before.now e))) }
+    ensures after_is { IfOk result (λ end. IfSome end.after (λ e. IsTrue (is_end after.now e))) }
+{
+    let first = end_in(alloc, before, id)?;
+    let second = end_in(alloc, after, id)?;
+    Ok(ChangedEnd {
+        before: first,
+        after: second,
+    })
+}
+
+fn read_changed_end<W: NumberedWords>(
+    alloc: Global,
+    before: &Network,
+    after: &Network,
+    words: &W,
+    number: usize,
+) -> Result<ChangedEnd, QueryRefusal>
+    requires first { 3 ≤ number }
+    requires last { number ≤ length (W.words words.now) }
+    ensures answer { Answers (changed_end_of before.now after.now (W.words words.now) number) result }
+    ensures described { IfOk result (IsChangedEnd before.now after.now) }
+{
+    let id = words.word(number);
+    if id == b"internet".as_slice() {
+        return Ok(internet());
+    }
+    in_either(named_end(alloc, before, after, id)?, number)
+}
+
+fn read_changed_end_pair<W: NumberedWords>(
+    alloc: Global,
+    before: &Network,
+    after: &Network,
+    words: &W,
+    name: &[u8],
+    next: usize,
+) -> Result<Taken<Option<ChangedEnd>>, QueryRefusal>
+    requires { 3 ≤ next }
+    ensures pair { Answers (pair_or None name.now (given_changed_end before.now after.now) (W.words words.now) next) result }
+    ensures next { IfOk result (λ t. next ≤ t.next) }
+    ensures described { IfOk result (λ t. IfSome t.value (IsChangedEnd before.now after.now)) }
+{
+    if !has_pair(words, name, next) {
+        return Ok(Taken { value: None, next });
+    }
+    let value = Some(read_changed_end(alloc, before, after, words, next + 1)?);
+    Ok(Taken {
+        value,
+        next: next + 2,
+    })
+}
+
+// As it stands in the first network.
+fn before_of(end: Option<ChangedEnd>) -> Option<End>
+    ensures { result ≡ before_of end }
+{
+    end?.before
+}
+
+// ---- sources
+
+fn primary_in(n: &Network, end: Option<End>) -> Option<u32>
+    requires { IfSome end (λ e. IsTrue (is_end n.now e)) }
+    ensures { result ≡ primary_in n.now end }
+{
+    match end {
+        Some(End::Interface(eni)) => interface_at(n, eni).primary,
+        _ => None,
+    }
+}
+
+fn has_source(before: &Network, after: &Network, start: ChangedEnd) -> bool
+    requires { IsChangedEnd before.now after.now start }
+    ensures { result ≡ has_source before.now after.now start }
+{
+    primary_in(before, start.before).is_some() || primary_in(after, start.after).is_some()
+}
+
+// Refuses a start that has no address.
+fn without_address(
+    alloc: Global,
+    before: &Network,
+    after: &Network,
+    start: ChangedEnd,
+) -> Result<(), QueryRefusal>
+    requires { IsChangedEnd before.now after.now start }
+    ensures { Answers (without_address before.now after.now start.before start.after) result }
+{
+    match (start.before, start.after) {
+        (Some(End::Interface(eni)), _) => {
+            let id = interface_at(before, eni).id.copied(alloc)?;
+            Err(QueryRefusal::NoAddress(id))
+        }
+        (None, Some(End::Interface(eni))) => {
+            let id = interface_at(after, eni).id.copied(alloc)?;
+            Err(QueryRefusal::NoAddress(id))
+        }
+        _ => Ok(()),
+    }
+}
+
+// Whether a start that is given has a source.
+fn change_sourced(
+    alloc: Global,
+    before: &Network,
+    after: &Network,
+    start: Option<ChangedEnd>,
+    src: Option<(u32, u32)>,
+) -> Result<(), QueryRefusal>
+    requires { IfSome start (IsChangedEnd before.now after.now) }
+    ensures { Answers (change_sourced before.now after.now start src) result }
+{
+    match (start, src) {
+        (Some(start), None) => {
+            if has_source(before, after, start) {
+                Ok(())
+            } else {
+                without_address(alloc, before, after, start)
+            }
+        }
+        _ => Ok(()),
+    }
+}
+
+// ---- the query
+
+/// The question that the words of `diff BEFORE AFTER` give, with any of the pairs of `reach` behind them. An end is named by
+/// its id, and may be described in one of the networks alone.
+pub fn read_change_query(
+    alloc: Global,
+    before: &Network,
+    after: &Network,
+    words: &[String],
+) -> Result<ChangeQuery, QueryRefusal>
+    requires { 3 ≤ length words.now }
+    ensures answer { Answers (change_query_of before.now after.now (map string_bytes words.now)) result }
+    ensures taken { IfOk result (λ query. AreReachPairs query.pairs) }
+    ensures described { IfOk result (AreChangedEnds before.now after.now) }
+{
+    let words = &CommandWords(words);
+    let start = read_changed_end_pair(alloc, before, after, words, b"from", 4)?;
+    let goal = read_changed_end_pair(alloc, before, after, words, b"to", start.next)?;
+    apart(before_of(start.value), before_of(goal.value))?;
+    let pairs = read_reach_pairs(words, goal.next)?;
+    change_sourced(alloc, before, after, start.value, pairs.src)?;
+    Ok(ChangeQuery {
+        start: start.value,
+        goal: goal.value,
+        pairs,
+    })
+}
