@@ -1,0 +1,4 @@
+pub mod Asked
+pub mod Joining
+pub mod LawLemmas
+pub mod Telling

@@ -1,0 +1,7 @@
+pub mod Fates
+pub mod Sent
+pub mod Changes
+pub mod Cuts
+pub mod Joined
+pub mod Telling
+pub mod Laws

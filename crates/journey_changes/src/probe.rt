@@ -1,0 +1,189 @@
+// What becomes of the requests of a part of a box in one network.
+ghost use Rattle.std.specs.Prelude.{◌≡◌, Some};
+ghost use Rattle.vpc_base.specs.Cuts.{AreAmong};
+ghost use Rattle.header_boxes.specs.Boxes.{IsValid, low_of};
+ghost use Rattle.box_images.specs.Answers.{Answers};
+ghost use Rattle.vpc_model.specs.Appliances.{appliances_of};
+ghost use Rattle.box_walk.specs.Asking.{asked};
+ghost use Rattle.box_walk.specs.Open.{starting};
+ghost use Rattle.journey_changes.specs.Sent.{AreSentWell, fate, goal_or, near, reached, sent, start_or};
+
+use crate::fates::{Barrier, Toward, fate_by, fate_unless, goal_unless, missing_by, reached_by};
+use appliances::Deciders;
+use box_images::Part;
+use box_walk::{OpenProbe, RoundProbe};
+use fabric::Fabric;
+use header_boxes::Box5;
+use ordered_cover::Probe;
+use reference_check::Network;
+use vpc_model::End;
+
+/// What becomes of requests that are sent in one network. A part that is answered is one on which the answer depends on
+/// the cuts at the places of the journey alone.
+#[derive(Drop)]
+pub struct FateProbe<'a> {
+    fabric: &'a Fabric,
+    start: Option<End>,
+    toward: Toward,
+    // Where the network has no such start, or there is no goal, these are never asked.
+    open: OpenProbe<'a>,
+    round: RoundProbe<'a>,
+    ghost same_open: { starting open.fabric.now open.start ≡ starting fabric.now (start_or start) },
+    ghost same_round: { asked round.fabric.now round.start round.goal
+        ≡ asked fabric.now (start_or start) (goal_or toward) },
+}
+
+fn start_or(start: Option<End>) -> End
+    ensures { result ≡ start_or start }
+{
+    match start {
+        Some(start) => start,
+        None => End::Internet,
+    }
+}
+
+fn goal_or(toward: Toward) -> End
+    ensures { result ≡ goal_or toward }
+{
+    match toward {
+        Toward::Goal(goal) => goal,
+        Toward::Any => End::Internet,
+        Toward::Missing => End::Internet,
+    }
+}
+
+impl<'a> FateProbe<'a> {
+    /// The probe for requests from the start, where the network has it, with the appliances that it describes.
+    pub fn of(
+        f: &'a Fabric,
+        deciders: &'a Deciders,
+        start: Option<End>,
+        toward: Toward,
+    ) -> FateProbe<'a>
+        requires appliances { deciders.now.appliances ≡ appliances_of f.now }
+        requires ends { AreSentWell (sent f.now start toward) }
+        ensures { sent result.fabric.now result.start result.toward ≡ sent f.now start toward }
+    {
+        FateProbe {
+            fabric: f,
+            start,
+            toward,
+            open: OpenProbe::of(f, deciders, start_or(start)),
+            round: RoundProbe::of(f, deciders, start_or(start), goal_or(toward)),
+        }
+    }
+
+    /// Asks about requests from another start from here on, by the same moments: many starts are asked about by one probe.
+    pub fn turn(&mut self, start: Option<End>)
+        requires { AreSentWell (sent self.old.fabric.now start self.old.toward) }
+        ensures { sent self.new.fabric.now self.new.start self.new.toward
+            ≡ sent self.old.fabric.now start self.old.toward }
+    {
+        self.start = start;
+        self.open.turn(start_or(start));
+        self.round.turn(start_or(start), goal_or(self.toward));
+    }
+
+    /// Its network.
+    pub(crate) fn network(&self) -> &Network
+        ensures { result.now ≡ self.now.fabric.now }
+    {
+        self.fabric.network()
+    }
+
+    // Which end requests from a start that is there reach.
+    fn reached_from(&self, start: End, sides: &Box5) -> Part<Option<End>>
+        requires valid { IsValid sides.now }
+        requires start { self.now.start ≡ Some start }
+        ensures { Answers
+            (AreAmong (near (sent self.now.fabric.now self.now.start self.now.toward) (low_of sides.now)))
+            (reached (sent self.now.fabric.now self.now.start self.now.toward)) sides.now result }
+    {
+        match self.toward {
+            Toward::Missing => Part {
+                body: *sides,
+                told: None,
+            },
+            Toward::Any => {
+                let answer = self.open.journey_on(sides);
+                Part {
+                    body: answer.body,
+                    told: reached_by(fate_by(answer.told)),
+                }
+            }
+            Toward::Goal(goal) => {
+                let answer = self.round.is_stopped_on(sides);
+                Part {
+                    body: answer.body,
+                    told: goal_unless(goal, answer.told),
+                }
+            }
+        }
+    }
+
+    /// Which end the requests of a part of the sides reach, without what keeps them from one: the part is larger than one of
+    /// which that is told.
+    pub fn reached_on(&self, sides: &Box5) -> Part<Option<End>>
+        requires { IsValid sides.now }
+        ensures { Answers
+            (AreAmong (near (sent self.now.fabric.now self.now.start self.now.toward) (low_of sides.now)))
+            (reached (sent self.now.fabric.now self.now.start self.now.toward)) sides.now result }
+    {
+        match self.start {
+            Some(start) => self.reached_from(start, sides),
+            None => Part {
+                body: *sides,
+                told: None,
+            },
+        }
+    }
+
+    // What becomes of requests from a start that is there.
+    fn fate_from(&self, start: End, sides: &Box5) -> Part<Result<End, Barrier>>
+        requires valid { IsValid sides.now }
+        requires start { self.now.start ≡ Some start }
+        ensures { Answers
+            (AreAmong (near (sent self.now.fabric.now self.now.start self.now.toward) (low_of sides.now)))
+            (fate (sent self.now.fabric.now self.now.start self.now.toward)) sides.now result }
+    {
+        match self.toward {
+            Toward::Any => {
+                let answer = self.open.journey_on(sides);
+                Part {
+                    body: answer.body,
+                    told: fate_by(answer.told),
+                }
+            }
+            Toward::Missing => {
+                let answer = self.open.journey_on(sides);
+                Part {
+                    body: answer.body,
+                    told: missing_by(answer.told),
+                }
+            }
+            Toward::Goal(goal) => {
+                let (body, told) = self.round.probe(sides);
+                Part {
+                    body,
+                    told: fate_unless(goal, told),
+                }
+            }
+        }
+    }
+
+    /// What becomes of the requests of a part of the sides.
+    pub fn fate_on(&self, sides: &Box5) -> Part<Result<End, Barrier>>
+        requires { IsValid sides.now }
+        ensures { Answers
+            (AreAmong (near (sent self.now.fabric.now self.now.start self.now.toward) (low_of sides.now)))
+            (fate (sent self.now.fabric.now self.now.start self.now.toward)) sides.now result }
+    {
+        match self.start {
+            Some(start) => self.fate_from(start, sides),
+            None => Part {
+                body: *sides,
+                told: Err(Barrier::Absent),
+            },
+        }
+    }
+}
