@@ -1,0 +1,8 @@
+-- It computes, once the digits of numbers do.
+use Rattle.std.proofs.Common.{refl}
+use Rattle.std.specs.Fmt.{digits}
+use Rattle.change_examples.proofs.changed.rule_closes.Goals as goal
+
+pub returns : goal.returns
+unfolding digits
+returns c = (refl, refl)

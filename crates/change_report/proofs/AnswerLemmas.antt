@@ -1,0 +1,63 @@
+-- What is answered, by the lines of the rows.
+use Rattle.std.proofs.Common.{◌≡◌, ◌∙◌, ◌==◌, Bool, List, Option, ap, arith, cond, false, length, nat_lt, refl, subst, sym, true, ℕ}
+use Rattle.std.proofs.lemmas.Bool.{eqb-true}
+use Rattle.std.proofs.lemmas.List.Sorted.{length_permutation}
+use Rattle.std.proofs.lemmas.Bool.Decides.{nat_tests}
+use Rattle.query_words.specs.declared.changes.ChangedEnd.{ChangedEnd}
+use Rattle.vpc_laws.specs.Types.{Description, Header}
+use Rattle.command_job.specs.declared.status.Status.{Status}
+use Rattle.command_job.specs.declared.status.Status.TheVariants as ends
+use Rattle.change_report.specs.Answered.{IsAnswerTo, IsDiffTold, IsPrinted, IsTooMany, host_limit, status_by}
+use Rattle.change_report.specs.Answered as answered
+use Rattle.change_report.specs.Asked.{AreHostsOfEither, AreStarts, AreTargets, Comparison, StartAt, TargetsAre, hosts_of_either}
+use Rattle.change_report.specs.Bodies.{IsBody}
+use Rattle.change_report.specs.Bodies as bodies
+use Rattle.change_report.specs.Texts.{part_of, start_id, told_lines_from, whole_of, whole_text}
+use Rattle.change_report.specs.Told.{AreToldAll, ChangeRows, row_count}
+
+-- by whether there is a row
+by_count : (c : Comparison) (words : List (List ℕ)) (targets : List (ℕ × ℕ)) (starts : List ChangedEnd) (status : Status) (text : List ℕ) (told : List ChangeRows) (b : Bool)
+    → (row_count told == 0) ≡ b → AreToldAll c targets starts told → status ≡ cond b ends.Yes ends.No → text ≡ whole_text c words told → IsDiffTold c words targets starts status text
+by_count c words targets starts status text told true is are status_is text_is = answered.none told are (eqb-true (row_count told) 0 is) status_is text_is
+by_count c words targets starts status text told false is are status_is text_is = answered.some told are (grind (arith, nat_tests)) status_is text_is
+
+pub told_by : (c : Comparison) (words : List (List ℕ)) (targets : List (ℕ × ℕ)) (starts : List ChangedEnd) (lines : List ℕ) (count : ℕ) (next : Option (ChangedEnd × Header)) (status : Status) (text : List ℕ)
+    → IsBody c targets starts lines count next → IsPrinted c words lines count next status text → IsDiffTold c words targets starts status text
+told_by c words targets starts lines count next status text (bodies.body_all told are lines_are count_is next_is) printed =
+    let p = subst (λ (o : Option (ChangedEnd × Header)). IsPrinted c words lines count o status text) next_is printed in
+    by_count c words targets starts status text told (row_count told == 0) refl are (p.0 ∙ ap status_by count_is)
+    (p.1 ∙ (ap (λ (l : List ℕ). whole_of words l count) lines_are ∙ ap (λ (n : ℕ). whole_of words (told_lines_from c 1 told) n) count_is))
+told_by c words targets starts lines count next status text (bodies.body_part told last h are lines_are next_is) printed =
+    let p = subst (λ (o : Option (ChangedEnd × Header)). IsPrinted c words lines count o status text) next_is printed in
+    answered.more told last h are p.0 (p.1 ∙ ap (λ (l : List ℕ). part_of words l (start_id c last.start) h) lines_are)
+
+-- what is printed answers the query, where each network is that of its look-ups
+module _ (c : Comparison) (words : List (List ℕ)) (before after : Description) (first : before ≡ c.before) (second : after ≡ c.after) where
+  -- destinations and starts as they are handed on
+  targets_as : (targets given : List (ℕ × ℕ)) → given ≡ targets → TargetsAre before after c.query.pairs.dst c.query.goal targets → AreTargets c given
+  targets_as targets given is are =
+      subst (λ (l : List (ℕ × ℕ)). AreTargets c l) (sym is)
+      (subst (λ (d : Description). TargetsAre d c.after c.query.pairs.dst c.query.goal targets) first
+      (subst (λ (d : Description). TargetsAre before d c.query.pairs.dst c.query.goal targets) second are))
+
+  starts_as : (starts given : List ChangedEnd) → given ≡ starts → StartAt before after c.query.start c.query.goal starts → AreStarts c given
+  starts_as starts given is are =
+      subst (λ (l : List ChangedEnd). AreStarts c l) (sym is)
+      (subst (λ (d : Description). StartAt d c.after c.query.start c.query.goal starts) first
+      (subst (λ (d : Description). StartAt before d c.query.start c.query.goal starts) second are))
+
+  pub answered_by : (targets given_targets : List (ℕ × ℕ)) (starts given_starts : List ChangedEnd) (lines : List ℕ) (count : ℕ) (next : Option (ChangedEnd × Header)) (status : Status) (text : List ℕ)
+      → given_targets ≡ targets → TargetsAre before after c.query.pairs.dst c.query.goal targets → given_starts ≡ starts → StartAt before after c.query.start c.query.goal starts
+      → IsBody c given_targets given_starts lines count next → IsPrinted c words lines count next status text → IsAnswerTo c words status text
+  answered_by targets given_targets starts given_starts lines count next status text targets_is targets_are starts_is starts_are body printed = record {
+    targets = given_targets;
+    targets_are = targets_as targets given_targets targets_is targets_are;
+    starts = given_starts;
+    starts_are = starts_as starts given_starts starts_is starts_are;
+    told = told_by c words given_targets given_starts lines count next status text body printed;
+  }
+
+-- ---- queries about too many interfaces
+
+pub many_by : (before after : Description) (hosts : List ChangedEnd) → AreHostsOfEither before after hosts → nat_lt host_limit (length hosts) ≡ nat_lt host_limit (length (hosts_of_either before after))
+many_by before after hosts are = ap (nat_lt host_limit) (length_permutation (hosts_of_either before after) hosts are.all)

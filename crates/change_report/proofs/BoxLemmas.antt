@@ -1,0 +1,158 @@
+-- The boxes that are asked for: none is empty, and no two share a header.
+use Rattle.std.proofs.Common.{◌≡◌, ◌==◌, ◌≤◌, ◌++◌, ◌∷◌, [], All, AllPairs, Bool, IfSome, List, None, Option, Some, arith, cond, false, get_or, map, refl, subst, suc, sym, true, ℕ}
+use Rattle.std.proofs.lemmas.Bool.Decides.{nat_tests}
+use Rattle.std.proofs.lemmas.List.Elements.{All-append, All-cons, All-map, All-nil, All-head, All-tail}
+use Rattle.std.proofs.lemmas.List.Kept.{AllPairs-cons, AllPairs-from_increasing}
+use Rattle.std.specs.List.Sorted.{IsStrictlyIncreasing}
+use Rattle.header_boxes.proofs.Held.{in_from_holds}
+use Rattle.header_boxes.specs.Boxes.{AreDisjoint, IsValid}
+use Rattle.header_boxes.specs.declared.boxes.Box5.{Box5}
+use Rattle.query_words.specs.ChangeQuery.{primary_in}
+use Rattle.query_words.specs.Pairs.{IsSide}
+use Rattle.query_words.specs.ReachQuery.{AreReachPairs}
+use Rattle.query_words.specs.Sides.{all_addresses}
+use Rattle.query_words.specs.declared.changes.ChangedEnd.{ChangedEnd}
+use Rattle.query_words.specs.declared.reaches.ReachPairs.{ReachPairs}
+use Rattle.vpc_laws.specs.Types.{Description}
+use Rattle.change_report.specs.Asked.{AreAllOrAlone, TargetsAre, addresses_in_either, alone, boxes_between, each_once, is_internet, sides_between, sources_of}
+
+AllPairs-map : {X Y : Type 0} (R : Y → Y → Type 0) (f : X → Y) (xs : List X) → AllPairs (λ a b. R (f a) (f b)) xs → AllPairs R (map f xs)
+AllPairs-map R f [] h = λ i j d lt inside. absurd (omega arith)
+AllPairs-map R f (x ∷ xs) h =
+    AllPairs-cons R (f x) (map f xs) (All-map (R (f x)) f xs (λ k d lt. h 0 (suc k) d (omega arith) (omega arith)))
+    (AllPairs-map R f xs (λ i j d lt inside. h (suc i) (suc j) d (omega arith) (omega arith)))
+
+-- no number is in both sides
+abbrev AreApart : ℕ × ℕ → ℕ × ℕ → Type 0
+AreApart s t = (x : ℕ) → s.0 ≤ x → x ≤ s.1 → t.0 ≤ x → x ≤ t.1 → ⊥
+
+-- sides that aren't empty, no two of which share a number
+pub record AreSides (sides : List (ℕ × ℕ)) : Type 0 where
+  pub each : All IsSide sides
+  pub apart : AllPairs AreApart sides
+
+one_side : (s : ℕ × ℕ) → IsSide s → AreSides (s ∷ [])
+one_side s side = record {
+  each = All-cons IsSide s [] side (All-nil IsSide);
+  apart = λ i j d lt inside. absurd (omega (arith, lt, inside));
+}
+
+all_side : IsSide all_addresses
+all_side = omega arith
+
+alone_apart : (addresses : List ℕ) → AllPairs (λ a b. AreApart (alone a) (alone b)) addresses → AreSides (map alone addresses)
+alone_apart addresses apart = record { each = All-map IsSide alone addresses (λ k d lt. omega arith); apart = AllPairs-map AreApart alone addresses apart }
+
+ascending_sides : (addresses : List ℕ) → IsStrictlyIncreasing addresses → AreSides (map alone addresses)
+ascending_sides addresses up =
+    alone_apart addresses (λ i j d lt inside x s0 s1 t0 t1. let rise = AllPairs-from_increasing addresses up i j d lt inside in absurd (omega (arith, rise, s0, s1, t0, t1)))
+
+-- ---- sources
+
+no_sides : AreSides []
+no_sides = record { each = All-nil IsSide; apart = λ i j d lt inside. absurd (omega (arith, inside)) }
+
+lone_side : (a : ℕ) → AreSides (alone a ∷ [])
+lone_side a = one_side (alone a) (omega arith)
+
+two_apart : (a b : ℕ) → (a == b) ≡ false → AreApart (alone a) (alone b)
+two_apart a b differ x s0 s1 t0 t1 = let same : a ≡ b = omega (arith, s0, s1, t0, t1) in grind (arith, nat_tests)
+
+two_sides : (a b : ℕ) (same : Bool) → (a == b) ≡ same → AreSides (map alone (cond same (a ∷ []) (a ∷ b ∷ [])))
+two_sides a b true is = lone_side a
+two_sides a b false is = record {
+  each = All-cons IsSide (alone a) (alone b ∷ []) (omega arith) (All-cons IsSide (alone b) [] (omega arith) (All-nil IsSide));
+  apart =
+      AllPairs-cons AreApart (alone a) (alone b ∷ []) (All-cons (AreApart (alone a)) (alone b) [] (two_apart a b is) (All-nil (AreApart (alone a)))) ((lone_side b).apart);
+}
+
+once_sides : (one other : Option ℕ) → AreSides (map alone (each_once one other))
+once_sides None None = no_sides
+once_sides None (Some b) = lone_side b
+once_sides (Some a) None = lone_side a
+once_sides (Some a) (Some b) = two_sides a b (a == b) refl
+
+own_sides : (before after : Description) (start : ChangedEnd) (net : Bool)
+    → AreSides (cond net (all_addresses ∷ []) (map alone (each_once (primary_in before start.before) (primary_in after start.after))))
+own_sides before after start true = one_side all_addresses all_side
+own_sides before after start false = once_sides (primary_in before start.before) (primary_in after start.after)
+
+pub sources_are_sides : (before after : Description) (given : Option (ℕ × ℕ)) (start : ChangedEnd) → IfSome given IsSide → AreSides (sources_of before after given start)
+sources_are_sides before after (Some side) start valid = one_side side valid
+sources_are_sides before after None start valid = own_sides before after start (is_internet start.before)
+
+-- ---- destinations
+
+all_or_alone : (net : Bool) (addresses : List ℕ) (sides : List (ℕ × ℕ)) → AreAllOrAlone net addresses sides → AreSides sides
+all_or_alone true addresses sides is = subst AreSides (sym is) (one_side all_addresses all_side)
+all_or_alone false addresses sides is = subst AreSides (sym is.are) (ascending_sides is.order is.ascending)
+
+pub targets_are_sides : (before after : Description) (given : Option (ℕ × ℕ)) (goal : Option ChangedEnd) (targets : List (ℕ × ℕ)) → IfSome given IsSide
+    → TargetsAre before after given goal targets → AreSides targets
+targets_are_sides before after (Some side) goal targets valid are = subst AreSides (sym are) (one_side side valid)
+targets_are_sides before after None None targets valid are = subst AreSides (sym are) (one_side all_addresses all_side)
+targets_are_sides before after None (Some goal) targets valid are = all_or_alone (is_internet goal.before) (addresses_in_either before after goal) targets are
+
+-- ---- boxes
+
+boxes_to : (pairs : ReachPairs) (targets : List (ℕ × ℕ)) (src : ℕ × ℕ) → AreReachPairs pairs → IsSide src → All IsSide targets → All IsValid (map (sides_between pairs src) targets)
+boxes_to pairs targets src given valid sides =
+    All-map IsValid (sides_between pairs src) targets (λ k d lt. record { proto = given.proto; src = valid; dst = sides k d lt; p = given.p; q = given.q })
+
+pub boxes_are_valid : (pairs : ReachPairs) (targets sources : List (ℕ × ℕ)) → AreReachPairs pairs → All IsSide sources → All IsSide targets → All IsValid (boxes_between pairs targets sources)
+boxes_are_valid pairs targets [] given from to = All-nil IsValid
+boxes_are_valid pairs targets (src ∷ sources) given from to =
+    All-append IsValid (map (sides_between pairs src) targets) (boxes_between pairs targets sources)
+    (boxes_to pairs targets src given (All-head IsSide src sources from) to)
+    (boxes_are_valid pairs targets sources given (All-tail IsSide src sources from) to)
+
+-- boxes between other sources share no header with these
+abbrev IsFromOther : ℕ × ℕ → Box5 → Type 0
+IsFromOther src b = AreApart src b.src
+
+all_from : (pairs : ReachPairs) (targets : List (ℕ × ℕ)) (src other : ℕ × ℕ) → AreApart src other → All (IsFromOther src) (map (sides_between pairs other) targets)
+all_from pairs targets src other apart = All-map (IsFromOther src) (sides_between pairs other) targets (λ k d lt. apart)
+
+others_from : (pairs : ReachPairs) (targets sources : List (ℕ × ℕ)) (src : ℕ × ℕ) → All (AreApart src) sources → All (IsFromOther src) (boxes_between pairs targets sources)
+others_from pairs targets [] src apart = All-nil (IsFromOther src)
+others_from pairs targets (other ∷ sources) src apart =
+    All-append (IsFromOther src) (map (sides_between pairs other) targets) (boxes_between pairs targets sources)
+    (all_from pairs targets src other (All-head (AreApart src) other sources apart))
+    (others_from pairs targets sources src (All-tail (AreApart src) other sources apart))
+
+disjoint_by_source : (pairs : ReachPairs) (src dst : ℕ × ℕ) (b : Box5) → IsFromOther src b → AreDisjoint (sides_between pairs src dst) b
+disjoint_by_source pairs src dst b apart h one other =
+    let a = in_from_holds h (sides_between pairs src dst) one in
+    let c = in_from_holds h b other in
+    apart h.src a.src.0 a.src.1 c.src.0 c.src.1
+
+boxes_apart : (pairs : ReachPairs) (targets : List (ℕ × ℕ)) (src : ℕ × ℕ) → AllPairs AreApart targets → AllPairs AreDisjoint (map (sides_between pairs src) targets)
+boxes_apart pairs targets src apart =
+    AllPairs-map AreDisjoint (sides_between pairs src) targets
+    (λ i j x lt inside h one other.
+    let a = in_from_holds h (sides_between pairs src (get_or targets i x)) one in
+    let b = in_from_holds h (sides_between pairs src (get_or targets j x)) other in
+    apart i j x lt inside h.dst a.dst.0 a.dst.1 b.dst.0 b.dst.1)
+
+-- two lists, each item of the one disjoint from each of the other
+AllPairs-joined : {X : Type 0} (R : X → X → Type 0) (xs ys : List X) → AllPairs R xs → AllPairs R ys → All (λ x. All (R x) ys) xs → AllPairs R (xs ++ ys)
+AllPairs-joined R [] ys one other across = other
+AllPairs-joined R (x ∷ xs) ys one other across =
+    AllPairs-cons R x (xs ++ ys)
+    (All-append (R x) xs ys (λ k d lt. one 0 (suc k) d (omega arith) (omega arith)) (All-head (λ y. All (R y) ys) x xs across))
+    (AllPairs-joined R xs ys (λ i j d lt inside. one (suc i) (suc j) d (omega arith) (omega arith)) other (All-tail (λ y. All (R y) ys) x xs across))
+
+across_sources : (pairs : ReachPairs) (targets : List (ℕ × ℕ)) (src : ℕ × ℕ) (boxes : List Box5) → All (IsFromOther src) boxes
+    → All (λ b. All (AreDisjoint b) boxes) (map (sides_between pairs src) targets)
+across_sources pairs targets src boxes apart =
+    All-map (λ b. All (AreDisjoint b) boxes) (sides_between pairs src) targets
+    (λ k d lt i x below. disjoint_by_source pairs src (get_or targets k d) (get_or boxes i x) (apart i x below))
+
+pub boxes_are_disjoint : (pairs : ReachPairs) (targets sources : List (ℕ × ℕ)) → AllPairs AreApart targets → AllPairs AreApart sources → AllPairs AreDisjoint (boxes_between pairs targets sources)
+boxes_are_disjoint pairs targets [] to from = λ i j d lt inside. absurd (omega (arith, inside))
+boxes_are_disjoint pairs targets (src ∷ sources) to from =
+    AllPairs-joined AreDisjoint (map (sides_between pairs src) targets) (boxes_between pairs targets sources)
+    (boxes_apart pairs targets src to)
+    (boxes_are_disjoint pairs targets sources to (λ i j d lt inside. from (suc i) (suc j) d (omega arith) (omega arith)))
+    (across_sources pairs targets src (boxes_between pairs targets sources)
+    (others_from pairs targets sources src (λ k d lt. from 0 (suc k) d (omega arith) (omega arith))))

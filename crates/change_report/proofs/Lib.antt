@@ -1,0 +1,8 @@
+pub mod BoxLemmas
+pub mod StartLemmas
+pub mod GatherLemmas
+pub mod RowLemmas
+pub mod BodyLemmas
+pub mod AnswerLemmas
+pub mod WordLemmas
+pub mod Decided

@@ -1,0 +1,182 @@
+-- Which requests a question for what changes is about: those of either network.
+use Rattle.std.specs.List.{flat_map}
+use Rattle.std.specs.List.Sorted.{IsPermutation, IsSortedByKey, IsStrictlyIncreasing}
+use Rattle.std.specs.Cmp.Lexicographic.{slice_cmp}
+use Rattle.std.specs.Ordering.{nat_cmp}
+use Rattle.std.specs.Prelude.{◌≡◌, ◌↔◌, ◌==◌, ◌&&◌, ◌++◌, ◌∷◌, [], if◌then◌else◌, Bool, Contains, List, None, Option, Some, false, filter, is_some, map, not, true, ℕ}
+use Rattle.described_hosts.specs.Hosts.{hosts_of, id_of, is_host}
+use Rattle.header_boxes.specs.declared.boxes.Box5.{Box5}
+use Rattle.query_words.specs.ChangeQuery.{has_source, internet_in_both, primary_in}
+use Rattle.query_words.specs.Sides.{all_addresses}
+use Rattle.query_words.specs.declared.changes.ChangeQuery.{ChangeQuery}
+use Rattle.query_words.specs.declared.changes.ChangedEnd.{ChangedEnd}
+use Rattle.query_words.specs.declared.reaches.ReachPairs.{ReachPairs}
+use Rattle.vpc_laws.specs.Types.{Description, End, EniNo}
+use Rattle.vpc_model.specs.Lookup.{both_addresses, eni_no, has_interface, interface_at}
+use Rattle.vpc_model.specs.Told.{end_id}
+use Rattle.vpc_model.specs.Verdict.{same_end}
+use Rattle.vpc_model.specs.declared.places.End.TheVariants as ends
+
+-- two described networks, and what is asked about them
+pub record Comparison : Type 0 where
+  pub before : Description
+  pub after : Description
+  pub query : ChangeQuery
+
+abbrev pub comparison : Description → Description → ChangeQuery → Comparison
+comparison before after query = record { before = before; after = after; query = query }
+
+-- ---- ends of either network
+
+-- the interface with a number is no gateway's
+abbrev pub is_host_at : Description → EniNo → Bool
+is_host_at d i = let e = interface_at d i in is_host e
+
+-- the interface with an id as an end, where the network has it and it is no gateway's
+abbrev pub host_with_id : Description → List ℕ → Option End
+host_with_id d id = if has_interface d id && is_host_at d (eni_no d id) then Some (ends.Interface (eni_no d id)) else None
+
+-- a host of the network before, with what it is afterwards
+abbrev pub from_before : Description → Description → EniNo → ChangedEnd
+from_before before after i = record { before = Some (ends.Interface i); after = host_with_id after (id_of before i) }
+
+-- a host of the network after that is none before
+abbrev pub from_after : EniNo → ChangedEnd
+from_after j = record { before = None; after = Some (ends.Interface j) }
+
+abbrev pub is_new : Description → Description → EniNo → Bool
+is_new before after j = not (is_some (host_with_id before (id_of after j)))
+
+-- those of the network before, and those of the network after that it didn't have
+abbrev pub hosts_of_either : Description → Description → List ChangedEnd
+hosts_of_either before after =
+    map (from_before before after) (hosts_of before) ++ map from_after (filter (is_new before after) (hosts_of after))
+
+-- the id of an end, if there is one
+abbrev pub id_or : Description → Option End → List ℕ → List ℕ
+id_or d None other = other
+id_or d (Some e) other = end_id d e
+
+-- the id that an end has in both networks, or in the one that has it
+abbrev pub changed_id : Description → Description → ChangedEnd → List ℕ
+changed_id before after e = id_or before e.before (id_or after e.after [])
+
+-- the hosts of either network, each once, in the order of their ids
+pub record AreHostsOfEither (before after : Description) (hosts : List ChangedEnd) : Type 0 where
+  pub all : IsPermutation (hosts_of_either before after) hosts
+  pub by_id : IsSortedByKey (changed_id before after) (slice_cmp nat_cmp) hosts
+
+-- ---- starts
+
+abbrev pub same_option : Option End → Option End → Bool
+same_option None None = true
+same_option (Some a) (Some b) = same_end a b
+same_option a b = false
+
+-- the end is the goal
+abbrev pub is_goal : Option ChangedEnd → ChangedEnd → Bool
+is_goal None e = false
+is_goal (Some goal) e = same_option goal.before e.before && same_option goal.after e.after
+
+-- a host that has a primary address in one of the networks, and isn't the goal
+abbrev pub is_start : Description → Description → Option ChangedEnd → ChangedEnd → Bool
+is_start before after goal e = has_source before after e && not (is_goal goal e)
+
+-- the internet, and then such hosts, without the goal
+abbrev pub starts_among : Description → Description → Option ChangedEnd → List ChangedEnd → List ChangedEnd
+starts_among before after goal hosts =
+    (if is_goal goal internet_in_both then [] else internet_in_both ∷ []) ++ filter (is_start before after goal) hosts
+
+-- they, with the hosts in the order of their ids
+pub record AreAllStarts (before after : Description) (goal : Option ChangedEnd) (starts : List ChangedEnd) : Type 0 where
+  pub hosts : List ChangedEnd
+  pub hosts_are : AreHostsOfEither before after hosts
+  pub are : starts ≡ starts_among before after goal hosts
+
+-- where requests start: at the end that is given, or at all
+abbrev pub StartAt : Description → Description → Option ChangedEnd → Option ChangedEnd → List ChangedEnd → Type 0
+StartAt before after (Some start) goal starts = starts ≡ start ∷ []
+StartAt before after None goal starts = AreAllStarts before after goal starts
+
+abbrev pub AreStarts : Comparison → List ChangedEnd → Type 0
+AreStarts c starts = StartAt c.before c.after c.query.start c.query.goal starts
+
+-- ---- sources
+
+-- one address
+abbrev pub alone : ℕ → ℕ × ℕ
+alone a = (a, a)
+
+-- two addresses where they differ, else the one that there is
+abbrev pub each_once : Option ℕ → Option ℕ → List ℕ
+each_once None None = []
+each_once None (Some b) = b ∷ []
+each_once (Some a) None = a ∷ []
+each_once (Some a) (Some b) = if a == b then a ∷ [] else a ∷ b ∷ []
+
+abbrev pub is_internet : Option End → Bool
+is_internet None = false
+is_internet (Some ends.Internet) = true
+is_internet (Some (ends.Interface i)) = false
+
+-- those of a start: its primary addresses; all, of the internet
+abbrev pub own_sources : Description → Description → ChangedEnd → List (ℕ × ℕ)
+own_sources before after start =
+    if is_internet start.before then all_addresses ∷ []
+    else map alone (each_once (primary_in before start.before) (primary_in after start.after))
+
+-- those that are asked for: those that are given, else the start's own
+abbrev pub sources_of : Description → Description → Option (ℕ × ℕ) → ChangedEnd → List (ℕ × ℕ)
+sources_of before after (Some side) start = side ∷ []
+sources_of before after None start = own_sources before after start
+
+-- ---- destinations
+
+-- the private and public addresses of an end
+abbrev pub addresses_of : Description → Option End → List ℕ
+addresses_of d None = []
+addresses_of d (Some ends.Internet) = []
+addresses_of d (Some (ends.Interface i)) = let e = interface_at d i in flat_map both_addresses e.addresses
+
+-- those that it has in either network
+abbrev pub addresses_in_either : Description → Description → ChangedEnd → List ℕ
+addresses_in_either before after e = addresses_of before e.before ++ addresses_of after e.after
+
+-- each of some addresses, alone, in ascending order
+pub record AreEachAlone (addresses : List ℕ) (sides : List (ℕ × ℕ)) : Type 0 where
+  pub order : List ℕ
+  pub ascending : IsStrictlyIncreasing order
+  pub members : (a : ℕ) → Contains order a ↔ Contains addresses a
+  pub are : sides ≡ map alone order
+
+-- all of the internet, else each of some addresses
+abbrev pub AreAllOrAlone : Bool → List ℕ → List (ℕ × ℕ) → Type 0
+AreAllOrAlone true addresses sides = sides ≡ all_addresses ∷ []
+AreAllOrAlone false addresses sides = AreEachAlone addresses sides
+
+-- those of a goal: each address that it has in either network
+abbrev pub AreOwnTargets : Description → Description → ChangedEnd → List (ℕ × ℕ) → Type 0
+AreOwnTargets before after goal targets = AreAllOrAlone (is_internet goal.before) (addresses_in_either before after goal) targets
+
+-- those that are asked for: those that are given; else the goal's own, and all where there is none
+abbrev pub TargetsAre : Description → Description → Option (ℕ × ℕ) → Option ChangedEnd → List (ℕ × ℕ) → Type 0
+TargetsAre before after (Some side) goal targets = targets ≡ side ∷ []
+TargetsAre before after None None targets = targets ≡ all_addresses ∷ []
+TargetsAre before after None (Some goal) targets = AreOwnTargets before after goal targets
+
+abbrev pub AreTargets : Comparison → List (ℕ × ℕ) → Type 0
+AreTargets c targets = TargetsAre c.before c.after c.query.pairs.dst c.query.goal targets
+
+-- ---- boxes
+
+-- the headers between two sides of addresses
+abbrev pub sides_between : ReachPairs → ℕ × ℕ → ℕ × ℕ → Box5
+sides_between pairs src dst = record { proto = pairs.proto; src = src; dst = dst; p = pairs.p; q = pairs.q }
+
+-- one box for each source and destination
+abbrev pub boxes_between : ReachPairs → List (ℕ × ℕ) → List (ℕ × ℕ) → List Box5
+boxes_between pairs targets sources = flat_map (λ src. map (sides_between pairs src) targets) sources
+
+-- the headers that are asked for from a start
+abbrev pub boxes_at : Comparison → List (ℕ × ℕ) → ChangedEnd → List Box5
+boxes_at c targets start = boxes_between c.query.pairs targets (sources_of c.before c.after c.query.pairs.src start)
