@@ -19,6 +19,8 @@ pub const CHECK: &str = "check o.json second.txt";
 
 pub const REPLAY: &str = "replay o.json second.txt";
 
+pub const DIFF: &str = "diff o.json second.txt";
+
 pub const ARRIVING: &str = "\
 hop 1 out eni-a tcp 10.0.1.10 10.0.1.20 5000 443 by sg-a out 1
 hop 2 router subnet-a tcp 10.0.1.10 10.0.1.20 5000 443
@@ -41,7 +43,7 @@ pair eni-1 eni-3 reachable tcp 10.1.1.10 10.3.1.10 0 3
 pair eni-1 internet blocked
 ";
 
-pub const COMMANDS: [Command; 5] = [
+pub const COMMANDS: [Command; 6] = [
     Command {
         words: TRACE,
         second: "",
@@ -78,6 +80,17 @@ answer from eni-b tcp 10.0.1.20 10.0.1.10 443 5000
 event 1 stopped GroupsOut eni-b -
 event 2 arrived eni-b tcp 10.0.1.10 10.0.1.20 5000 443
 event 3 arrived eni-a tcp 10.0.1.20 10.0.1.10 443 5000
+",
+    },
+    Command {
+        words: DIFF,
+        second: "{}",
+        code: 1,
+        text: "\
+vpc-diff 1
+query
+row 1 eni-a closed eni-b request Absent eni-a - 6-6 10.0.1.10-10.0.1.10 10.0.1.20-10.0.1.20 0-65535 443-443
+end 1
 ",
     },
     Command {

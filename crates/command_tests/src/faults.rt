@@ -2,7 +2,7 @@
 ghost use Rattle.std.specs.Prelude.{◌≢◌};
 
 use crate::commands::{
-    ARRIVING, BLOCKED, CHECK, COMMANDS, Command, REPLAY, THREE, TRACE, all_answer,
+    ARRIVING, BLOCKED, CHECK, COMMANDS, Command, DIFF, REPLAY, THREE, TRACE, all_answer,
 };
 use crate::devices::{answers, shelf_of, sink_of, two_files, words_of};
 use crate::networks::{BEHIND_NAT, ONE_SUBNET};
@@ -15,13 +15,16 @@ use vpc_io::{CountSink, SafeShelf, Shelf, ShelfFault};
 // ---- shelves
 
 // The words, the call of the shelf that fails, the status and the text.
-const AT_A_CALL: [(&str, u64, u8, &str); 10] = [
+const AT_A_CALL: [(&str, u64, u8, &str); 14] = [
     (TRACE, 1, 6, "read fault 1\n"),
     ("ask o.json from eni-a to eni-b", 1, 6, "read fault 1\n"),
     (CHECK, 1, 6, "read fault 1\n"),
     (CHECK, 2, 6, "read fault 2\n"),
     (REPLAY, 1, 6, "read fault 1\n"),
     (REPLAY, 2, 6, "read fault 2\n"),
+    (DIFF, 1, 6, "read fault 1\n"),
+    (DIFF, 2, 6, "read fault 2\n"),
+    (DIFF, 3, 3, "refused description after NotJson\n"),
     // A second file is taken only once the bundle is accepted, and only where the words name one.
     (
         "check second.txt o.json",
@@ -31,6 +34,12 @@ const AT_A_CALL: [(&str, u64, u8, &str); 10] = [
     ),
     (
         "replay second.txt o.json",
+        2,
+        3,
+        "refused description NotJson\n",
+    ),
+    (
+        "diff second.txt o.json",
         2,
         3,
         "refused description NotJson\n",

@@ -1,5 +1,5 @@
 // Files of a megabyte and more, generated.
-use crate::commands::{ARRIVING, CHECK, REPLAY, TRACE, all_answer};
+use crate::commands::{ARRIVING, CHECK, DIFF, REPLAY, TRACE, all_answer};
 use crate::devices::{answers, shelf_of, words_of};
 use crate::networks::{BEHIND_NAT, ONE_SUBNET};
 use std::alloc::Global;
@@ -30,11 +30,12 @@ fn refuses_line(
     alloc: Global,
     length: usize,
     words: &str,
+    code: u8,
     text: &str,
 ) -> Result<(), Fail> {
     let second = vec![in alloc; b'x'; length]?;
     let mut shelf = shelf_of(alloc, ONE_SUBNET.as_bytes(), second.as_slice(), 0)?;
-    answers(rt, alloc, words, &mut shelf, 4, text)
+    answers(rt, alloc, words, &mut shelf, code, text)
 }
 
 // The most bytes of a file, and one more.
@@ -44,10 +45,26 @@ fn takes_files_up_to_the_limit(rt: HostRuntime) -> Result<(), Fail> {
     let (most, more) = (67_108_864, 67_108_865);
     answers_padded(&rt, alloc, most, 0, ARRIVING)?;
     answers_padded(&rt, alloc, more, 3, "refused description TooBig\n")?;
-    refuses_line(&rt, alloc, most, CHECK, "refused report 1\n")?;
-    refuses_line(&rt, alloc, more, CHECK, "refused report TooBig\n")?;
-    refuses_line(&rt, alloc, most, REPLAY, "refused events 1\n")?;
-    refuses_line(&rt, alloc, more, REPLAY, "refused events TooBig\n")
+    refuses_line(&rt, alloc, most, CHECK, 4, "refused report 1\n")?;
+    refuses_line(&rt, alloc, more, CHECK, 4, "refused report TooBig\n")?;
+    refuses_line(&rt, alloc, most, REPLAY, 4, "refused events 1\n")?;
+    refuses_line(&rt, alloc, more, REPLAY, 4, "refused events TooBig\n")?;
+    refuses_line(
+        &rt,
+        alloc,
+        most,
+        DIFF,
+        3,
+        "refused description after NotJson\n",
+    )?;
+    refuses_line(
+        &rt,
+        alloc,
+        more,
+        DIFF,
+        3,
+        "refused description after TooBig\n",
+    )
 }
 
 // ---- bundles

@@ -14,17 +14,19 @@ use Rattle.replay_log.proofs.Decided.{replay_is_none}
 use Rattle.made_reach.proofs.Decided.{make_is_none}
 use Rattle.reach_matrix.proofs.AnswerLemmas.{matrix_tells_of_no_device}
 use Rattle.end_reach.proofs.Decided.{reach_is_none}
+use Rattle.change_report.proofs.Decided.{diff_is_none}
 use Rattle.unused_rules.proofs.Decided.{unused_tells_of_no_device}
 use Rattle.flow_check.proofs.Decided.{flows_tell_of_no_device}
 use Rattle.policy_check.proofs.Decided.{policies_are_of_no_device}
 use Rattle.vpc_commands.specs.Complete.{ReadFailed}
 use Rattle.vpc_commands.specs.Due.{IsAnswered, IsDue}
 use Rattle.vpc_commands.specs.Due as due
-use Rattle.vpc_commands.specs.Files.{IsAnsweredIn, IsAnsweredTo, IsNoNetwork}
+use Rattle.vpc_commands.specs.Files.{IsAnsweredBy, IsAnsweredTo, IsNoNetwork}
 use Rattle.vpc_commands.specs.Files as files
 use Rattle.vpc_commands.specs.Words.{command_of, file_name, files_of, second_name}
 use Rattle.vpc_commands.specs.declared.words.Command.{Command}
 use Rattle.vpc_commands.specs.declared.words.Command.TheVariants as commands
+use Rattle.vpc_commands.specs.declared.files.Which.{Which}
 
 -- what an answer that tells of a device says: that reading failed, of a file
 abbrev IsRead : Status → Type 0 → Type 0
@@ -32,16 +34,16 @@ IsRead status failure = (status ≡ ends.Read) × failure
 
 -- ---- the file that describes the network
 
-no_network_is_read : (told : List ℕ → Option (List ℕ)) (failed : List ℕ → Type 0) (file : List ℕ) (status : Status) (text : List ℕ)
-    → IsNoNetwork told failed file status text → IsOfDevice status → IsRead status (failed file)
+no_network_is_read : {which : Which} (told : List ℕ → Option (List ℕ)) (failed : List ℕ → Type 0) (file : List ℕ) (status : Status) (text : List ℕ)
+    → IsNoNetwork which told failed file status text → IsOfDevice status → IsRead status (failed file)
 no_network_is_read told failed file status text (files.not_read failure status_is says) h = (status_is, failure)
 no_network_is_read told failed file status text (files.too_big bytes read long status_is says) h = absurd (no_device status ends.Description status_is description_is_none h)
 no_network_is_read told failed file status text (files.refused bytes read few refused) h = absurd (no_device status ends.Description refused.status_is description_is_none h)
 
 -- the file failed, or the answer tells of a device
-in_is_read : (told : List ℕ → Option (List ℕ)) (failed : List ℕ → Type 0) (file : List ℕ) (answer : Description → Status → List ℕ → Type 0) (F : Type 0) (status : Status) (text : List ℕ)
+in_is_read : {which : Which} (told : List ℕ → Option (List ℕ)) (failed : List ℕ → Type 0) (file : List ℕ) (answer : Description → Status → List ℕ → Type 0) (F : Type 0) (status : Status) (text : List ℕ)
     → (failed file → F) → ((d : Description) → answer d status text → IsOfDevice status → IsRead status F)
-    → IsAnsweredIn told failed file answer status text → IsOfDevice status → IsRead status F
+    → IsAnsweredBy which told failed file answer status text → IsOfDevice status → IsRead status F
 in_is_read told failed file answer F status text of_file of_answer (files.no_network none) h =
     let read = no_network_is_read told failed file status text none h in (read.0, of_file read.1)
 in_is_read told failed file answer F status text of_file of_answer (files.answered d is so) h = of_answer d so h
@@ -91,6 +93,11 @@ answer_is_read commands.Matrix words told failed status text is answer h =
 answer_is_read commands.Reach words told failed status text is answer h =
     in_is_read told failed (file_name words) _ (ReadFailed words failed) status text (failed_at words failed commands.Reach 2 is refl)
     (λ d so device. absurd (reach_is_none d words status text so device)) answer h
+answer_is_read commands.Diff words told failed status text is answer h =
+    in_is_read told failed (file_name words) _ (ReadFailed words failed) status text (failed_at words failed commands.Diff 2 is refl)
+    (λ before so device.
+    in_is_read told failed (second_name words) _ (ReadFailed words failed) status text (failed_at words failed commands.Diff 3 is refl)
+    (λ after told_so also. absurd (diff_is_none before after words status text told_so also)) so device) answer h
 answer_is_read commands.Unused words told failed status text is answer h =
     in_is_read told failed (file_name words) _ (ReadFailed words failed) status text (failed_at words failed commands.Unused 2 is refl)
     (λ d so device. absurd (unused_tells_of_no_device d words status text so device)) answer h

@@ -24,15 +24,17 @@ use Rattle.replay_log.proofs.Decided.{replay_is_decided}
 use Rattle.made_reach.proofs.Decided.{make_is_decided}
 use Rattle.reach_matrix.proofs.AnswerLemmas.{matrix_is_decided}
 use Rattle.end_reach.proofs.Decided.{reach_is_decided}
+use Rattle.change_report.proofs.Decided.{diff_is_decided}
 use Rattle.unused_rules.proofs.Decided.{unused_is_decided}
 use Rattle.flow_check.proofs.Decided.{flows_is_decided}
 use Rattle.policy_check.proofs.Decided.{expect_is_decided}
 use Rattle.vpc_commands.specs.Complete.{IsComplete, IsFault}
 use Rattle.vpc_commands.specs.Due.{IsAnswered, IsDue}
 use Rattle.vpc_commands.specs.Due as due
-use Rattle.vpc_commands.specs.Files.{AreToldBytes, Describes, IsAnsweredIn, IsAnsweredTo, IsNoNetwork, IsRefused, IsToldNetwork}
+use Rattle.vpc_commands.specs.Files.{AreToldBytes, Describes, IsAnsweredBy, IsAnsweredTo, IsNoNetwork, IsRefused, IsToldNetwork}
 use Rattle.vpc_commands.specs.Files as files
 use Rattle.vpc_commands.specs.Words.{command_of, file_name, second_name}
+use Rattle.vpc_commands.specs.declared.files.Which.{Which}
 use Rattle.vpc_commands.specs.declared.words.Command.{Command}
 use Rattle.vpc_commands.specs.declared.words.Command.TheVariants as commands
 
@@ -82,8 +84,8 @@ too_many : (more few : List ℕ) (limit : ℕ) → limit < length more → lengt
 too_many more few limit long short same = let lengths = ap length same in omega (arith, lengths)
 
 -- nothing refuses a told file that describes a network, but that it could not be read
-fault_of_file : (told : List ℕ → Option (List ℕ)) (failed : List ℕ → Type 0) (file : List ℕ) (d : Description) (status : Status) (text : List ℕ)
-    → IsNoNetwork told failed file status text → IsToldNetwork told file d → IsFault status
+fault_of_file : {which : Which} (told : List ℕ → Option (List ℕ)) (failed : List ℕ → Type 0) (file : List ℕ) (d : Description) (status : Status) (text : List ℕ)
+    → IsNoNetwork which told failed file status text → IsToldNetwork told file d → IsFault status
 fault_of_file told failed file d status text (files.not_read failure status_is says) is = inl status_is
 fault_of_file told failed file d status text (files.too_big bytes read long status_is says) is =
     let described = is.describes in
@@ -92,8 +94,8 @@ fault_of_file told failed file d status text (files.refused bytes read few refus
     absurd (no_cause bytes refused.cause d refused.is_cause (subst (λ (b : List ℕ). Describes b d) (sym (told_is (told file) is.bytes bytes is.told_so read)) is.describes))
 
 -- a fault, or the answer in the network that the told bytes describe
-known_in : (told : List ℕ → Option (List ℕ)) (failed : List ℕ → Type 0) (file : List ℕ) (answer : Description → Status → List ℕ → Type 0) (d : Description) (status : Status) (text : List ℕ)
-    → IsToldNetwork told file d → IsAnsweredIn told failed file answer status text → IsFault status ⊎ answer d status text
+known_in : {which : Which} (told : List ℕ → Option (List ℕ)) (failed : List ℕ → Type 0) (file : List ℕ) (answer : Description → Status → List ℕ → Type 0) (d : Description) (status : Status) (text : List ℕ)
+    → IsToldNetwork told file d → IsAnsweredBy which told failed file answer status text → IsFault status ⊎ answer d status text
 known_in told failed file answer d status text is (files.no_network none) = inl (fault_of_file told failed file d status text none is)
 known_in told failed file answer d status text is (files.answered e of_file so) =
     let these = subst (λ (b : List ℕ). Describes b e) (told_is (told file) is.bytes of_file.bytes is.told_so of_file.told_so) of_file.describes in
@@ -186,6 +188,10 @@ complete_if_due words told failed status text answer = record {
   reach = λ d named at.
       or_known (reach_is_decided d words status text)
       (or_either (known_in told failed (file_name words) _ d status text at) (known_of commands.Reach words told failed status text answer named));
+  diff = λ before after named one other.
+      or_known (diff_is_decided before after words status text)
+      (or_either (known_in told failed (second_name words) _ after status text other)
+      (or_either (known_in told failed (file_name words) _ before status text one) (known_of commands.Diff words told failed status text answer named)));
   unused = λ d named at.
       or_known (unused_is_decided d words status text)
       (or_either (known_in told failed (file_name words) _ d status text at) (known_of commands.Unused words told failed status text answer named));

@@ -31,6 +31,7 @@ complete_if_fault words told status fault = record {
   make = λ named. inl fault;
   matrix = λ d named at. inl fault;
   reach = λ d named at. inl fault;
+  diff = λ before after named one other. inl fault;
   unused = λ d named at. inl fault;
   flows = λ d bytes named at there. inl fault;
   expect = λ d bytes named at there. inl fault;

@@ -11,10 +11,12 @@ use Rattle.command_job.specs.Files.{file_limit}
 use Rattle.command_job.specs.declared.status.Answer.{Answer}
 use Rattle.command_job.specs.declared.status.Status.{Status}
 use Rattle.command_job.specs.declared.status.Status.TheVariants as ends
-use Rattle.vpc_commands.specs.Files.{Describes, IsAnsweredTo, IsDescribed, IsNetworkOf, IsNoNetwork, IsRefused, IsTaken, refusal_line}
+use Rattle.vpc_commands.specs.Files.{Describes, IsAnsweredAfter, IsAnsweredTo, IsDescribed, IsNetworkOf, IsNoNetwork, IsRefused, IsTaken, refusal_line}
 use Rattle.vpc_commands.specs.Files as files
 use Rattle.vpc_commands.specs.declared.files.Described.{Described}
 use Rattle.vpc_commands.specs.declared.files.Described.TheVariants as described
+use Rattle.vpc_commands.specs.declared.files.Which.{Which}
+use Rattle.vpc_commands.specs.declared.files.Which.TheVariants as numbers
 
 -- the bytes of a file, as they are told
 told_bytes : (told : Option (List ℕ)) (bytes : List ℕ) → IfTold told (λ b. bytes ≡ b) → IfTold told (λ b. b ≡ bytes)
@@ -37,29 +39,29 @@ some_long (Some bytes) limit long = (bytes, refl, long)
 -- ---- the file that describes the network
 
 -- a cause that was told refuses the bytes
-pub is_refused : (bytes : List ℕ) (cause : BundleRefusal) (status : Status) (text : List ℕ)
-    → IsToldOf bytes cause → (status ≡ ends.Description) × (text ≡ refusal_line (cause_text cause)) → is_memory cause ≡ false → IsRefused bytes status text
-is_refused bytes cause status text is h not = record { cause = cause; is_cause = cause_if_told bytes cause not is; status_is = h.0; text_is = h.1 }
+pub is_refused : (which : Which) (bytes : List ℕ) (cause : BundleRefusal) (status : Status) (text : List ℕ)
+    → IsToldOf bytes cause → (status ≡ ends.Description) × (text ≡ refusal_line which (cause_text cause)) → is_memory cause ≡ false → IsRefused which bytes status text
+is_refused which bytes cause status text is h not = record { cause = cause; is_cause = cause_if_told bytes cause not is; status_is = h.0; text_is = h.1 }
 
 -- what became of bytes that were read is what became of their file
-pub taken_of_bytes : (told : List ℕ → Option (List ℕ)) (failed : List ℕ → Type 0) (file bytes : List ℕ) (x : Described)
-    → IfTold (told file) (λ b. bytes ≡ b) → length bytes ≤ file_limit → IsDescribed bytes x → IsTaken told failed file x
-taken_of_bytes told failed file bytes (described.Network d) read few is = record { bytes = bytes; told_so = told_bytes (told file) bytes read; describes = is }
-taken_of_bytes told failed file bytes (described.Refused a) read few is = files.refused bytes (told_bytes (told file) bytes read) few is
+pub taken_of_bytes : (which : Which) (told : List ℕ → Option (List ℕ)) (failed : List ℕ → Type 0) (file bytes : List ℕ) (x : Described)
+    → IfTold (told file) (λ b. bytes ≡ b) → length bytes ≤ file_limit → IsDescribed which bytes x → IsTaken which told failed file x
+taken_of_bytes which told failed file bytes (described.Network d) read few is = record { bytes = bytes; told_so = told_bytes (told file) bytes read; describes = is }
+taken_of_bytes which told failed file bytes (described.Refused a) read few is = files.refused bytes (told_bytes (told file) bytes read) few is
 
-pub is_too_big : (told : List ℕ → Option (List ℕ)) (failed : List ℕ → Type 0) (file : List ℕ) (status : Status) (text : List ℕ)
-    → IfTold (told file) (λ bytes. file_limit < length bytes) → (status ≡ ends.Description) × (text ≡ refusal_line (codes "TooBig"))
-    → IsNoNetwork told failed file status text
-is_too_big told failed file status text long h = let found = some_long (told file) file_limit long in files.too_big found.0 found.1 found.2 h.0 h.1
+pub is_too_big : (which : Which) (told : List ℕ → Option (List ℕ)) (failed : List ℕ → Type 0) (file : List ℕ) (status : Status) (text : List ℕ)
+    → IfTold (told file) (λ bytes. file_limit < length bytes) → (status ≡ ends.Description) × (text ≡ refusal_line which (codes "TooBig"))
+    → IsNoNetwork which told failed file status text
+is_too_big which told failed file status text long h = let found = some_long (told file) file_limit long in files.too_big found.0 found.1 found.2 h.0 h.1
 
 -- the network that was taken, or why there is none
-pub network_taken : (told : List ℕ → Option (List ℕ)) (failed : List ℕ → Type 0) (file : List ℕ) (x : Described) (d : Description)
-    → x ≡ described.Network d → IsTaken told failed file x → IsNetworkOf told file d
-network_taken told failed file x d is taken = subst (IsTaken told failed file) is taken
+pub network_taken : (which : Which) (told : List ℕ → Option (List ℕ)) (failed : List ℕ → Type 0) (file : List ℕ) (x : Described) (d : Description)
+    → x ≡ described.Network d → IsTaken which told failed file x → IsNetworkOf told file d
+network_taken which told failed file x d is taken = subst (IsTaken which told failed file) is taken
 
-pub none_taken : (told : List ℕ → Option (List ℕ)) (failed : List ℕ → Type 0) (file : List ℕ) (x : Described) (a : Answer)
-    → x ≡ described.Refused a → IsTaken told failed file x → IsNoNetwork told failed file a.status a.text.items
-none_taken told failed file x a is taken = subst (IsTaken told failed file) is taken
+pub none_taken : (which : Which) (told : List ℕ → Option (List ℕ)) (failed : List ℕ → Type 0) (file : List ℕ) (x : Described) (a : Answer)
+    → x ≡ described.Refused a → IsTaken which told failed file x → IsNoNetwork which told failed file a.status a.text.items
+none_taken which told failed file x a is taken = subst (IsTaken which told failed file) is taken
 
 -- ---- the second file
 
@@ -89,3 +91,24 @@ second_before told before failed sooner file refusal answer status text same fol
     files.too_big bytes (subst (λ (o : Option (List ℕ)). IfTold o (λ b. b ≡ bytes)) (same file) is) long ends_so says
 second_before told before failed sooner file refusal answer status text same follows (files.answered bytes is few so) =
     files.answered bytes (subst (λ (o : Option (List ℕ)). IfTold o (λ b. b ≡ bytes)) (same file) is) few so
+
+-- ---- the second description
+
+no_network_before : (which : Which) (told before : List ℕ → Option (List ℕ)) (failed sooner : List ℕ → Type 0) (file : List ℕ) (status : Status) (text : List ℕ)
+    → ((n : List ℕ) → told n ≡ before n) → ((n : List ℕ) → failed n → sooner n)
+    → IsNoNetwork which told failed file status text → IsNoNetwork which before sooner file status text
+no_network_before which told before failed sooner file status text same follows (files.not_read failure ends_so says) = files.not_read (follows file failure) ends_so says
+no_network_before which told before failed sooner file status text same follows (files.too_big bytes is long ends_so says) =
+    files.too_big bytes (subst (λ (o : Option (List ℕ)). IfTold o (λ b. b ≡ bytes)) (same file) is) long ends_so says
+no_network_before which told before failed sooner file status text same follows (files.refused bytes is few refused) =
+    files.refused bytes (subst (λ (o : Option (List ℕ)). IfTold o (λ b. b ≡ bytes)) (same file) is) few refused
+
+-- what is answered by a shelf is answered by one that tells the same, and of which as many files failed
+pub after_before : (told before : List ℕ → Option (List ℕ)) (failed sooner : List ℕ → Type 0) (file : List ℕ) (answer : Description → Status → List ℕ → Type 0) (status : Status) (text : List ℕ)
+    → ((n : List ℕ) → told n ≡ before n) → ((n : List ℕ) → failed n → sooner n)
+    → IsAnsweredAfter told failed file answer status text → IsAnsweredAfter before sooner file answer status text
+after_before told before failed sooner file answer status text same follows (files.no_network none) =
+    files.no_network (no_network_before numbers.After told before failed sooner file status text same follows none)
+after_before told before failed sooner file answer status text same follows (files.answered d is so) =
+    files.answered d
+    (record { bytes = is.bytes; told_so = subst (λ (o : Option (List ℕ)). IfTold o (λ b. b ≡ is.bytes)) (same file) is.told_so; describes = is.describes }) so

@@ -14,6 +14,7 @@ use Rattle.policy_check.specs.Policy.{IsExpectDecided}
 use Rattle.flow_check.specs.Answers.{IsFlowsDecided}
 use Rattle.reach_matrix.specs.Answered.{IsMatrixDecided}
 use Rattle.end_reach.specs.Answered.{IsReachDecided}
+use Rattle.change_report.specs.Answered.{IsDiffDecided}
 use Rattle.unused_rules.specs.Answered.{IsUnusedDecided}
 use Rattle.vpc_commands.specs.Files.{AreToldBytes, IsToldNetwork}
 use Rattle.vpc_commands.specs.Words.{command_of, file_name, files_of, second_name}
@@ -46,6 +47,8 @@ pub record IsComplete (words : List (List ℕ)) (told : List ℕ → Option (Lis
       → IsFault status ⊎ IsMatrixDecided d words status
   pub reach : (d : Description) → command_of words ≡ Ok commands.Reach → IsToldNetwork told (file_name words) d
       → IsFault status ⊎ IsReachDecided d words status
+  pub diff : (before after : Description) → command_of words ≡ Ok commands.Diff → IsToldNetwork told (file_name words) before
+      → IsToldNetwork told (second_name words) after → IsFault status ⊎ IsDiffDecided before after words status
   pub unused : (d : Description) → command_of words ≡ Ok commands.Unused → IsToldNetwork told (file_name words) d
       → IsFault status ⊎ IsUnusedDecided d words status
 

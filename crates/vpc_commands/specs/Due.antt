@@ -14,8 +14,9 @@ use Rattle.policy_check.specs.Policy.{ArePoliciesJudged, rules_refusal_line}
 use Rattle.flow_check.specs.Answers.{AreFlowsJudged, log_refusal_line}
 use Rattle.reach_matrix.specs.Answered.{IsMatrixAnswered}
 use Rattle.end_reach.specs.Answered.{IsReachAnswered}
+use Rattle.change_report.specs.Answered.{IsDiffAnswered}
+use Rattle.vpc_commands.specs.Files.{IsAnsweredAfter, IsAnsweredIn, IsAnsweredTo}
 use Rattle.unused_rules.specs.Answered.{IsUnusedAnswered}
-use Rattle.vpc_commands.specs.Files.{IsAnsweredIn, IsAnsweredTo}
 use Rattle.vpc_commands.specs.Words.{command_of, file_name, second_name}
 use Rattle.vpc_commands.specs.declared.words.Command.{Command}
 use Rattle.vpc_commands.specs.declared.words.Command.TheVariants as commands
@@ -46,6 +47,8 @@ IsAnswered commands.Flows words told failed =
     IsAnsweredIn told failed (file_name words) (λ d. IsAnsweredTo told failed (second_name words) log_refusal_line (AreFlowsJudged d))
 IsAnswered commands.Matrix words told failed = IsAnsweredIn told failed (file_name words) (λ d. IsMatrixAnswered d words)
 IsAnswered commands.Reach words told failed = IsAnsweredIn told failed (file_name words) (λ d. IsReachAnswered d words)
+IsAnswered commands.Diff words told failed =
+    IsAnsweredIn told failed (file_name words) (λ before. IsAnsweredAfter told failed (second_name words) (λ after. IsDiffAnswered before after words))
 IsAnswered commands.Unused words told failed = IsAnsweredIn told failed (file_name words) (λ d. IsUnusedAnswered d words)
 
 -- the pairs that are due for these words: the refusal of a wrong word, what the command answers, or that memory was wanting

@@ -14,6 +14,8 @@ use Rattle.command_job.specs.declared.status.Status.{Status}
 use Rattle.command_job.specs.declared.status.Status.TheVariants as ends
 use Rattle.vpc_commands.specs.declared.files.Described.{Described}
 use Rattle.vpc_commands.specs.declared.files.Described.TheVariants as files
+use Rattle.vpc_commands.specs.declared.files.Which.{Which}
+use Rattle.vpc_commands.specs.declared.files.Which.TheVariants as numbers
 
 -- ---- the file that describes the network
 
@@ -24,24 +26,34 @@ pub record Describes (bytes : List ℕ) (network : Description) : Type 0 where
   pub json : IsJson bytes value
   pub accepted : meaning_of value ≡ Ok network
 
--- the line of a refusal of the description
-abbrev pub refusal_line : List ℕ → List ℕ
-refusal_line cause = line (codes "refused description" ++ word cause)
+-- that a file could not be read, by its number
+abbrev pub read_fault : Which → List ℕ
+read_fault numbers.First = codes "read fault 1"
+read_fault numbers.After = codes "read fault 2"
+
+-- that a description is refused; that of the network after a change is told apart
+abbrev pub refused_text : Which → List ℕ
+refused_text numbers.First = codes "refused description"
+refused_text numbers.After = codes "refused description after"
+
+-- the line of the refusal
+abbrev pub refusal_line : Which → List ℕ → List ℕ
+refusal_line which cause = line (refused_text which ++ word cause)
 
 -- the first cause against the bytes, and its answer
-pub record IsRefused (bytes : List ℕ) (status : Status) (text : List ℕ) : Type 0 where
+pub record IsRefused (which : Which) (bytes : List ℕ) (status : Status) (text : List ℕ) : Type 0 where
   pub cause : BundleRefusal
   pub is_cause : IsCause bytes cause
   pub status_is : status ≡ ends.Description
-  pub text_is : text ≡ refusal_line (cause_text cause)
+  pub text_is : text ≡ refusal_line which (cause_text cause)
 
 -- why a file describes no network: it failed in this call, is too long, or the first cause against it
-pub data IsNoNetwork (told : List ℕ → Option (List ℕ)) (failed : List ℕ → Type 0) (file : List ℕ) (status : Status) (text : List ℕ) : Type 0 where
-  not_read : failed file → status ≡ ends.Read → text ≡ line (codes "read fault 1") → IsNoNetwork told failed file status text
+pub data IsNoNetwork (which : Which) (told : List ℕ → Option (List ℕ)) (failed : List ℕ → Type 0) (file : List ℕ) (status : Status) (text : List ℕ) : Type 0 where
+  not_read : failed file → status ≡ ends.Read → text ≡ line (read_fault which) → IsNoNetwork which told failed file status text
   too_big : (bytes : List ℕ) → IfTold (told file) (λ b. b ≡ bytes) → file_limit < length bytes
-      → status ≡ ends.Description → text ≡ refusal_line (codes "TooBig") → IsNoNetwork told failed file status text
+      → status ≡ ends.Description → text ≡ refusal_line which (codes "TooBig") → IsNoNetwork which told failed file status text
   refused : (bytes : List ℕ) → IfTold (told file) (λ b. b ≡ bytes) → length bytes ≤ file_limit
-      → IsRefused bytes status text → IsNoNetwork told failed file status text
+      → IsRefused which bytes status text → IsNoNetwork which told failed file status text
 
 -- the network that a file describes; of a file of which nothing is told, that some bytes describe
 pub record IsNetworkOf (told : List ℕ → Option (List ℕ)) (file : List ℕ) (network : Description) : Type 0 where
@@ -50,9 +62,17 @@ pub record IsNetworkOf (told : List ℕ → Option (List ℕ)) (file : List ℕ)
   pub describes : Describes bytes network
 
 -- what is answered in the network of a file, by what is told of files and which of them failed in this call
-pub data IsAnsweredIn (told : List ℕ → Option (List ℕ)) (failed : List ℕ → Type 0) (file : List ℕ) (answer : Description → Status → List ℕ → Type 0) (status : Status) (text : List ℕ) : Type 0 where
-  no_network : IsNoNetwork told failed file status text → IsAnsweredIn told failed file answer status text
-  answered : (network : Description) → IsNetworkOf told file network → answer network status text → IsAnsweredIn told failed file answer status text
+pub data IsAnsweredBy (which : Which) (told : List ℕ → Option (List ℕ)) (failed : List ℕ → Type 0) (file : List ℕ) (answer : Description → Status → List ℕ → Type 0) (status : Status) (text : List ℕ) : Type 0 where
+  no_network : IsNoNetwork which told failed file status text → IsAnsweredBy which told failed file answer status text
+  answered : (network : Description) → IsNetworkOf told file network → answer network status text → IsAnsweredBy which told failed file answer status text
+
+-- by the only description, or that of the network before a change
+abbrev pub IsAnsweredIn : (List ℕ → Option (List ℕ)) → (List ℕ → Type 0) → List ℕ → (Description → Status → List ℕ → Type 0) → Status → List ℕ → Type 0
+IsAnsweredIn told failed file answer status text = IsAnsweredBy numbers.First told failed file answer status text
+
+-- by that of the network after it
+abbrev pub IsAnsweredAfter : (List ℕ → Option (List ℕ)) → (List ℕ → Type 0) → List ℕ → (Description → Status → List ℕ → Type 0) → Status → List ℕ → Type 0
+IsAnsweredAfter told failed file answer status text = IsAnsweredBy numbers.After told failed file answer status text
 
 -- ---- the second file
 
@@ -67,14 +87,14 @@ pub data IsAnsweredTo (told : List ℕ → Option (List ℕ)) (failed : List ℕ
 -- ---- what became of a file
 
 -- the network of bytes that are no more than a file may have, or the cause against them with its answer
-abbrev pub IsDescribed : List ℕ → Described → Type 0
-IsDescribed bytes (files.Network d) = Describes bytes d
-IsDescribed bytes (files.Refused a) = IsRefused bytes a.status a.text.items
+abbrev pub IsDescribed : Which → List ℕ → Described → Type 0
+IsDescribed which bytes (files.Network d) = Describes bytes d
+IsDescribed which bytes (files.Refused a) = IsRefused which bytes a.status a.text.items
 
 -- the network of a file, or why it describes none
-abbrev pub IsTaken : (List ℕ → Option (List ℕ)) → (List ℕ → Type 0) → List ℕ → Described → Type 0
-IsTaken told failed file (files.Network d) = IsNetworkOf told file d
-IsTaken told failed file (files.Refused a) = IsNoNetwork told failed file a.status a.text.items
+abbrev pub IsTaken : Which → (List ℕ → Option (List ℕ)) → (List ℕ → Type 0) → List ℕ → Described → Type 0
+IsTaken which told failed file (files.Network d) = IsNetworkOf told file d
+IsTaken which told failed file (files.Refused a) = IsNoNetwork which told failed file a.status a.text.items
 
 -- ---- told files
 

@@ -31,7 +31,8 @@ command_named name =
     else (if bytes_eq name (codes "flows") then Some commands.Flows
     else (if bytes_eq name (codes "matrix") then Some commands.Matrix
     else (if bytes_eq name (codes "reach") then Some commands.Reach
-    else (if bytes_eq name (codes "unused") then Some commands.Unused else None)))))))))
+    else (if bytes_eq name (codes "diff") then Some commands.Diff
+    else (if bytes_eq name (codes "unused") then Some commands.Unused else None))))))))))
 
 -- the command that the first word names
 abbrev pub first_named : List (List ℕ) → Option Command
@@ -49,6 +50,7 @@ count_of commands.Expect = record { least = 3; most = 3; pairs = false }
 count_of commands.Flows = record { least = 3; most = 3; pairs = false }
 count_of commands.Matrix = record { least = 2; most = 4; pairs = true }
 count_of commands.Reach = record { least = 2; most = 18; pairs = true }
+count_of commands.Diff = record { least = 3; most = 19; pairs = true }
 count_of commands.Unused = record { least = 6; most = 16; pairs = true }
 
 -- the numbers of the words that name its files
@@ -62,6 +64,7 @@ files_of commands.Expect = 2 ∷ 3 ∷ []
 files_of commands.Flows = 2 ∷ 3 ∷ []
 files_of commands.Matrix = 2 ∷ []
 files_of commands.Reach = 2 ∷ []
+files_of commands.Diff = 2 ∷ 3 ∷ []
 files_of commands.Unused = 2 ∷ []
 
 -- ---- how many words there are

@@ -4,9 +4,10 @@ ghost use Rattle.vpc_io.specs.Rose.{Rose};
 ghost use Rattle.vpc_commands.specs.Due.{IsAnswered, IsDue};
 ghost use Rattle.vpc_commands.specs.Words.{HasCount, count_of};
 
-use crate::files::{answer_file, answer_files};
+use crate::files::{answer_file, answer_files, answer_networks};
 use crate::refusals::refuse_words;
 use crate::words::{Command, read_words};
+use change_report::DiffCommand;
 use command_job::Answer;
 use end_reach::ReachCommand;
 use flow_check::FlowsCommand;
@@ -41,6 +42,7 @@ fn answer_command<S: Shelf>(
         Command::Make => make(alloc, words),
         Command::Matrix => answer_file(alloc, &MatrixCommand, words, shelf),
         Command::Reach => answer_file(alloc, &ReachCommand, words, shelf),
+        Command::Diff => answer_networks(alloc, &DiffCommand, words, shelf),
         Command::Unused => answer_file(alloc, &UnusedCommand, words, shelf),
         Command::Flows => answer_files(alloc, &FlowsCommand, words, shelf),
         Command::Expect => answer_files(alloc, &ExpectCommand, words, shelf),

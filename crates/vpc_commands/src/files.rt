@@ -4,12 +4,12 @@ ghost use Rattle.serde_json.specs.View.{view};
 ghost use Rattle.bundle.specs.Json.{IsJson};
 ghost use Rattle.command_job.specs.Files.{file_limit};
 ghost use Rattle.vpc_io.specs.Rose.{Rose};
-ghost use Rattle.vpc_commands.specs.Files.{IsAnsweredIn, IsAnsweredTo, IsDescribed, IsTaken};
+ghost use Rattle.vpc_commands.specs.Files.{IsAnsweredAfter, IsAnsweredIn, IsAnsweredTo, IsDescribed, IsTaken, read_fault};
 ghost use Rattle.vpc_commands.specs.Words.{file_name, second_name};
 
 use crate::refusals::{refuse_bundle, refuse_description};
 use bundle::{network_of, read_json};
-use command_job::{Answer, OneFile, Status, TwoFiles, answer_line};
+use command_job::{Answer, OneFile, Status, TwoFiles, TwoNetworks, answer_line};
 use query_words::word;
 use reference_check::Network;
 use serde_json::Value;
@@ -21,6 +21,24 @@ use vpc_io::{Shelf, ShelfFault};
 /// The most bytes of a file.
 pub const FILE_LIMIT: usize = 67_108_864;
 
+/// Which description a file gives.
+#[derive(Clone, Copy)]
+pub enum Which {
+    /// The only one, or that of the network before a change.
+    First,
+    /// That of the network after it.
+    After,
+}
+
+/// What becomes of the JSON value of a bundle once its network is made.
+#[derive(Clone, Copy)]
+enum Spent {
+    /// It is given back: another bundle is read in its place.
+    GivenBack,
+    /// It stays: the process ends with its answer, and giving it back takes longer than many an answer.
+    Left,
+}
+
 /// What became of a file: the network that it describes, or the answer that there is none.
 #[derive(Drop)]
 pub enum Described {
@@ -29,46 +47,73 @@ pub enum Described {
 }
 
 // The network of the value of a bundle.
-fn describe_value(alloc: Global, bundle: &Value) -> Result<Described, NoMemory>
+fn describe_value(alloc: Global, which: Which, bundle: &Value) -> Result<Described, NoMemory>
     ensures { (bytes : List ℕ) → length bytes ≤ file_limit → IsJson bytes (view bundle.now)
-        → IfOk result (IsDescribed bytes) }
+        → IfOk result (IsDescribed which bytes) }
 {
     match network_of(alloc, bundle) {
         Ok(network) => Ok(Described::Network(network)),
-        Err(cause) => Ok(Described::Refused(refuse_bundle(alloc, &cause)?)),
+        Err(cause) => Ok(Described::Refused(refuse_bundle(alloc, which, &cause)?)),
+    }
+}
+
+fn drop_or_leave(bundle: Value, spent: Spent) {
+    match spent {
+        Spent::GivenBack => drop(bundle),
+        Spent::Left => mem::forget(bundle),
     }
 }
 
 // The network of the bytes of a bundle.
-fn describe_bytes(alloc: Global, bytes: &[u8]) -> Result<Described, NoMemory>
+fn describe_bytes(
+    alloc: Global,
+    which: Which,
+    spent: Spent,
+    bytes: &[u8],
+) -> Result<Described, NoMemory>
     requires { length bytes.now ≤ FILE_LIMIT }
-    ensures { IfOk result (IsDescribed bytes.now) }
+    ensures { IfOk result (IsDescribed which bytes.now) }
 {
     match read_json(alloc, bytes) {
         Ok(bundle) => {
-            let described = describe_value(alloc, &bundle);
-            // The process ends with its answer: giving the value back takes longer than many an answer.
-            mem::forget(bundle);
+            let described = describe_value(alloc, which, &bundle);
+            drop_or_leave(bundle, spent);
             described
         }
-        Err(cause) => Ok(Described::Refused(refuse_bundle(alloc, &cause)?)),
+        Err(cause) => Ok(Described::Refused(refuse_bundle(alloc, which, &cause)?)),
+    }
+}
+
+// That a file could not be read.
+fn read_fault(which: Which) -> &'static [u8]
+    ensures { result.now ≡ read_fault which }
+{
+    match which {
+        Which::First => b"read fault 1",
+        Which::After => b"read fault 2",
     }
 }
 
 // The network of a named file.
-fn describe<S: Shelf>(alloc: Global, file: &str, shelf: &mut S) -> Result<Described, NoMemory>
-    ensures described { IfOk result (IsTaken (S.told shelf.old)
+fn describe<S: Shelf>(
+    alloc: Global,
+    which: Which,
+    spent: Spent,
+    file: &str,
+    shelf: &mut S,
+) -> Result<Described, NoMemory>
+    ensures described { IfOk result (IsTaken which (S.told shelf.old)
         (λ n. Rose (S.faults shelf.old n) (S.faults shelf.new n)) file.now) }
     ensures told_stays { (n : List ℕ) → S.told shelf.new n ≡ S.told shelf.old n }
     ensures faults_never_fall { (n : List ℕ) → S.faults shelf.old n ≤ S.faults shelf.new n }
 {
     match shelf.take(alloc, file, FILE_LIMIT) {
-        Ok(bytes) => describe_bytes(alloc, bytes.as_slice()),
+        Ok(bytes) => describe_bytes(alloc, which, spent, bytes.as_slice()),
         Err(ShelfFault::Failed) => {
-            Ok(Described::Refused(answer_line(alloc, Status::Read, b"read fault 1")?))
+            Ok(Described::Refused(answer_line(alloc, Status::Read, read_fault(which))?))
         }
         Err(ShelfFault::TooLong) => {
-            Ok(Described::Refused(refuse_description(alloc, b"TooBig")?))
+            Ok(Described::Refused(refuse_description(alloc, which, b"TooBig")?))
         }
         Err(ShelfFault::Memory) => Err(NoMemory),
     }
@@ -87,7 +132,7 @@ pub fn answer_file<S: Shelf, C: OneFile>(
         (λ n. Rose (S.faults shelf.old n) (S.faults shelf.new n)) (file_name (map string_bytes words.now))
         (C.answers command.now (map string_bytes words.now)) a.status a.text.items) }
 {
-    match describe(alloc, word(words, 2), shelf)? {
+    match describe(alloc, Which::First, Spent::Left, word(words, 2), shelf)? {
         Described::Network(network) => command.answer(alloc, network, words),
         Described::Refused(answer) => Ok(answer),
     }
@@ -136,7 +181,7 @@ pub fn answer_files<S: Shelf, C: TwoFiles>(
         (second_name (map string_bytes words.now)) (C.refusal command.now) (C.answers command.now d))
         a.status a.text.items) }
 {
-    let first = describe(alloc, word(words, 2), shelf)?;
+    let first = describe(alloc, Which::First, Spent::Left, word(words, 2), shelf)?;
     match first {
         Described::Network(network) => answer_second(
             alloc,
@@ -145,6 +190,56 @@ pub fn answer_files<S: Shelf, C: TwoFiles>(
             word(words, 3),
             shelf,
         ),
+        Described::Refused(answer) => Ok(answer),
+    }
+}
+
+// What is answered once the first file has described a network.
+fn answer_after<S: Shelf, C: TwoNetworks>(
+    alloc: Global,
+    command: &C,
+    before: Network,
+    words: &[String],
+    shelf: &mut S,
+) -> Result<Answer, NoMemory>
+    requires files { 3 ≤ length words.now }
+    requires count { C.counts command.now (length words.now) }
+    ensures { IfOk result (λ a. IsAnsweredAfter (S.told shelf.old)
+        (λ n. Rose (S.faults shelf.old n) (S.faults shelf.new n)) (second_name (map string_bytes words.now))
+        (C.answers command.now (map string_bytes words.now) before) a.status a.text.items) }
+{
+    match describe(alloc, Which::After, Spent::Left, word(words, 3), shelf) {
+        Ok(Described::Network(after)) => command.answer(alloc, before, after, words),
+        Ok(Described::Refused(answer)) => {
+            mem::forget(before);
+            Ok(answer)
+        }
+        Err(no_memory) => {
+            mem::forget(before);
+            Err(no_memory)
+        }
+    }
+}
+
+/// What a command with two descriptions answers: the second file is taken once the first one describes a network. By then
+/// nothing of the first file is kept but its network.
+pub fn answer_networks<S: Shelf, C: TwoNetworks>(
+    alloc: Global,
+    command: &C,
+    words: &[String],
+    shelf: &mut S,
+) -> Result<Answer, NoMemory>
+    requires files { 3 ≤ length words.now }
+    requires count { C.counts command.now (length words.now) }
+    ensures { IfOk result (λ a. IsAnsweredIn (S.told shelf.old)
+        (λ n. Rose (S.faults shelf.old n) (S.faults shelf.new n)) (file_name (map string_bytes words.now))
+        (λ d. IsAnsweredAfter (S.told shelf.old) (λ n. Rose (S.faults shelf.old n) (S.faults shelf.new n))
+        (second_name (map string_bytes words.now)) (C.answers command.now (map string_bytes words.now) d))
+        a.status a.text.items) }
+{
+    let first = describe(alloc, Which::First, Spent::GivenBack, word(words, 2), shelf)?;
+    match first {
+        Described::Network(before) => answer_after(alloc, command, before, words, shelf),
         Described::Refused(answer) => Ok(answer),
     }
 }

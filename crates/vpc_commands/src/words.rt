@@ -24,6 +24,8 @@ pub enum Command {
     Matrix,
     /// `reach`: all that gets through.
     Reach,
+    /// `diff`: what a change opens and closes.
+    Diff,
     /// `unused`: which rules decide nothing for a query.
     Unused,
 }
@@ -88,6 +90,8 @@ fn command_named(name: &str) -> Option<Command>
         Some(Command::Matrix)
     } else if name == "reach" {
         Some(Command::Reach)
+    } else if name == "diff" {
+        Some(Command::Diff)
     } else if name == "unused" {
         Some(Command::Unused)
     } else {
@@ -119,6 +123,7 @@ fn count_of(command: Command) -> Count
         Command::Flows => (3, 3, false),
         Command::Matrix => (2, 4, true),
         Command::Reach => (2, 18, true),
+        Command::Diff => (3, 19, true),
         Command::Unused => (6, 16, true),
     };
     Count { least, most, pairs }

@@ -24,6 +24,9 @@ returns-in-Matrix g c = rw c.in-Matrix.is c.answer_file-in-Matrix.ensures
 pub returns-in-Reach : goal.returns-in-Reach
 returns-in-Reach g c = rw c.in-Reach.is c.answer_file-in-Reach.ensures
 
+pub returns-in-Diff : goal.returns-in-Diff
+returns-in-Diff g c = rw c.in-Diff.is c.answer_networks.ensures
+
 pub returns-in-Unused : goal.returns-in-Unused
 returns-in-Unused g c = rw c.in-Unused.is c.answer_file-in-Unused.ensures
 

@@ -9,6 +9,6 @@ returns-in-Ok c = λ bytes few json. record { few = few; value = view c.args.bun
 
 pub returns-in_ok-refuse_bundle-in-Err : goal.returns-in_ok-refuse_bundle-in-Err
 returns-in_ok-refuse_bundle-in-Err c = λ bytes few json.
-    is_refused bytes c.in-Err.cause _ _
+    is_refused c.args.which bytes c.in-Err.cause _ _
     (described_if_meant bytes (view c.args.bundle.now) (Err c.in-Err.cause) json c.in-Err.ensures)
     c.in_ok-refuse_bundle-in-Err.ensures.line c.in_ok-refuse_bundle-in-Err.ensures.cause

@@ -1,0 +1,20 @@
+use Rattle.command_job.proofs.Answers.{if_ok}
+use Rattle.vpc_commands.specs.Files as files
+use Rattle.vpc_commands.specs.declared.files.Which.TheVariants as numbers
+use Rattle.vpc_commands.proofs.Taken.{network_taken, none_taken, rose_before, after_before}
+use Rattle.vpc_commands.proofs.files.answer_networks.Goals as goal
+
+pub returns-in-Network : goal.returns-in-Network
+returns-in-Network g c =
+    let taken = rw c.word.ensures at c.in_ok-first.ensures.described in
+    let network = network_taken numbers.First (g.S.Shelf.told c.args.shelf.now) _ _ c.in_ok-first.first c.in-Network.before c.in-Network.is taken in
+    if_ok _ _ c.answer_after.result
+    (λ a so. files.answered c.in-Network.before network
+    (after_before _ _ _ _ _ _ a.status a.text.items c.in_ok-first.ensures.told_stays
+    (λ n. rose_before _ _ _ (c.in_ok-first.ensures.faults_never_fall n)) so))
+    c.answer_after.ensures
+
+pub returns-in-Refused : goal.returns-in-Refused
+returns-in-Refused g c =
+    let taken = rw c.word.ensures at c.in_ok-first.ensures.described in
+    files.no_network (none_taken numbers.First (g.S.Shelf.told c.args.shelf.now) _ _ c.in_ok-first.first c.in-Refused.answer c.in-Refused.is taken)
