@@ -83,6 +83,14 @@ is 'behind no pair' "$(behind "$query things 5 ")" ''
 is 'a range' "$(behind "$query port ")" ''
 is 'a value that is named like a pair' "$(behind "$query src dst ")" 'dst|sport|port|max'
 
+# The two bundles of a change, each of which may have the end.
+is 'before' "$(behind './vpc diff sho')" shop.json
+is 'after' "$(behind './vpc diff shop.json one-s')" one-subnet.json
+is 'pairs of a change' "$(behind './vpc diff shop.json one-subnet.json ')" 'from|to|proto|src|dst|sport|port|max'
+is 'ends of both' "$(behind './vpc diff shop.json one-subnet.json from eni-')" 'eni-a|eni-app|eni-b|eni-db|eni-nat|eni-web'
+is 'the other end of a change' "$(behind './vpc diff shop.json one-subnet.json from eni-a to eni-d')" eni-db
+is 'pairs behind the ends' "$(behind './vpc diff shop.json one-subnet.json to eni-a ')" 'proto|src|dst|sport|port|max'
+
 # The line goes on behind the cursor.
 COMP_LINE="$query" COMP_POINT=8
 _vpc ./vpc a ''
@@ -134,18 +142,18 @@ rm large.json
 
 # The list is that of the launcher that is called; where that has none, as the built program, of the one beside the folder.
 # shellcheck disable=SC2016
-sed "s/^commands='\$/&\nmatrix FILE [port A-B] | | \ndiff BEFORE AFTER [from END] [to END] [proto PROTO] | | /" "$top/vpc" >other && chmod +x other
-is 'another launcher' "$(behind './other ')" "matrix|diff|$commands|help"
-is 'a command of its own' "$(behind './other matrix shop.json ')" port
-is 'one with two bundles' "$(behind './other diff shop.json one-subnet.json from eni-')" 'eni-a|eni-app|eni-b|eni-db|eni-nat|eni-web'
-is 'its second bundle' "$(behind './other diff shop.json one-s')" one-subnet.json
-is 'its pairs' "$(behind './other diff shop.json one-subnet.json to eni-a ')" proto
-is 'not of this one' "$(behind './vpc diff shop.json ')" ''
+sed "s/^commands='\$/&\nmap FILE [port A-B] | | \nweigh BEFORE AFTER [from END] [to END] [proto PROTO] | | /" "$top/vpc" >other && chmod +x other
+is 'another launcher' "$(behind './other ')" "map|weigh|$commands|help"
+is 'a command of its own' "$(behind './other map shop.json ')" port
+is 'one with two bundles' "$(behind './other weigh shop.json one-subnet.json from eni-')" 'eni-a|eni-app|eni-b|eni-db|eni-nat|eni-web'
+is 'its second bundle' "$(behind './other weigh shop.json one-s')" one-subnet.json
+is 'its pairs' "$(behind './other weigh shop.json one-subnet.json to eni-a ')" proto
+is 'not of this one' "$(behind './vpc weigh shop.json ')" ''
 cp /bin/true built
 for it in ./built ./none /dev/null; do
     is "called as $it" "$(behind "$it ")" "$commands|help"
 done
-is 'by PATH' "$(PATH=$room/work:$PATH behind 'other ')" "matrix|diff|$commands|help"
+is 'by PATH' "$(PATH=$room/work:$PATH behind 'other ')" "map|weigh|$commands|help"
 
 # With the list of this program.
 if [[ ${1-} ]]; then

@@ -188,8 +188,10 @@ row 2 eni-a closed eni-b reply AclOut acl-b 32767 6-6 10.0.1.10-10.0.1.10 10.0.2
 {"text":"diff","line":"row","n":2,"start":"eni-a","word":"closed","end":"eni-b","phase":"reply","name":"AclOut","id":"acl-b","rule":"32767","proto":[6,6],"src":["10.0.1.10","10.0.1.10"],"dst":["10.0.2.20","10.0.2.20"],"p":[0,32767],"q":[443,443]}
 row 3 eni-c moved eni-b eni-b2 6-6 10.0.1.11-10.0.1.11 10.0.2.20-10.0.2.20 0-65535 443-443
 {"text":"diff","line":"row","n":3,"start":"eni-c","word":"moved","end":"eni-b","after":"eni-b2","proto":[6,6],"src":["10.0.1.11","10.0.1.11"],"dst":["10.0.2.20","10.0.2.20"],"p":[0,65535],"q":[443,443]}
-end 3
-{"text":"diff","line":"end","n":3}
+row 4 eni-d opened eni-b request Absent eni-d - 6-6 10.0.1.12-10.0.1.12 10.0.2.20-10.0.2.20 0-65535 443-443
+{"text":"diff","line":"row","n":4,"start":"eni-d","word":"opened","end":"eni-b","phase":"request","name":"Absent","id":"eni-d","rule":null,"proto":[6,6],"src":["10.0.1.12","10.0.1.12"],"dst":["10.0.2.20","10.0.2.20"],"p":[0,65535],"q":[443,443]}
+end 4
+{"text":"diff","line":"end","n":4}
 
 more changes
 {"text":"diff","line":"more changes"}
@@ -553,7 +555,8 @@ NONE = [
     "vpc-reach 1\nend 0\n", "vpc-reach 1\nquery to eni-b from eni-a\nend 0\n", "vpc-reach 1\nquery max 5\nend 0\n", "vpc-reach 1\nquery from\nend 0\n", "vpc-reach 1\nquery port 90-80\nend 0\n",
     "vpc-reach 1\nquery\nend 1\n", f"vpc-diff 1\nquery\nrow 1 eni-a moved eni-b eni-c {BOX}\nend 2\n", "vpc-diff 1\nquery\n",
     "more reach\nquery\nnext eni-a tcp 10.0.1.10 10.0.2.20 0 443\n", f"vpc-reach 1\nquery\nrow 1 eni-a opened eni-b request GroupsIn eni-b - {BOX}\nend 1\n",
-    f"vpc-diff 1\nquery\nrow 1 eni-a eni-b {BOX}\nend 1\n", f"more changes\nquery\nrow 1 eni-a moved eni-b eni-c {BOX}\nend 1\n", "more things\n",
+    f"vpc-diff 1\nquery\nrow 1 eni-a eni-b {BOX}\nend 1\n", f"vpc-diff 1\nquery\nrow 1 eni-a closed eni-b reply Absent eni-a - {BOX}\nend 1\n",
+    REPORT + f"row 1 request Absent eni-a - {BOX}\nend 1\n", f"more changes\nquery\nrow 1 eni-a moved eni-b eni-c {BOX}\nend 1\n", "more things\n",
     "line 1 blocked\nok 0 fail 2\n", "line 2 blocked\nline 1 blocked\nok 0 fail 2\n", "line 1 blocked\nok 0 differ 1 nodata 0 skipdata 0 unknown 0 skipped 0\n",
     "line 1 REJECT by none\nok 0 fail 1\n", "line 1 REJECT by tracked\nok 0 differ 1 nodata 0 skipdata 0 unknown 0 skipped 0\n", "line 1 blocked\n",
     "rules 1\n", "rules 0\nrule sg-a in 1 unused\n", "rules 1\nrule sg-a up 1 unused\n", "rules 999999999999999\n",

@@ -4,9 +4,9 @@ Written from the pages and from no line of the program, to be asked beside it. I
 function a place of the walk, one walk a header. It reads bundles that are accepted; what is wrong with others it doesn't tell.
 
 `Network(bundle)` reads. `verdict(network, start, goal, header)` is that of `ask` about one header, `journey` that of `reach`, where the
-goal may be left out, `change` the word of `diff`, `without` the network without one rule, for `unused`. `cuts(network)` are the numbers
-at which something may change, `pieces` the lowest numbers that they leave of a range: so all headers of a box may be asked by the low
-corners of its cells. An end is the id of an interface, or INTERNET.
+goal may be left out, `change` the words of `diff` about two such, `without` the network without one rule, for `unused`. `cuts(network)`
+are the numbers at which something may change, `pieces` the lowest numbers that they leave of a range: so all headers of a box may be
+asked by the low corners of its cells. An end is the id of an interface, or INTERNET.
 """
 
 import copy
@@ -673,15 +673,16 @@ def verdict(network, start, goal, header):
     return journey(network, start, goal, header)
 
 
-def change(before, after, start, goal, header):
-    """The word of `diff`, or None. A goal that a network doesn't have is reached by nothing there."""
-    told = []
-    for network in (before, after):
-        it = journey(network, start, goal if goal is ANY or network.is_end(goal) else ANY, header)
-        if goal is not ANY and not network.is_end(goal) and not it.stop:
-            it = Answer(None, "request", Stop("WrongPlace", name_of(it.reached)), it.walks)
-        told.append(it)
-    one, other = told
+def journey_toward(network, start, goal, header):
+    """As `journey`; a goal that the network doesn't have is reached by nothing."""
+    if goal is ANY or network.is_end(goal):
+        return journey(network, start, goal, header)
+    it = journey(network, start, ANY, header)
+    return it if it.stop else Answer(None, "request", Stop("WrongPlace", name_of(it.reached)), it.walks)
+
+
+def change(one, other):
+    """The words of `diff` about a header's two journeys, or None."""
     if one.stop and other.stop:
         return None
     if one.stop:

@@ -1,5 +1,6 @@
-"""Small networks, made at random: bundles of every kind of row, with the ends and addresses that occur in them."""
+"""Small networks, made at random: bundles of every kind of row, changed copies of them, and the ends and addresses that occur in them."""
 
+import ipaddress
 import json
 import re
 
@@ -169,6 +170,227 @@ def network(rng):
         whole["Appliances"].append({"NetworkInterfaceId": "eni-0-0-0", **kind})
         whole["NetworkInterfaces"][0]["SourceDestCheck"] = False
     return json.dumps({name: rows for name, rows in whole.items() if rows}, separators=(",", ":")).encode()
+
+
+# ---- changed copies
+
+class Change:
+    """Changes of a bundle that `network` made, each drawn from those that it can take. It is accepted afterwards where it was before."""
+
+    def __init__(self, rng, whole):
+        self.rng, self.whole = rng, whole
+        self.vpcs, self.lists = len(whole["Vpcs"]), [it["PrefixListId"] for it in whole.get("PrefixLists", [])]
+        self.groups = [it["GroupId"] for it in whole["SecurityGroups"]]
+        self.hosts = [it for it in whole["NetworkInterfaces"] if "InterfaceType" not in it]
+
+    ways = (
+        "permissions", "permissions", "entries", "entries", "routes", "routes", "transit", "peerings", "prefix_lists", "host", "addresses", "fewer_hosts", "more_hosts", "anew",
+        "exchanged_hosts", "gateways", "host_and_gateway")
+    equal_ways = ("order", "split_ports", "split_blocks", "members", "renumbered", "repeated")  # nothing opens or closes by these
+
+    def made(self, ways):
+        """The bundle after a change of one of these kinds."""
+        getattr(self, self.rng.choice(ways))()
+        return self.whole
+
+    def new_id(self):
+        return f"eni-{self.rng.randrange(10**6)}"
+
+    def some(self, rows):
+        return self.rng.choice(rows) if rows else None
+
+    def exchange(self, one, other):
+        """Two ids in each other's places, in the whole bundle."""
+        names = {json.dumps(one): json.dumps(other), json.dumps(other): json.dumps(one)}
+        self.whole = json.loads(re.sub("|".join(map(re.escape, names)), lambda it: names[it[0]], json.dumps(self.whole)))
+
+    # -- what may open or close something
+
+    def permissions(self):
+        rows = self.some(self.whole["SecurityGroups"])[self.rng.choice(("IpPermissions", "IpPermissions", "IpPermissionsEgress"))]
+        if rows and self.rng.random() < 0.5:
+            rows.pop(self.rng.randrange(len(rows)))
+        else:
+            rows.insert(self.rng.randrange(len(rows) + 1), permission(self.rng, self.vpcs, self.groups, self.lists))
+
+    def entries(self):
+        rows = self.some(self.whole["NetworkAcls"])["Entries"]
+        if rows and self.rng.random() < 0.5:
+            it = self.some(rows)
+            it["RuleAction"] = "deny" if it["RuleAction"] == "allow" else "allow"
+        elif rows and self.rng.random() < 0.3:
+            rows.pop(self.rng.randrange(len(rows)))
+        else:
+            rows.append(entry(self.rng, self.some([it for it in range(1, 200) if it not in [row["RuleNumber"] for row in rows]]), self.vpcs))
+
+    def routes(self):
+        table = self.some(self.whole["RouteTables"])
+        others = table["Routes"][1:]
+        it = self.some(others)
+        if it and self.rng.random() < 0.4:
+            table["Routes"].remove(it)
+        elif it and self.rng.random() < 0.4:
+            it["State"] = "active" if it["State"] == "blackhole" else "blackhole"
+        else:
+            targets = [row for other in self.whole["RouteTables"] if other["VpcId"] == table["VpcId"] for row in other["Routes"][1:] if "DestinationCidrBlock" in row]
+            if targets:
+                destination = block(self.rng, self.vpcs)
+                table["Routes"] += [{**self.some(targets), "DestinationCidrBlock": destination}] if destination not in [row.get("DestinationCidrBlock") for row in table["Routes"]] else []
+
+    def transit(self):
+        table = self.some([it for it in self.whole.get("TransitGatewayRoutes", []) if it["Routes"]])
+        if table:
+            it = self.some(table["Routes"])
+            if self.rng.random() < 0.5:
+                table["Routes"].remove(it)
+            else:
+                it["State"] = "active" if it["State"] == "blackhole" and "TransitGatewayAttachments" in it else "blackhole"
+
+    def peerings(self):
+        it = self.some(self.whole.get("VpcPeeringConnections"))
+        if it:
+            it["Status"]["Code"] = "pending-acceptance" if it["Status"]["Code"] == "active" else "active"
+
+    def prefix_lists(self):
+        it = self.some(self.whole.get("PrefixLists"))
+        if it:
+            it["Cidrs"] = [block(self.rng, self.vpcs) for _ in range(self.rng.randint(1, 3))]
+
+    def host(self):
+        """An interface that is told otherwise."""
+        it = self.some(self.hosts)
+        if self.rng.random() < 0.4 and it["NetworkInterfaceId"] not in [row["NetworkInterfaceId"] for row in self.whole.get("Appliances", [])]:
+            it["SourceDestCheck"] = not it["SourceDestCheck"]
+        elif self.rng.random() < 0.3:
+            it["Status"] = "in-use" if it["Status"] == "available" else "available"
+        else:
+            own = [name for name in self.groups if name.split("-")[1] == it["SubnetId"].split("-")[1]]
+            it["Groups"] = [{"GroupId": name} for name in self.rng.sample(own, self.rng.choice((0, 1, 1, min(2, len(own)))))]
+
+    def addresses(self):
+        """An interface with another primary address, or with other ones beside it."""
+        it = self.some(self.hosts)
+        first, how = it["PrivateIpAddresses"][0], self.rng.choice(("moved", "fewer", "more", "public"))
+        if how == "moved":
+            own = re.sub(r"\d+$", str(self.rng.randrange(20, 100)), it["PrivateIpAddress"])
+            if own not in json.dumps(self.whole):
+                it["PrivateIpAddress"] = first["PrivateIpAddress"] = own
+        elif how == "fewer":
+            it["PrivateIpAddresses"] = [first]
+        elif how == "more":
+            own = re.sub(r"\d+$", str(self.rng.randrange(150, 160)), it["PrivateIpAddress"])
+            it["PrivateIpAddresses"] += [{"PrivateIpAddress": own}] if own not in json.dumps(self.whole) else []
+        elif first.pop("Association", None) is None:
+            public = f"203.0.113.{self.rng.randrange(100, 200)}"
+            first.update({"Association": {"PublicIp": public}} if public not in json.dumps(self.whole) else {})
+
+    def fewer_hosts(self):
+        if len(self.hosts) == 1:
+            return
+        name = self.some(self.hosts)["NetworkInterfaceId"]
+        self.whole["NetworkInterfaces"] = [it for it in self.whole["NetworkInterfaces"] if it["NetworkInterfaceId"] != name]
+        self.whole["Appliances"] = [it for it in self.whole.get("Appliances", []) if it["NetworkInterfaceId"] != name]
+        for table in self.whole["RouteTables"]:
+            table["Routes"] = [it for it in table["Routes"] if it.get("NetworkInterfaceId") != name]
+
+    def more_hosts(self):
+        it = json.loads(json.dumps(self.some(self.hosts)))
+        own = re.sub(r"\d+$", str(self.rng.randrange(210, 220)), it["PrivateIpAddress"])
+        if own not in json.dumps(self.whole):
+            self.whole["NetworkInterfaces"].append({**it, "NetworkInterfaceId": self.new_id(), "PrivateIpAddress": own, "PrivateIpAddresses": [{"PrivateIpAddress": own}], "SourceDestCheck": True})
+
+    def anew(self):
+        """A host that was made anew has its address and another id."""
+        self.exchange(self.some(self.hosts)["NetworkInterfaceId"], self.new_id())
+
+    def exchanged_hosts(self):
+        self.exchange(*(self.some(self.hosts)["NetworkInterfaceId"] for _ in range(2)))
+
+    def gateways(self):
+        """Two of one kind with each other's ids: everywhere, or, of attachments, where they are described alone."""
+        kind, field = self.some([
+            ("NatGateways", "NatGatewayId"), ("InternetGateways", "InternetGatewayId"), ("VpcPeeringConnections", "VpcPeeringConnectionId"),
+            ("TransitGatewayVpcAttachments", "TransitGatewayAttachmentId")])
+        rows = self.whole.get(kind, [])
+        if len(rows) > 1:
+            one, other = self.rng.sample(rows, 2)
+            if kind != "TransitGatewayVpcAttachments":
+                self.exchange(one[field], other[field])
+            else:
+                one[field], other[field] = other[field], one[field]
+
+    def host_and_gateway(self):
+        """The ids of a host and of a NAT gateway's interface in each other's places."""
+        rows = [it for it in self.whole["NetworkInterfaces"] if "InterfaceType" in it]
+        if rows:
+            host, gateway = self.some(self.hosts), self.some(rows)
+            host["NetworkInterfaceId"], gateway["NetworkInterfaceId"] = gateway["NetworkInterfaceId"], host["NetworkInterfaceId"]
+            for it in self.whole["NatGateways"]:
+                for told in it["NatGatewayAddresses"]:
+                    if told["NetworkInterfaceId"] == host["NetworkInterfaceId"]:
+                        told["NetworkInterfaceId"] = gateway["NetworkInterfaceId"]
+            for table in self.whole["RouteTables"]:
+                table["Routes"] = [it for it in table["Routes"] if it.get("NetworkInterfaceId") != gateway["NetworkInterfaceId"]]
+            self.whole["Appliances"] = [it for it in self.whole.get("Appliances", []) if it["NetworkInterfaceId"] != gateway["NetworkInterfaceId"]]
+
+    # -- what opens and closes nothing
+
+    def order(self):
+        """The same rows, in other places."""
+        for name in ("Vpcs", "Subnets", "NetworkInterfaces", "RouteTables", "NetworkAcls", "SecurityGroups", "InternetGateways", "NatGateways"):
+            self.rng.shuffle(self.whole.get(name, []))
+        for it in self.whole["NetworkAcls"]:
+            self.rng.shuffle(it["Entries"])
+        for it in self.whole["SecurityGroups"]:
+            self.rng.shuffle(it["IpPermissions"])
+            self.rng.shuffle(it["IpPermissionsEgress"])
+
+    def permission(self, takes):
+        """The rows of a group, and one of them of that kind."""
+        places = [(rows, it) for group in self.whole["SecurityGroups"] for rows in (group["IpPermissions"], group["IpPermissionsEgress"]) for it in rows if takes(it)]
+        return self.some(places) or ([], None)
+
+    def split_ports(self):
+        rows, it = self.permission(lambda row: row["IpProtocol"] in ("tcp", "udp", "6", "17") and row["FromPort"] < row["ToPort"])
+        if it:
+            middle = self.rng.randrange(it["FromPort"], it["ToPort"])
+            rows.append({**it, "FromPort": middle + 1})
+            it["ToPort"] = middle
+
+    def split_blocks(self):
+        _, it = self.permission(lambda row: any(not told["CidrIp"].endswith("/32") for told in row["IpRanges"]))
+        if it:
+            told = self.some([told for told in it["IpRanges"] if not told["CidrIp"].endswith("/32")])
+            it["IpRanges"] = [other for other in it["IpRanges"] if other is not told] + [{"CidrIp": str(half)} for half in ipaddress.ip_network(told["CidrIp"]).subnets()]
+
+    def members(self):
+        """A rule that names a group names its members' addresses as well."""
+        rows, it = self.permission(lambda row: row.get("UserIdGroupPairs"))
+        home = next((group for group in self.whole["SecurityGroups"] if rows is group["IpPermissions"] or rows is group["IpPermissionsEgress"]), None)
+        named = it and it["UserIdGroupPairs"][0]["GroupId"]
+        if it and named.split("-")[1] == home["GroupId"].split("-")[1]:
+            theirs = [row for row in self.whole["NetworkInterfaces"] if {"GroupId": named} in row["Groups"]]
+            it["IpRanges"] = it["IpRanges"] + [{"CidrIp": f"{told['PrivateIpAddress']}/32"} for row in theirs for told in row["PrivateIpAddresses"]]
+
+    def renumbered(self):
+        """The rows of an ACL keep their order, and the stops at them get other numbers."""
+        for number, it in enumerate(sorted(self.some(self.whole["NetworkAcls"])["Entries"], key=lambda row: row["RuleNumber"]), 1):
+            it["RuleNumber"] = 300 + 10 * number
+
+    def repeated(self):
+        rows, it = self.permission(lambda row: True)
+        if it:
+            rows.append(dict(it))
+
+
+def changed(rng, text):
+    """A copy of the bundle that `network` made: with changes, or otherwise written alone."""
+    whole = json.loads(text)
+    for _ in range(rng.choice((0, 0, 1, 2))):
+        whole = Change(rng, whole).made(Change.equal_ways)
+    for _ in range(rng.choice((0, 1, 2, 3, 4, 8))):
+        whole = Change(rng, whole).made(Change.ways)
+    return json.dumps(whole, separators=(",", ":")).encode()
 
 
 class Ends:

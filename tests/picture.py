@@ -92,7 +92,8 @@ row 1 eni-a closed eni-b reply AclOut acl-b 32767 6-6 10.0.1.10-10.0.1.10 10.0.2
 row 2 eni-a opened eni-b request GroupsIn eni-b - 6-6 10.0.1.10-10.0.1.10 10.0.2.20-10.0.2.20 0-65535 80-80
 row 3 eni-a moved eni-b eni-b2 6-6 10.0.1.10-10.0.1.10 10.0.2.20-10.0.2.20 0-65535 22-22
 row 4 internet opened eni-c request WrongPlace internet - 6-6 198.51.100.0-198.51.100.255 203.0.113.10-203.0.113.10 0-65535 22-22
-end 4
+row 5 eni-d closed eni-b request Absent eni-d - 6-6 10.0.1.12-10.0.1.12 10.0.2.20-10.0.2.20 0-65535 443-443
+end 5
 """
 TEXTS = [
     ("a walk and its reply", NAT), ("a walk that is stopped", STOPPED), ("a report", REPORT), ("more boxes", MORE), ("a matrix", MATRIX),

@@ -20,7 +20,7 @@ import sys
 import tempfile
 
 TOP = os.path.dirname(os.path.dirname(os.path.abspath(__file__)))
-LINKED = ("vpc", "collect-bundle", "survey", "lines", "picture", "explain", "examples")
+LINKED = ("vpc", "collect-bundle", "survey", "lines", "picture", "explain", "plan-bundle", "examples")
 # What a reader of README has, beside the program; and Python, which the scripts name.
 AT_HAND = (
     "jq sh bash awk cat chmod cmp cp cut date dirname env find grep gzip head id ln ls mkdir mktemp mv nproc paste printf readlink rm sed "

@@ -25,7 +25,7 @@ import tempfile
 import model
 import networks
 from answers import HEADER, NUMBER
-from reach_model import Question, Refused, read_header, refuse
+from rows_model import Question, Refused, read_header, refuse
 
 MOST_RULES = 2000
 LINE = re.compile(rf"rule (?P<name>[!-~]+ (?:in|out) [!-~]+) (?:unused|needed (?P<header>{HEADER}))")
@@ -42,6 +42,7 @@ class Query(Question):
         super().read(number, name, value)
 
     def settle_starts(self):
+        (self.network,) = self.networks
         self.settle_ports(model.TCP)
         row, other = (self.network.interfaces.get(it) for it in (self.start, self.goal))
         for it, name in ((row, "src"), (other if row else None, "dst")):
@@ -65,9 +66,9 @@ def asked(path, words):
     with open(path, encoding="utf-8") as file:
         network = model.Network(json.load(file))
     try:
-        return Query(network, words), None
+        return Query([network], words), None
     except Refused as it:
-        return str(it), 4
+        return it.line, it.status
 
 
 class Judge:
