@@ -19,7 +19,7 @@ pub const CHECK: &str = "check o.json second.txt";
 
 pub const REPLAY: &str = "replay o.json second.txt";
 
-pub const DIFF: &str = "diff o.json second.txt";
+pub const DIFF: &str = "diff o.json second.txt from eni-a to eni-b";
 
 pub const ARRIVING: &str = "\
 hop 1 out eni-a tcp 10.0.1.10 10.0.1.20 5000 443 by sg-a out 1
@@ -88,7 +88,7 @@ event 3 arrived eni-a tcp 10.0.1.20 10.0.1.10 443 5000
         code: 1,
         text: "\
 vpc-diff 1
-query
+query from eni-a to eni-b
 row 1 eni-a closed eni-b request Absent eni-a - 6-6 10.0.1.10-10.0.1.10 10.0.1.20-10.0.1.20 0-65535 443-443
 end 1
 ",
