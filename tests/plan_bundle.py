@@ -711,6 +711,31 @@ def run_accounts(results, room):
     results.add("two accounts, and none of them told", (status, json.loads(out), err), (1, [BASE, other], ["not applied: aws_vpc.a: which of the bundle's accounts it is made in isn't told"]))
 
 
+def run_bases(results, room):
+    """Bundles that are otherwise than BASE."""
+    def told(bundle, value):
+        status, out, err = planned(put(os.path.join(room, "plan.json"), value), put(os.path.join(room, "bundle.json"), bundle))
+        return status, json.loads(out), err
+
+    bundle = copy.deepcopy(BASE)
+    for row in bundle["RouteTables"]:
+        row["Associations"] = [it for it in row["Associations"] if it.get("Main") is not True]
+    wanted = (1, bundle, ["not applied: aws_subnet.a: the bundle doesn't tell the main route table of vpc-1"])
+    results.add("a subnet of a VPC without a main table", told(bundle, plan([change("aws_subnet.a", "create", None, subnet("10.1.3.0/24", vpc_id="vpc-1"), NEW_SUBNET)])), wanted)
+    bundle = copy.deepcopy(BASE)
+    bundle["Vpcs"][0]["Ipv6CidrBlockAssociationSet"] = [{"Ipv6CidrBlock": "2001:db8::/56", "Ipv6CidrBlockState": {"State": "associated"}}]
+    status, found, err = told(bundle, plan([change("aws_route_table.a", "create", None, {"vpc_id": "vpc-1", "route": []}, {"id": True})]))
+    routes = [(it.get("DestinationCidrBlock"), it.get("DestinationIpv6CidrBlock"), it["GatewayId"]) for it in row_of(found, "RouteTables", "aws_route_table.a")["Routes"]]
+    results.add("a table of a VPC with a block of IPv6", (status, err, routes), (0, [], [("10.1.0.0/16", None, "local"), (None, "2001:db8::/56", "local")]))
+    values = {it: value for it, value in rule("ingress", "sg-db", "tcp", 22, 22).items() if it != "source_security_group_id"}
+    changes = [change("aws_security_group.in[0]", "create", None, group("in"), NEW_GROUP), change("aws_security_group.in[1]", "delete", {"id": "sg-old", "vpc_id": "vpc-1"}, None),
+               change("aws_security_group_rule.a[0]", "create", None, values, {"source_security_group_id": True})]
+    by_number = {"source_security_group_id": {"references": ["aws_security_group.in", "count.index"]}, "count_expression": {"constant_value": 1}}
+    status, found, err = told(BASE, plan(changes, {"aws_security_group_rule.a": by_number}))
+    groups = [it["UserIdGroupPairs"][0]["GroupId"] for it in row_of(found, "SecurityGroups", "sg-db")["IpPermissions"] if it["FromPort"] == 22]
+    results.add("a reference by its number to what is left of several", (status, err, groups), (0, [], ["aws_security_group.in[0]"]))
+
+
 # ---- a plan by Terraform itself
 
 def facts(bundle):
@@ -818,6 +843,7 @@ def main(words):
         for row in THROUGH:
             run_through(results, row, room)
         run_files(results, room)
+        run_bases(results, room)
         run_accounts(results, room)
         for name, wanted in TERRAFORM.items():
             run_terraform(results, name, wanted)
