@@ -177,8 +177,10 @@ pub fn gather_at(
     requires ends { AreChangedEnds asked.now.before.now asked.now.after.now asked.now.query.now }
     requires pairs { AreReachPairs asked.now.query.now.pairs }
     requires start { IsChangedEnd asked.now.before.now asked.now.after.now start }
-    requires targets { AreTargets (comparison asked.now.before.now asked.now.after.now asked.now.query.now) targets.now }
-    ensures gathered { IfOk result (IsGatheredFrom (comparison asked.now.before.now asked.now.after.now asked.now.query.now) targets.now start room) }
+    requires targets { AreTargets
+        (comparison asked.now.before.now asked.now.after.now asked.now.query.now) targets.now }
+    ensures gathered { IfOk result (IsGatheredFrom
+        (comparison asked.now.before.now asked.now.after.now asked.now.query.now) targets.now start room) }
     ensures walks { AreWalksOf (comparison asked.now.before.now asked.now.after.now asked.now.query.now)
         (sent walks.new.before.fabric.now walks.new.before.start walks.new.before.toward)
         (sent walks.new.after.fabric.now walks.new.after.start walks.new.after.toward) }

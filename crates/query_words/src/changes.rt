@@ -109,7 +109,8 @@ fn read_changed_end_pair<W: NumberedWords>(
     next: usize,
 ) -> Result<Taken<Option<ChangedEnd>>, QueryRefusal>
     requires { 3 ≤ next }
-    ensures pair { Answers (pair_or None name.now (given_changed_end before.now after.now) (W.words words.now) next) result }
+    ensures pair { Answers
+        (pair_or None name.now (given_changed_end before.now after.now) (W.words words.now) next) result }
     ensures next { IfOk result (λ t. next ≤ t.next) }
     ensures described { IfOk result (λ t. IfSome t.value (IsChangedEnd before.now after.now)) }
 {

@@ -90,6 +90,9 @@ pub fn any_in_runs_on(
     }
 }
 
+// How many later rules are passed over at most, so that a question doesn't look at all of them each time it is asked.
+const MOST_PASSED: u8 = 64;
+
 /// The body of headers that none of the rules from this number on allows, all of which begin after the port of
 /// the low corner. It ends before the first port of the first one that could allow a header, if one comes to that port.
 pub fn before_next(
@@ -107,12 +110,14 @@ pub fn before_next(
     requires later { BeginAfter rules.now begun (header_at i.now (low_of i.now.part)).q }
     ensures { IsLeftWith lists.now members.now dir rules.now (take begun rules.now) i.now result }
 {
+    let mut passed = 0u8;
     for rule in &rules[begun..] {
         let before = begins_on(i, rule.q_from).body;
         // Where no header comes to a rule's first port, none comes to that of a later one.
-        if before == i.part || could_allow(lists, members, rule, dir, i) {
+        if before == i.part || passed == MOST_PASSED || could_allow(lists, members, rule, dir, i) {
             return before;
         }
+        passed = passed.saturating_add(1);
     }
     i.part
 }
