@@ -1,5 +1,5 @@
 // The words of a question for what a change opens and closes.
-ghost use Rattle.std.specs.Prelude.{◌≡◌, ◌≤◌, IfOk, IfSome, IsTrue, None, codes, length, map, string_bytes};
+ghost use Rattle.std.specs.Prelude.{◌≡◌, ◌≤◌, ◌∷◌, [], IfOk, IfSome, IsTrue, None, codes, length, map, string_bytes};
 ghost use Rattle.vpc_model.specs.Sound.{is_end};
 ghost use Rattle.query_words.specs.ChangeQuery.{AreChangedEnds, IsChangedEnd, before_of, change_query_of, change_sourced, changed_end_of, end_in, given_changed_end, has_source, in_either, internet_in_both, named_end, primary_in, without_address};
 ghost use Rattle.query_words.specs.Pairs.{IsSide, pair_or};
@@ -10,7 +10,7 @@ use crate::QueryRefusal;
 use crate::ends::{end_at, interface_at};
 use crate::pairs::{Taken, has_pair};
 use crate::reaches::{ReachPairs, apart, read_reach_pairs};
-use crate::words::{CommandWords, NumberedWords};
+use crate::words::{CommandWords, LineWords, NumberedWords};
 use reference_check::Network;
 use std::alloc::Global;
 use vpc_model::End;
@@ -198,6 +198,29 @@ fn change_sourced(
 
 // ---- the query
 
+fn read_numbered<W: NumberedWords>(
+    alloc: Global,
+    before: &Network,
+    after: &Network,
+    words: &W,
+) -> Result<ChangeQuery, QueryRefusal>
+    requires { 3 ≤ length (W.words words.now) }
+    ensures answer { Answers (change_query_of before.now after.now (W.words words.now)) result }
+    ensures taken { IfOk result (λ query. AreReachPairs query.pairs) }
+    ensures described { IfOk result (AreChangedEnds before.now after.now) }
+{
+    let start = read_changed_end_pair(alloc, before, after, words, b"from", 4)?;
+    let goal = read_changed_end_pair(alloc, before, after, words, b"to", start.next)?;
+    apart(before_of(start.value), before_of(goal.value))?;
+    let pairs = read_reach_pairs(words, goal.next)?;
+    change_sourced(alloc, before, after, start.value, pairs.src)?;
+    Ok(ChangeQuery {
+        start: start.value,
+        goal: goal.value,
+        pairs,
+    })
+}
+
 /// The question that the words of `diff BEFORE AFTER` give, with any of the pairs of `reach` behind them. An end is named by
 /// its id, and may be described in one of the networks alone.
 pub fn read_change_query(
@@ -211,15 +234,30 @@ pub fn read_change_query(
     ensures taken { IfOk result (λ query. AreReachPairs query.pairs) }
     ensures described { IfOk result (AreChangedEnds before.now after.now) }
 {
-    let words = &CommandWords(words);
-    let start = read_changed_end_pair(alloc, before, after, words, b"from", 4)?;
-    let goal = read_changed_end_pair(alloc, before, after, words, b"to", start.next)?;
-    apart(before_of(start.value), before_of(goal.value))?;
-    let pairs = read_reach_pairs(words, goal.next)?;
-    change_sourced(alloc, before, after, start.value, pairs.src)?;
-    Ok(ChangeQuery {
-        start: start.value,
-        goal: goal.value,
-        pairs,
-    })
+    read_numbered(alloc, before, after, &CommandWords(words))
+}
+
+/// The question that the words of a line give, which are those of `diff` after its files. The line's first word, whatever it
+/// is, stands where the second file does: words are counted as if the name and a file came before it.
+pub fn read_line_change_query(
+    alloc: Global,
+    before: &Network,
+    after: &Network,
+    words: &[&[u8]],
+) -> Result<ChangeQuery, QueryRefusal>
+    requires { 1 ≤ length words.now }
+    ensures answer { Answers (change_query_of before.now after.now
+        (codes "diff" ∷ [] ∷ map (λ w. w.now) words.now)) result }
+    ensures taken { IfOk result (λ query. AreReachPairs query.pairs) }
+    ensures described { IfOk result (AreChangedEnds before.now after.now) }
+{
+    read_numbered(
+        alloc,
+        before,
+        after,
+        &LineWords {
+            name: b"diff",
+            words,
+        },
+    )
 }

@@ -18,12 +18,12 @@ mod unbounded;
 mod values;
 mod words;
 
-pub use changes::{ChangeQuery, ChangedEnd, read_change_query};
+pub use changes::{ChangeQuery, ChangedEnd, read_change_query, read_line_change_query};
 pub use events::{EventFault, read_events};
 pub use lines::{first_words, lines_of};
 pub use packets::read_packet;
 pub use queries::{Query, read_line_query, read_query};
-pub use reaches::{ReachPairs, ReachQuery, read_reach_query};
+pub use reaches::{ReachPairs, ReachQuery, read_line_reach_query, read_reach_query};
 pub use refusal::QueryRefusal;
 pub use unbounded::read_unbounded_query;
 pub use words::word;

@@ -1,5 +1,5 @@
 // The words of a question for all that gets through.
-ghost use Rattle.std.specs.Prelude.{◌≡◌, ◌≤◌, IfOk, IfSome, IsTrue, None, codes, length, map, string_bytes};
+ghost use Rattle.std.specs.Prelude.{◌≡◌, ◌≤◌, ◌∷◌, [], IfOk, IfSome, IsTrue, None, codes, length, map, string_bytes};
 ghost use Rattle.vpc_model.specs.Sound.{is_end};
 ghost use Rattle.query_words.specs.Pairs.{IsSide, pair_or};
 ghost use Rattle.query_words.specs.ReachQuery.{AreGivenEnds, AreReachPairs, apart, given_end, given_ports, may_have_ports, ports_of, protos_of, reach_pairs_of, reach_query_of, read_given_ports, read_given_proto, sourced};
@@ -10,7 +10,7 @@ use crate::ends::read_end;
 use crate::pairs::{Taken, has_pair, no_more, read_max_pair, read_side_pair};
 use crate::sides::src_of;
 use crate::values::read_ports;
-use crate::words::{CommandWords, NumberedWords, has_ports, port_limit, read_proto};
+use crate::words::{CommandWords, LineWords, NumberedWords, has_ports, port_limit, read_proto};
 use reference_check::Network;
 use std::alloc::Global;
 use vpc_model::End;
@@ -214,6 +214,28 @@ fn sourced(
     }
 }
 
+fn read_numbered<W: NumberedWords>(
+    alloc: Global,
+    n: &Network,
+    words: &W,
+) -> Result<ReachQuery, QueryRefusal>
+    requires { 2 ≤ length (W.words words.now) }
+    ensures answer { Answers (reach_query_of n.now (W.words words.now)) result }
+    ensures taken { IfOk result (λ query. AreReachPairs query.pairs) }
+    ensures described { IfOk result (AreGivenEnds n.now) }
+{
+    let start = read_end_pair(alloc, n, words, b"from", 3)?;
+    let goal = read_end_pair(alloc, n, words, b"to", start.next)?;
+    apart(start.value, goal.value)?;
+    let pairs = read_reach_pairs(words, goal.next)?;
+    sourced(alloc, n, start.value, pairs.src)?;
+    Ok(ReachQuery {
+        start: start.value,
+        goal: goal.value,
+        pairs,
+    })
+}
+
 /// The question that the words of `reach FILE` give, with any of the pairs `from END`, `to END`, `proto PROTO`, `src PREFIX`,
 /// `dst PREFIX`, `sport A-B`, `port A-B` and `max N` behind them, in this order. A word that is left alone at the end is
 /// refused, as any other that isn't a pair's name.
@@ -227,15 +249,27 @@ pub fn read_reach_query(
     ensures taken { IfOk result (λ query. AreReachPairs query.pairs) }
     ensures described { IfOk result (AreGivenEnds n.now) }
 {
-    let words = &CommandWords(words);
-    let start = read_end_pair(alloc, n, words, b"from", 3)?;
-    let goal = read_end_pair(alloc, n, words, b"to", start.next)?;
-    apart(start.value, goal.value)?;
-    let pairs = read_reach_pairs(words, goal.next)?;
-    sourced(alloc, n, start.value, pairs.src)?;
-    Ok(ReachQuery {
-        start: start.value,
-        goal: goal.value,
-        pairs,
-    })
+    read_numbered(alloc, n, &CommandWords(words))
+}
+
+/// The question that the words of a line give, which are those of `reach` after its file: the same grammar, with words
+/// counted as if the name and a file came before them.
+pub fn read_line_reach_query(
+    alloc: Global,
+    n: &Network,
+    words: &[&[u8]],
+) -> Result<ReachQuery, QueryRefusal>
+    ensures answer { Answers
+        (reach_query_of n.now (codes "reach" ∷ [] ∷ map (λ w. w.now) words.now)) result }
+    ensures taken { IfOk result (λ query. AreReachPairs query.pairs) }
+    ensures described { IfOk result (AreGivenEnds n.now) }
+{
+    read_numbered(
+        alloc,
+        n,
+        &LineWords {
+            name: b"reach",
+            words,
+        },
+    )
 }
