@@ -17,7 +17,7 @@ use Rattle.box_survey.proofs.Meeting.{held_if_meets, meets_if_held}
 use Rattle.box_survey.proofs.Numbers.{number_below}
 use Rattle.box_survey.proofs.Listed.{differ, held_at}
 
--- ---- a cell that holds the whole and all boxes
+-- ---- a cell that holds all boxes and all headers that matter
 
 some_within : (o : Option Box5) (hull : Box5) (h : Header) → ((b : Box5) → o ≡ Some b → IsWithin b hull) → IsSomeAnd o (λ b. holds h b ≡ true) → holds h hull ≡ true
 some_within None hull h within held = absurd held
@@ -27,12 +27,12 @@ held_in_hull : (boxes : List Box5) (hull : Box5) (i : ℕ) (h : Header) → All 
 held_in_hull boxes hull i h all held =
     some_within (slice_get boxes i) hull h (λ b e. subst (λ x. IsWithin x hull) (get_or_from_slice_get boxes i b b e) (all i b (number_below boxes i h held))) held
 
-pub findings_of_hull : (whole : Box5) (boxes : List Box5) (hull : Box5) (old new : Findings) → IsWithin whole hull → All (λ b. IsWithin b hull) boxes
-    → IsSurveyed whole boxes hull old new → AreFindings whole boxes new
-findings_of_hull whole boxes hull old new within all surveyed = record {
+pub findings_of_hull : (matters : Header → Type 0) (boxes : List Box5) (whole hull : Box5) (old new : Findings) → ((h : Header) → matters h → holds h whole ≡ true) → IsWithin whole hull → All (λ b. IsWithin b hull) boxes
+    → IsSurveyed matters boxes hull old new → AreFindings matters boxes new
+findings_of_hull matters boxes whole hull old new held within all surveyed = record {
   there = surveyed.there;
   overlaps = λ a b lt share. surveyed.least.overlaps share.header a b (held_in_hull boxes hull a share.header all share.first) lt share.first share.second;
-  uncovered = λ h out. surveyed.least.uncovered h (holds_whole h whole hull within out.inside) out;
+  uncovered = λ h out. surveyed.least.uncovered h (holds_whole h whole hull within (held h out.matter)) out;
 }
 
 -- ---- the next number
@@ -78,8 +78,8 @@ some_before boxes i j some none le =
 
 -- ---- the answer
 
-pub survey_overlap : (whole : Box5) (boxes : List Box5) (found : Findings) (i j : ℕ) → AreFindings whole boxes found → found.least ≡ Some i → IsNextSharing boxes i j → IsLeastOverlap boxes i j
-survey_overlap whole boxes found i j all is next = record {
+pub survey_overlap : (matters : Header → Type 0) (boxes : List Box5) (found : Findings) (i j : ℕ) → AreFindings matters boxes found → found.least ≡ Some i → IsNextSharing boxes i j → IsLeastOverlap boxes i j
+survey_overlap matters boxes found i j all is next = record {
   below = next.after;
   share = next.share;
   least = λ a b lt share.
@@ -99,36 +99,36 @@ none_some : (o : Option ℕ) → o ≡ None → IsSome o → ⊥
 none_some None e s = cc
 none_some (Some k) e s = cc
 
-pub disjoint_if_none : (whole : Box5) (boxes : List Box5) (found : Findings) → AreFindings whole boxes found → found.least ≡ None → AllPairs AreDisjoint boxes
-disjoint_if_none whole boxes found all is i j d lt within h s t =
+pub disjoint_if_none : (matters : Header → Type 0) (boxes : List Box5) (found : Findings) → AreFindings matters boxes found → found.least ≡ None → AllPairs AreDisjoint boxes
+disjoint_if_none matters boxes found all is i j d lt within h s t =
     no_number found.least i is (all.overlaps i j lt (record { header = h; first = held_at boxes i d h (omega arith) s; second = held_at boxes j d h within t }))
 
 held_unless : (b : Bool) → (b ≡ false → ⊥) → b ≡ true
 held_unless true h = refl
 held_unless false h = absurd (h refl)
 
-pub first_uncovered : (whole : Box5) (boxes : List Box5) (found : Findings) (h : Header) → AreFindings whole boxes found → found.least ≡ None → found.outside ≡ Some h → IsFirstUncovered whole boxes h
-first_uncovered whole boxes found h all none is =
+pub first_uncovered : (matters : Header → Type 0) (boxes : List Box5) (found : Findings) (h : Header) → AreFindings matters boxes found → found.least ≡ None → found.outside ≡ Some h → IsFirstUncovered matters boxes h
+first_uncovered matters boxes found h all none is =
     let here = there found.outside is all.there.outside in
     record {
-      inside = here.inside;
+      matter = here.matter;
       outside = here.outside;
-      first = λ k inside before.
+      first = λ k matter before.
           held_unless (list_any (holds k) boxes)
-          (λ out. ⊎_elim (λ s. none_some found.least none s) (λ s. upto found.outside is k s before) (all.uncovered k (record { inside = inside; outside = out })));
+          (λ out. ⊎_elim (λ s. none_some found.least none s) (λ s. upto found.outside is k s before) (all.uncovered k (record { matter = matter; outside = out })));
     }
   where
-    there : (o : Option Header) → o ≡ Some h → IfSome o (IsUncovered whole boxes) → IsUncovered whole boxes h
+    there : (o : Option Header) → o ≡ Some h → IfSome o (IsUncovered matters boxes) → IsUncovered matters boxes h
     there None e s = absurd (cc)
-    there (Some k) e s = let f : k ≡ h = cc in subst (IsUncovered whole boxes) f s
+    there (Some k) e s = let f : k ≡ h = cc in subst (IsUncovered matters boxes) f s
 
     upto : (o : Option Header) → o ≡ Some h → (k : Header) → IsSomeAnd o (λ g. ¬ IsBefore k g) → IsBefore k h → ⊥
     upto None e k s before = s
     upto (Some g) e k s before = let f : g ≡ h = cc in s (subst (λ x. IsBefore k x) (sym f) before)
 
-pub hold_all : (whole : Box5) (boxes : List Box5) (found : Findings) → AreFindings whole boxes found → found.least ≡ None → found.outside ≡ None → HoldAll whole boxes
-hold_all whole boxes found all none nowhere h inside =
-    held_unless (list_any (holds h) boxes) (λ out. ⊎_elim (λ s. none_some found.least none s) (λ s. no_header found.outside nowhere s) (all.uncovered h (record { inside = inside; outside = out })))
+pub hold_all : (matters : Header → Type 0) (boxes : List Box5) (found : Findings) → AreFindings matters boxes found → found.least ≡ None → found.outside ≡ None → HoldAll matters boxes
+hold_all matters boxes found all none nowhere h matter =
+    held_unless (list_any (holds h) boxes) (λ out. ⊎_elim (λ s. none_some found.least none s) (λ s. no_header found.outside nowhere s) (all.uncovered h (record { matter = matter; outside = out })))
   where
     no_header : (o : Option Header) → o ≡ None → IsSomeAnd o (λ g. ¬ IsBefore h g) → ⊥
     no_header None e s = s

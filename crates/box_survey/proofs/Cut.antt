@@ -3,7 +3,7 @@ use Rattle.std.proofs.Common.{ℕ, ◌≤◌, ◌<◌, ◌-◌, inl, inr, arith,
 use Rattle.std.proofs.lemmas.Bool.{cases_lt}
 use Rattle.vpc_base.specs.declared.headers.Header.{Header}
 use Rattle.header_boxes.specs.declared.boxes.Box5.{Box5}
-use Rattle.header_boxes.specs.Boxes.{width}
+use Rattle.header_boxes.specs.Boxes.{IsValid, width}
 use Rattle.header_boxes.proofs.Held.{IsIn, in_from_holds, holds_from_in}
 use Rattle.box_survey.specs.Cells.{AreHalves, extent_of}
 use Rattle.box_survey.specs.Cuts.{IsCutOf, range_on, with_range}
@@ -56,6 +56,14 @@ narrower side.Dst b r lt = omega arith
 narrower side.P b r lt = omega arith
 narrower side.Q b r lt = omega arith
 
+-- a range that isn't empty keeps a box valid
+valid_with : (s : Side) (b : Box5) (r : ℕ × ℕ) → r.0 ≤ r.1 → IsValid b → IsValid (with_range s b r)
+valid_with side.Proto b r le v = record { proto = le; src = v.src; dst = v.dst; p = v.p; q = v.q }
+valid_with side.Src b r le v = record { proto = v.proto; src = le; dst = v.dst; p = v.p; q = v.q }
+valid_with side.Dst b r le v = record { proto = v.proto; src = v.src; dst = le; p = v.p; q = v.q }
+valid_with side.P b r le v = record { proto = v.proto; src = v.src; dst = v.dst; p = le; q = v.q }
+valid_with side.Q b r le v = record { proto = v.proto; src = v.src; dst = v.dst; p = v.p; q = le }
+
 abbrev low_of_cut : Box5 → Cut → ℕ × ℕ
 low_of_cut cell cut = ((range_on cut.side cell).0, cut.at - 1)
 
@@ -76,4 +84,6 @@ halves_by_cut cell cut inside = record {
       (cases_lt (field_on cut.side h) cut.at);
   low_narrower = narrower cut.side cell (low_of_cut cell cut) (omega arith);
   high_narrower = narrower cut.side cell (high_of_cut cell cut) (omega arith);
+  low_valid = valid_with cut.side cell (low_of_cut cell cut) (omega arith);
+  high_valid = valid_with cut.side cell (high_of_cut cell cut) (omega arith);
 }

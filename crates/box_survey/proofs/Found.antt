@@ -9,15 +9,13 @@ use Rattle.std.specs.Option.{IfSome, IsSome, IsSomeAnd, MatchOption, is_some}
 use Rattle.vpc_base.specs.Header.{IsBefore}
 use Rattle.vpc_base.specs.declared.headers.Header.{Header}
 use Rattle.header_boxes.specs.declared.boxes.Box5.{Box5}
-use Rattle.header_boxes.specs.Boxes.{holds, IsValid, low_of, AreDisjoint}
-use Rattle.header_boxes.proofs.Held.{holds_low, low_under}
-use Rattle.header_boxes.proofs.Order.{not_before_if_under}
-use Rattle.box_survey.specs.Survey.{HoldsAt}
+use Rattle.header_boxes.specs.Boxes.{holds}
+use Rattle.box_survey.specs.Survey.{HoldsAt, IsFirstIn}
 use Rattle.box_survey.specs.Cells.{AreHalves, AreMeeting, HoldsCell, meets_at}
 use Rattle.box_survey.specs.Findings.{AreThere, IsSurveyed, IsUncovered, OverlapsLater}
 use Rattle.box_survey.specs.declared.sides.Cut.{Cut}
 use Rattle.box_survey.specs.declared.findings.Findings.{Findings}
-use Rattle.box_survey.proofs.Meeting.{both, and_first, and_second, held_if_meets, meets_if_held}
+use Rattle.box_survey.proofs.Meeting.{both, held_if_meets, meets_if_held}
 use Rattle.box_survey.proofs.Numbers.{first-held, first-least}
 use Rattle.box_survey.proofs.Order.{not_before_trans}
 use Rattle.box_survey.proofs.Listed.{any_holds, differ, none_holds}
@@ -25,9 +23,9 @@ use Rattle.box_survey.proofs.Kept.{least_at, least_itself, least_some, no_greate
 
 -- ---- a cell in two halves
 
-pub surveyed_halves : (whole : Box5) (boxes : List Box5) (cell low high : Box5) (old now new : Findings) → AreHalves cell low high
-    → IsSurveyed whole boxes low old now → IsSurveyed whole boxes high now new → IsSurveyed whole boxes cell old new
-surveyed_halves whole boxes cell low high old now new halves f g = record {
+pub surveyed_halves : (matters : Header → Type 0) (boxes : List Box5) (cell low high : Box5) (old now new : Findings) → AreHalves cell low high
+    → IsSurveyed matters boxes low old now → IsSurveyed matters boxes high now new → IsSurveyed matters boxes cell old new
+surveyed_halves matters boxes cell low high old now new halves f g = record {
   there = g.there;
   kept = no_greater_through old now new f.kept g.kept;
   least = record {
@@ -49,57 +47,51 @@ surveyed_halves whole boxes cell low high old now new halves f g = record {
 none_held : (boxes : List Box5) (cell : Box5) (i : ℕ) (h : Header) → AreMeeting boxes cell [] → holds h cell ≡ true → HoldsAt boxes i h → ⊥
 none_held boxes cell i h m inside held = let there = m.candidates.all i (meets_if_held boxes cell i h inside held) in omega (arith, there.1)
 
--- the cell has no header of the whole
-pub surveyed_beside : (whole : Box5) (boxes : List Box5) (cell : Box5) (found : Findings) → AreMeeting boxes cell [] → AreThere whole boxes found → AreDisjoint whole cell
-    → IsSurveyed whole boxes cell found found
-surveyed_beside whole boxes cell found m there apart = record {
+-- none of the cell's headers matters and comes before the one that is found
+pub surveyed_settled : (matters : Header → Type 0) (boxes : List Box5) (cell : Box5) (found : Findings) → AreMeeting boxes cell [] → AreThere matters boxes found
+    → ((h : Header) → holds h cell ≡ true → matters h → IsSomeAnd found.outside (λ k. ¬ IsBefore h k)) → IsSurveyed matters boxes cell found found
+surveyed_settled matters boxes cell found m there none = record {
   there = there;
   kept = no_greater_itself found;
   least = record {
     overlaps = λ h a b inside lt first second. absurd (none_held boxes cell a h m inside first);
-    uncovered = λ h inside out. absurd (apart h out.inside inside);
+    uncovered = λ h inside out. inr (none h inside out.matter);
   };
 }
 
-outside_there : (whole : Box5) (boxes : List Box5) (h : Header) (o n : Option Header) → IfSome o (IsUncovered whole boxes) → IsUncovered whole boxes h
-    → IsSomeAnd n (λ k. (¬ IsBefore h k) × ((k ≡ h) ⊎ (o ≡ Some k))) → IfSome n (IsUncovered whole boxes)
-outside_there whole boxes h o None there here added = tt
-outside_there whole boxes h o (Some k) there here added =
-    ⊎_elim (λ e. subst (IsUncovered whole boxes) (sym e) here) (λ e. let at : IfSome (Some k) (IsUncovered whole boxes) = subst (λ v. IfSome v (IsUncovered whole boxes)) e there in at) added.1
+outside_there : (matters : Header → Type 0) (boxes : List Box5) (h : Header) (o n : Option Header) → IfSome o (IsUncovered matters boxes) → IsUncovered matters boxes h
+    → IsSomeAnd n (λ k. (¬ IsBefore h k) × ((k ≡ h) ⊎ (o ≡ Some k))) → IfSome n (IsUncovered matters boxes)
+outside_there matters boxes h o None there here added = tt
+outside_there matters boxes h o (Some k) there here added =
+    ⊎_elim (λ e. subst (IsUncovered matters boxes) (sym e) here) (λ e. let at : IfSome (Some k) (IsUncovered matters boxes) = subst (λ v. IfSome v (IsUncovered matters boxes)) e there in at) added.1
 
--- the cell's headers of the whole are those of a gap
-pub surveyed_gap : (whole : Box5) (boxes : List Box5) (cell gap : Box5) (old new : Findings) → AreMeeting boxes cell [] → AreThere whole boxes old → IsValid gap
-    → ((h : Header) → holds h gap ≡ (holds h whole && holds h cell)) → new.least ≡ old.least
-    → IsSomeAnd new.outside (λ k. (¬ IsBefore (low_of gap) k) × ((k ≡ low_of gap) ⊎ (old.outside ≡ Some k)))
+-- this is the first of the cell's headers that matters
+pub surveyed_gap : (matters : Header → Type 0) (boxes : List Box5) (cell : Box5) (first : Header) (old new : Findings) → AreMeeting boxes cell [] → AreThere matters boxes old
+    → IsFirstIn matters cell first → new.least ≡ old.least
+    → IsSomeAnd new.outside (λ k. (¬ IsBefore first k) × ((k ≡ first) ⊎ (old.outside ≡ Some k)))
     → IfSome old.outside (λ g. IsSomeAnd new.outside (λ k. ¬ IsBefore g k))
-    → IsSurveyed whole boxes cell old new
-surveyed_gap whole boxes cell gap old new m there valid common same added kept = record {
+    → IsSurveyed matters boxes cell old new
+surveyed_gap matters boxes cell first old new m there is same added kept = record {
   there = record {
     least = subst (λ o. IfSome o (OverlapsLater boxes)) (sym same) there.least;
-    outside = outside_there whole boxes (low_of gap) old.outside new.outside there.outside low_uncovered added;
+    outside = outside_there matters boxes first old.outside new.outside there.outside first_uncovered added;
   };
   kept = record {
     least = subst (λ o. IfSome old.least (λ i. IsSomeAnd o (λ k. k ≤ i))) (sym same) (least_itself old.least);
     outside = kept;
   };
   least = record {
-    overlaps = λ h a b inside lt first second. absurd (none_held boxes cell a h m inside first);
-    uncovered = λ h inside uncovered. inr (upto new.outside h (common h ∙ both (holds h whole) (holds h cell) uncovered.inside inside) added);
+    overlaps = λ h a b inside lt one second. absurd (none_held boxes cell a h m inside one);
+    uncovered = λ h inside uncovered. inr (upto new.outside h (λ before. is.first h inside before uncovered.matter) added);
   };
 }
   where
-    low_held : (holds (low_of gap) whole && holds (low_of gap) cell) ≡ true
-    low_held = sym (common (low_of gap)) ∙ holds_low gap valid
+    first_uncovered : IsUncovered matters boxes first
+    first_uncovered = record { matter = is.matter; outside = none_holds boxes first (λ i held. none_held boxes cell i first m is.inside held) }
 
-    low_uncovered : IsUncovered whole boxes (low_of gap)
-    low_uncovered = record {
-      inside = and_first (holds (low_of gap) whole) (holds (low_of gap) cell) low_held;
-      outside = none_holds boxes (low_of gap) (λ i held. none_held boxes cell i (low_of gap) m (and_second (holds (low_of gap) whole) (holds (low_of gap) cell) low_held) held);
-    }
-
-    upto : (n : Option Header) (h : Header) → holds h gap ≡ true → IsSomeAnd n (λ k. (¬ IsBefore (low_of gap) k) × ((k ≡ low_of gap) ⊎ (old.outside ≡ Some k))) → IsSomeAnd n (λ k. ¬ IsBefore h k)
-    upto None h held s = absurd s
-    upto (Some k) h held s = not_before_trans h (low_of gap) k (not_before_if_under (low_of gap) h (low_under h gap held)) s.0
+    upto : (n : Option Header) (h : Header) → ¬ (IsBefore h first) → IsSomeAnd n (λ k. (¬ IsBefore first k) × ((k ≡ first) ⊎ (old.outside ≡ Some k))) → IsSomeAnd n (λ k. ¬ IsBefore h k)
+    upto None h after s = absurd s
+    upto (Some k) h after s = not_before_trans h first k after s.0
 
 -- ---- a cell whose overlaps are no news
 
@@ -111,9 +103,9 @@ some_if : (o : Option ℕ) (a : ℕ) → IsSomeAnd o (λ k. k ≤ a) → IsSome 
 some_if None a s = absurd s
 some_if (Some k) a s = refl
 
-pub surveyed_before : (whole : Box5) (boxes : List Box5) (cell : Box5) (numbers : List ℕ) (first : ℕ) (found : Findings) → AreMeeting boxes cell numbers
-    → slice_get numbers 0 ≡ Some first → AreThere whole boxes found → IsSomeAnd found.least (λ k. k ≤ first) → IsSurveyed whole boxes cell found found
-surveyed_before whole boxes cell numbers first found m head there upto = record {
+pub surveyed_before : (matters : Header → Type 0) (boxes : List Box5) (cell : Box5) (numbers : List ℕ) (first : ℕ) (found : Findings) → AreMeeting boxes cell numbers
+    → slice_get numbers 0 ≡ Some first → AreThere matters boxes found → IsSomeAnd found.least (λ k. k ≤ first) → IsSurveyed matters boxes cell found found
+surveyed_before matters boxes cell numbers first found m head there upto = record {
   there = there;
   kept = no_greater_itself found;
   least = record {
@@ -125,9 +117,9 @@ surveyed_before whole boxes cell numbers first found m head there upto = record 
 -- ---- a cell that a box holds
 
 -- by the only box
-pub surveyed_covered : (whole : Box5) (boxes : List Box5) (cell : Box5) (numbers : List ℕ) (found : Findings) → AreMeeting boxes cell numbers → AreThere whole boxes found
-    → Any (HoldsCell boxes cell) numbers → length numbers ≤ 1 → IsSurveyed whole boxes cell found found
-surveyed_covered whole boxes cell numbers found m there (k, i, lt, e, holder) few = record {
+pub surveyed_covered : (matters : Header → Type 0) (boxes : List Box5) (cell : Box5) (numbers : List ℕ) (found : Findings) → AreMeeting boxes cell numbers → AreThere matters boxes found
+    → Any (HoldsCell boxes cell) numbers → length numbers ≤ 1 → IsSurveyed matters boxes cell found found
+surveyed_covered matters boxes cell numbers found m there (k, i, lt, e, holder) few = record {
   there = there;
   kept = no_greater_itself found;
   least = record {
@@ -151,10 +143,10 @@ above None first not_upto = tt
 above (Some k) first not_upto = ⊎_elim (λ lt. omega arith) (λ ge. absurd (not_upto (omega arith))) (cases_lt first k)
 
 -- one of several: the first number overlaps another one
-pub surveyed_overlap : (whole : Box5) (boxes : List Box5) (cell : Box5) (numbers : List ℕ) (first : ℕ) (found : Findings) → AreMeeting boxes cell numbers
-    → slice_get numbers 0 ≡ Some first → AreThere whole boxes found → (IsSomeAnd found.least (λ k. k ≤ first) → ⊥) → Any (HoldsCell boxes cell) numbers → 1 < length numbers
-    → IsSurveyed whole boxes cell found (record { least = Some first; outside = found.outside })
-surveyed_overlap whole boxes cell numbers first found m head there not_upto (k, i, lt, e, holder) several = record {
+pub surveyed_overlap : (matters : Header → Type 0) (boxes : List Box5) (cell : Box5) (numbers : List ℕ) (first : ℕ) (found : Findings) → AreMeeting boxes cell numbers
+    → slice_get numbers 0 ≡ Some first → AreThere matters boxes found → (IsSomeAnd found.least (λ k. k ≤ first) → ⊥) → Any (HoldsCell boxes cell) numbers → 1 < length numbers
+    → IsSurveyed matters boxes cell found (record { least = Some first; outside = found.outside })
+surveyed_overlap matters boxes cell numbers first found m head there not_upto (k, i, lt, e, holder) several = record {
   there = record { least = ⊎_elim later_holder (λ ge. same_holder (omega (arith, least_first))) (cases_lt first i); outside = there.outside };
   kept = record { least = above found.least first not_upto; outside = outside_itself found.outside };
   least = record {

@@ -1,5 +1,6 @@
 pub mod Order
 pub mod Meeting
+pub mod InGaps
 pub mod Numbers
 pub mod Listed
 pub mod Kept

@@ -10,8 +10,7 @@ use Rattle.std.specs.Option.{IsSomeAnd}
 use Rattle.std.specs.List.Sorted.{IsStrictlyIncreasing}
 use Rattle.vpc_base.specs.declared.headers.Header.{Header}
 use Rattle.header_boxes.specs.declared.boxes.Box5.{Box5}
-use Rattle.header_boxes.specs.Boxes.{IsValid, holds}
-use Rattle.header_boxes.proofs.Held.{valid_if_holds}
+use Rattle.header_boxes.specs.Boxes.{holds}
 use Rattle.box_survey.specs.Survey.{HoldsAt}
 use Rattle.box_survey.specs.Cells.{AreCandidates, AreMeeting, meets_at}
 use Rattle.box_survey.proofs.Meeting.{held_if_meets, meets_if_held}
@@ -79,9 +78,3 @@ first-least xs first x up head (k, lt, e) =
 pub first-held : (boxes : List Box5) (cell : Box5) (xs : List ℕ) (first i : ℕ) (h : Header) → AreMeeting boxes cell xs → slice_get xs 0 ≡ Some first → holds h cell ≡ true → HoldsAt boxes i h → first ≤ i
 first-held boxes cell xs first i h m head inside held =
     first-least xs first i m.candidates.ascending head (m.candidates.all i (meets_if_held boxes cell i h inside held))
-
--- a cell in which some box has a header is valid
-pub valid_if_first_meets : (boxes : List Box5) (cell : Box5) (xs : List ℕ) (first : ℕ) → AreMeeting boxes cell xs → slice_get xs 0 ≡ Some first → IsValid cell
-valid_if_first_meets boxes cell xs first m head =
-    let s = held_if_meets boxes cell (get_or xs 0 0) (m.each 0 0 (slice_get_within xs 0 first head)) in
-    valid_if_holds s.header cell s.inside

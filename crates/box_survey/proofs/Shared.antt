@@ -13,7 +13,8 @@ use Rattle.header_boxes.specs.declared.boxes.Box5.{Box5}
 use Rattle.vpc_base.specs.declared.headers.Header.{Header}
 use Rattle.vpc_base.specs.Header.{IsBefore}
 use Rattle.box_survey.specs.Cells.{AreMeeting, meets_at}
-use Rattle.box_survey.specs.Findings.{AreThere, IsUncovered, IsFirstSharing, IsPast, IsSurveyed, OverlapsLater}
+use Rattle.box_survey.specs.Findings.{AreThere, IsCompared, IsUncovered, IsFirstSharing, IsPast, IsSurveyed, OverlapsLater}
+use Rattle.box_survey.specs.Findings as findings
 use Rattle.box_survey.specs.Survey.{HoldsAt, ShareAt}
 use Rattle.box_survey.specs.declared.findings.Findings.{Findings}
 use Rattle.box_survey.proofs.Kept.{no_greater_itself, outside_itself}
@@ -106,9 +107,9 @@ overlaps_of : (boxes : List Box5) (cell : Box5) (numbers : List ℕ) (found : Op
 overlaps_of boxes cell numbers found m first h a b inside lt one other =
     first.least a b lt (m.candidates.all a (meets_if_held boxes cell a h inside one)) (m.candidates.all b (meets_if_held boxes cell b h inside other)) (record { header = h; first = one; second = other })
 
-pub surveyed_apart : (whole : Box5) (boxes : List Box5) (cell : Box5) (numbers : List ℕ) (found : Findings) → AreMeeting boxes cell numbers → AreThere whole boxes found → IsPast found cell
-    → IsFirstSharing boxes numbers None → IsSurveyed whole boxes cell found found
-surveyed_apart whole boxes cell numbers found m there past none = record {
+surveyed_apart : (matters : Header → Type 0) (boxes : List Box5) (cell : Box5) (numbers : List ℕ) (found : Findings) → AreMeeting boxes cell numbers → AreThere matters boxes found → IsPast found cell
+    → IsFirstSharing boxes numbers None → IsSurveyed matters boxes cell found found
+surveyed_apart matters boxes cell numbers found m there past none = record {
   there = there;
   kept = no_greater_itself found;
   least = record {
@@ -127,13 +128,13 @@ number_upto : (number a : ℕ) (o n : Option ℕ) → IsSomeAnd n (λ k. (k ≤ 
 number_upto number a o None added le = absurd added
 number_upto number a o (Some k) added le = omega (arith, added.0, le)
 
-pub surveyed_sharing : (whole : Box5) (boxes : List Box5) (cell : Box5) (numbers : List ℕ) (number : ℕ) (old new : Findings) → AreMeeting boxes cell numbers → AreThere whole boxes old → IsPast old cell
+surveyed_sharing : (matters : Header → Type 0) (boxes : List Box5) (cell : Box5) (numbers : List ℕ) (number : ℕ) (old new : Findings) → AreMeeting boxes cell numbers → AreThere matters boxes old → IsPast old cell
     → IsFirstSharing boxes numbers (Some number) → IsSomeAnd new.least (λ k. (k ≤ number) × ((k ≡ number) ⊎ (old.least ≡ Some k)))
-    → IfSome old.least (λ i. IsSomeAnd new.least (λ k. k ≤ i)) → new.outside ≡ old.outside → IsSurveyed whole boxes cell old new
-surveyed_sharing whole boxes cell numbers number old new m there past first added kept same = record {
+    → IfSome old.least (λ i. IsSomeAnd new.least (λ k. k ≤ i)) → new.outside ≡ old.outside → IsSurveyed matters boxes cell old new
+surveyed_sharing matters boxes cell numbers number old new m there past first added kept same = record {
   there = record {
     least = number_there boxes number old.least new.least there.least first.later added;
-    outside = subst (λ o. IfSome o (IsUncovered whole boxes)) (sym same) there.outside;
+    outside = subst (λ o. IfSome o (IsUncovered matters boxes)) (sym same) there.outside;
   };
   kept = record {
     least = kept;
@@ -144,3 +145,10 @@ surveyed_sharing whole boxes cell numbers number old new m there past first adde
     uncovered = λ h inside out. inr (subst (λ o. IsSomeAnd o (λ k. ¬ IsBefore h k)) (sym same) (past h inside));
   };
 }
+
+pub surveyed_compared : (matters : Header → Type 0) (boxes : List Box5) (cell : Box5) (numbers : List ℕ) (old new : Findings) → AreMeeting boxes cell numbers → AreThere matters boxes old → IsPast old cell
+    → IsCompared boxes numbers old new → IsSurveyed matters boxes cell old new
+surveyed_compared matters boxes cell numbers old new m there past (findings.apart none same) =
+    subst (IsSurveyed matters boxes cell old) (sym same) (surveyed_apart matters boxes cell numbers old m there past none)
+surveyed_compared matters boxes cell numbers old new m there past (findings.sharing number first added kept same) =
+    surveyed_sharing matters boxes cell numbers number old new m there past first added kept same

@@ -1,8 +1,8 @@
 -- A box that holds others.
-use Rattle.std.proofs.Common.{ℕ, ◌+◌, ◌<◌, List, arith, length, get_or, take}
+use Rattle.std.proofs.Common.{ℕ, ◌+◌, ◌<◌, ◌≤◌, List, arith, length, get_or, take}
 use Rattle.std.proofs.lemmas.List.Elements.{All-more, All-weaker}
 use Rattle.std.specs.List.{All}
-use Rattle.header_boxes.specs.Boxes.{IsRangeWithin, IsWithin}
+use Rattle.header_boxes.specs.Boxes.{IsRangeWithin, IsValid, IsWithin}
 use Rattle.header_boxes.specs.declared.boxes.Box5.{Box5}
 
 range_trans : (a b c : ℕ × ℕ) → IsRangeWithin a b → IsRangeWithin b c → IsRangeWithin a c
@@ -15,6 +15,19 @@ within_trans a b c ab bc = record {
   dst = range_trans a.dst b.dst c.dst ab.dst bc.dst;
   p = range_trans a.p b.p c.p ab.p bc.p;
   q = range_trans a.q b.q c.q ab.q bc.q;
+}
+
+valid_whole : (c w : ℕ × ℕ) → IsRangeWithin c w → w.0 ≤ w.1
+valid_whole c w within = omega (arith, within.begins, within.valid, within.ends)
+
+-- what holds a box is valid
+pub valid_if_holds_box : (part whole : Box5) → IsWithin part whole → IsValid whole
+valid_if_holds_box part whole within = record {
+  proto = valid_whole part.proto whole.proto within.proto;
+  src = valid_whole part.src whole.src within.src;
+  dst = valid_whole part.dst whole.dst within.dst;
+  p = valid_whole part.p whole.p within.p;
+  q = valid_whole part.q whole.q within.q;
 }
 
 -- a greater box holds what was held, and one more

@@ -2,7 +2,7 @@
 use Rattle.std.specs.Prelude.{◌≡◌, ◌<◌, ◌&&◌, ◌⊎◌, ◌+◌, All, Bool, Contains, List, None, Option, Some, false, max, min, nat_le, slice_get, true, ℕ}
 use Rattle.std.specs.List.Sorted.{IsStrictlyIncreasing}
 use Rattle.vpc_base.specs.declared.headers.Header.{Header}
-use Rattle.header_boxes.specs.Boxes.{holds, width}
+use Rattle.header_boxes.specs.Boxes.{IsValid, holds, width}
 use Rattle.header_boxes.specs.declared.boxes.Box5.{Box5}
 use Rattle.box_survey.specs.Survey.{HoldsAt}
 
@@ -49,6 +49,8 @@ pub record AreHalves (cell low high : Box5) : Type 0 where
   pub both : (h : Header) → holds h cell ≡ true → (holds h low ≡ true) ⊎ (holds h high ≡ true)
   pub low_narrower : extent_of low < extent_of cell
   pub high_narrower : extent_of high < extent_of cell
+  pub low_valid : IsValid cell → IsValid low
+  pub high_valid : IsValid cell → IsValid high
 
 -- the first range holds the second
 abbrev pub holds_range : ℕ × ℕ → ℕ × ℕ → Bool

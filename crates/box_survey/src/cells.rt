@@ -3,16 +3,18 @@ ghost use Rattle.std.specs.Prelude.{◌≡◌, true, [], IfOk, MatchOption, OnOk
 ghost use Rattle.box_survey.specs.Cells.{AreCandidates, AreMeeting, meets_at};
 ghost use Rattle.box_survey.specs.Cuts.{IsCutOf};
 ghost use Rattle.std.specs.List.Sorted.{IsStrictlyIncreasing};
-ghost use Rattle.header_boxes.specs.declared.boxes.Box5.{Box5 as Box};
-ghost use Rattle.box_survey.specs.Findings.{AreThere, IsPast, IsSurveyed};
+ghost use Rattle.header_boxes.specs.Boxes.{IsValid};
+ghost use Rattle.box_survey.specs.Findings.{AreThere, IsCompared, IsSurveyed};
 
 use crate::cuts::cut_of;
 use crate::findings::Findings;
+use crate::gaps::Gaps;
 use crate::numbered::meets_at;
 use crate::pairs::first_sharing;
 use crate::sides::{Cut, halves};
 use header_boxes::Box5;
 use std::alloc::{AllocError, Global};
+use vpc_base::NoMemory;
 
 // The candidates whose boxes share a header with the cell.
 fn meeting(
@@ -30,15 +32,26 @@ fn meeting(
         .collect(alloc)
 }
 
-// What is found of a cell in no box.
-fn find_gap(whole: &Box5, boxes: &[Box5], cell: &Box5, found: &mut Findings)
+// What is found of a cell in no box. Nothing is asked of one that begins after an uncovered header that was found.
+fn find_gap<G: Gaps>(
+    alloc: Global,
+    gaps: &G,
+    boxes: &[Box5],
+    cell: &Box5,
+    found: &mut Findings,
+) -> Result<(), NoMemory>
+    requires valid { IsValid cell.now }
     requires numbers { AreMeeting boxes.now cell.now [] }
-    requires there { AreThere whole.now boxes.now found.old }
-    ensures { IsSurveyed whole.now boxes.now cell.now found.old found.new }
+    requires there { AreThere (G.matters gaps.now) boxes.now found.old }
+    ensures { OnOk result (IsSurveyed (G.matters gaps.now) boxes.now cell.now found.old found.new) }
 {
-    if let Some(gap) = whole.meet(cell) {
-        found.add_uncovered(gap.low());
+    if found.is_past(cell) {
+        return Ok(());
     }
+    if let Some(h) = gaps.first_in(alloc, cell)? {
+        found.add_uncovered(h);
+    }
+    Ok(())
 }
 
 // So many boxes, or fewer, are compared with each other rather than cut, where no uncovered header matters: all pairs
@@ -48,8 +61,7 @@ const FEW: usize = 64;
 // What is found of a cell with few boxes, of which no uncovered header matters.
 fn compare(boxes: &[Box5], numbers: &[u32], found: &mut Findings)
     requires { IsStrictlyIncreasing numbers.now }
-    ensures { (whole cell : Box) → AreMeeting boxes.now cell numbers.now → AreThere whole boxes.now found.old → IsPast found.old cell
-        → IsSurveyed whole boxes.now cell found.old found.new }
+    ensures { IsCompared boxes.now numbers.now found.old found.new }
 {
     if let Some(number) = first_sharing(boxes, numbers) {
         found.add_overlap(number);
@@ -57,21 +69,22 @@ fn compare(boxes: &[Box5], numbers: &[u32], found: &mut Findings)
 }
 
 // What is found of a cell that needs no cut; of another one the cut.
-fn settle(
+fn settle<G: Gaps>(
     alloc: Global,
-    whole: &Box5,
+    gaps: &G,
     boxes: &[Box5],
     cell: &Box5,
     numbers: &[u32],
     found: &mut Findings,
-) -> Result<Option<Cut>, AllocError>
+) -> Result<Option<Cut>, NoMemory>
+    requires valid { IsValid cell.now }
     requires numbers { AreMeeting boxes.now cell.now numbers.now }
-    requires there { AreThere whole.now boxes.now found.old }
-    ensures { IfOk result (λ c. MatchOption c (IsSurveyed whole.now boxes.now cell.now found.old found.new)
+    requires there { AreThere (G.matters gaps.now) boxes.now found.old }
+    ensures { IfOk result (λ c. MatchOption c (IsSurveyed (G.matters gaps.now) boxes.now cell.now found.old found.new)
         (λ cut. IsCutOf cell.now cut × (found.new ≡ found.old))) }
 {
     let Some(first) = numbers.first() else {
-        find_gap(whole, boxes, cell, found);
+        find_gap(alloc, gaps, boxes, cell, found)?;
         return Ok(None);
     };
     if found.has_up_to(*first) {
@@ -91,23 +104,24 @@ fn settle(
 /// Looks at all headers of a cell. A cell whose first box has a number that isn't below that of an overlap found
 /// before is left at once, since the first uncovered header no longer matters then. Nor does it in a cell that begins
 /// after one that was found.
-pub fn survey_cell(
+pub fn survey_cell<G: Gaps>(
     alloc: Global,
-    whole: &Box5,
+    gaps: &G,
     boxes: &[Box5],
     cell: &Box5,
     candidates: &[u32],
     found: &mut Findings,
-) -> Result<(), AllocError>
+) -> Result<(), NoMemory>
+    requires valid { IsValid cell.now }
     requires candidates { AreCandidates boxes.now cell.now candidates.now }
-    requires there { AreThere whole.now boxes.now found.old }
-    ensures { OnOk result (IsSurveyed whole.now boxes.now cell.now found.old found.new) }
+    requires there { AreThere (G.matters gaps.now) boxes.now found.old }
+    ensures { OnOk result (IsSurveyed (G.matters gaps.now) boxes.now cell.now found.old found.new) }
 {
     let numbers = meeting(alloc, boxes, cell, candidates)?;
-    let Some(cut) = settle(alloc, whole, boxes, cell, numbers.as_slice(), found)? else {
+    let Some(cut) = settle(alloc, gaps, boxes, cell, numbers.as_slice(), found)? else {
         return Ok(());
     };
     let (low, high) = halves(cell, cut);
-    survey_cell(alloc, whole, boxes, &low, numbers.as_slice(), found)?;
-    survey_cell(alloc, whole, boxes, &high, numbers.as_slice(), found)
+    survey_cell(alloc, gaps, boxes, &low, numbers.as_slice(), found)?;
+    survey_cell(alloc, gaps, boxes, &high, numbers.as_slice(), found)
 }

@@ -9,15 +9,15 @@ use header_boxes::Box5;
 use vpc_base::Header;
 
 /// The least number of a box that shares a header with a later one, and, while none is found, the first
-/// header of the whole in no box.
+/// header that matters and is in no box.
 #[derive(Clone, Copy)]
 pub struct Findings {
     pub least: Option<u32>,
     pub outside: Option<Header>,
 }
 
-// The first of a header and that which was found before.
-fn earlier(found: Option<Header>, h: Header) -> Header
+/// The first of a header and that which was found before, if one was.
+pub fn earlier(found: Option<Header>, h: Header) -> Header
     ensures either { (result ≡ h) ⊎ (found ≡ Some result) }
     ensures upto_new { ¬ IsBefore h result }
     ensures upto_found { IfSome found (λ g. ¬ IsBefore g result) }
@@ -62,7 +62,7 @@ impl Findings {
         });
     }
 
-    /// One more header of the whole in no box.
+    /// One more header that matters and is in no box.
     pub fn add_uncovered(&mut self, h: Header)
         ensures least { self.new.least ≡ self.old.least }
         ensures outside { IsSomeAnd self.new.outside (λ k. (¬ IsBefore h k) × ((k ≡ h) ⊎ (self.old.outside ≡ Some k))) }

@@ -1,13 +1,17 @@
-//! Where boxes overlap, and what of a whole they leave out.
+//! Where boxes overlap, and which headers that matter they leave out.
 #![tactic(auto)]
 
 mod cells;
 mod cuts;
 mod findings;
-mod hull;
+mod gaps;
+mod hulls;
 mod numbered;
 mod pairs;
 mod sides;
 mod survey;
 
+pub use findings::earlier;
+pub use gaps::{Gaps, WholeBox};
+pub use hulls::hull;
 pub use survey::{Survey, surveyed};

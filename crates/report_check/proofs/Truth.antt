@@ -1,9 +1,6 @@
 -- A report gets a yes exactly where it is true.
-use Rattle.std.proofs.Common.{◌-◌, ◌<◌, ◌≡◌, ◌∙◌, List, None, Option, Some, ap, refl, subst, sym, true, ℕ}
-use Rattle.std.specs.Prelude.{IsSomeAnd, option_map, slice_get}
-use Rattle.std.proofs.lemmas.Option.{get_or_from_slice_get, slice_get-map, slice_get_within}
-use Rattle.box_survey.specs.Survey.{HoldsAt, IsLeastOverlap}
-use Rattle.header_boxes.specs.Boxes.{holds}
+use Rattle.std.proofs.Common.{◌-◌, ◌≡◌, ◌∙◌, List, ap, refl, subst, sym, ℕ}
+use Rattle.std.proofs.lemmas.Option.{get_or_from_slice_get, slice_get_within}
 use Rattle.header_boxes.specs.Rows.{HasWord, IsFirstOutside, AreWhole}
 use Rattle.report_reader.specs.Reports.{IsSoundReport}
 use Rattle.report_reader.specs.declared.report.Report.{Report}
@@ -13,37 +10,12 @@ use Rattle.vpc_laws.specs.Types.{Box5, Description, Header, Row, StopText, Verdi
 use Rattle.vpc_model.specs.Accepted.{IsAccepted}
 use Rattle.vpc_model.specs.Appliances.{appliances_of}
 use Rattle.vpc_model.specs.Report.{ending_of}
-use Rattle.report_check.specs.Checked.{AreApart, AreTrue, IsChecked, IsLeastUntrue, IsReportTrue, YesIsTruth, boxes_of, meaning_in}
+use Rattle.report_check.proofs.Boxes.{no_overlap}
+use Rattle.report_check.specs.Checked.{AreTrue, IsChecked, IsLeastUntrue, IsReportTrue, YesIsTruth, meaning_in}
 use Rattle.report_check.specs.declared.checked.Checked.{Checked}
 use Rattle.report_check.specs.declared.checked.Checked.TheVariants as found
 
--- ---- rows apart share no header
-
-row-at : (rows : List (Row StopText)) (i : ℕ) (h : Header) → HoldsAt (boxes_of rows) i h → IsSomeAnd (slice_get rows i) (λ (row : Row StopText). holds h row.part ≡ true)
-row-at rows i h at =
-    at-row (slice_get rows i) (subst (λ (o : Option Box5). IsSomeAnd o (λ (b : Box5). holds h b ≡ true)) (slice_get-map (λ (row : Row StopText). row.part) rows i) at)
-  where
-    at-row : (o : Option (Row StopText)) → IsSomeAnd (option_map (λ (row : Row StopText). row.part) o) (λ (b : Box5). holds h b ≡ true)
-        → IsSomeAnd o (λ (row : Row StopText). holds h row.part ≡ true)
-    at-row None at = at
-    at-row (Some row) at = at
-
-shared : (rows : List (Row StopText)) (i j : ℕ) (h : Header) (a b : Option (Row StopText)) → AreApart rows → i < j
-    → slice_get rows i ≡ a → slice_get rows j ≡ b
-    → IsSomeAnd a (λ (row : Row StopText). holds h row.part ≡ true) → IsSomeAnd b (λ (row : Row StopText). holds h row.part ≡ true) → ⊥
-shared rows i j h None b apart before first second at other = at
-shared rows i j h (Some a) None apart before first second at other = other
-shared rows i j h (Some a) (Some b) apart before first second at other =
-    apart i j a before (slice_get_within rows j b second) h
-    (subst (λ (row : Row StopText). holds h row.part ≡ true) (sym (get_or_from_slice_get rows i a a first)) at)
-    (subst (λ (row : Row StopText). holds h row.part ≡ true) (sym (get_or_from_slice_get rows j b a second)) other)
-
-no_overlap : (rows : List (Row StopText)) (i j : ℕ) → AreApart rows → IsLeastOverlap (boxes_of rows) i j → ⊥
-no_overlap rows i j apart is =
-    shared rows i j is.share.header (slice_get rows i) (slice_get rows j) apart is.below refl refl
-    (row-at rows i is.share.header is.share.first) (row-at rows j is.share.header is.share.second)
-
--- ---- the other answers
+-- ---- the answers
 
 none_outside : (whole : Box5) (rows : List (Row StopText)) (h : Header) → AreWhole whole rows → IsFirstOutside whole rows h → ⊥
 none_outside box rows h whole is = absurd (cc (whole h is.inside, is.outside))

@@ -7,6 +7,7 @@ use Rattle.report_check.specs.declared.checked.Checked.{Checked}
 use Rattle.report_check.specs.declared.checked.Checked.TheVariants as found
 use Rattle.report_reader.specs.Reports.{report_of_text}
 use Rattle.report_reader.specs.declared.report.Report.{Report}
+use Rattle.report_reader.specs.declared.report.ReportFault.{ReportFault}
 use Rattle.report_reader.specs.declared.report.ReportFault.TheVariants as faults
 use Rattle.vpc_model.specs.declared.rows.Description.{Description}
 use Rattle.command_job.specs.Lines.{line}
@@ -20,6 +21,12 @@ report_refusal_line cause = line (codes "refused report" ++ word cause)
 -- the cause against a report with too many rows
 abbrev pub too_many_text : ℕ → List ℕ
 too_many_text number = codes "TooManyBoxes" ++ word (decimal number)
+
+-- what is answered for what is wrong with the lines; nothing where memory was wanting
+abbrev pub IsFaultTold : ReportFault → Status → List ℕ → Type 0
+IsFaultTold (faults.BadLine number) status text = (status ≡ ends.Query) × (text ≡ report_refusal_line (decimal number))
+IsFaultTold (faults.TooManyBoxes number) status text = (status ≡ ends.Query) × (text ≡ report_refusal_line (too_many_text number))
+IsFaultTold faults.Memory status text = ⊥
 
 -- yes where nothing was found against the report
 abbrev pub checked_status : Checked → Status

@@ -1,6 +1,6 @@
 // What is found of a report.
 ghost use Rattle.std.specs.Prelude.{◌≡◌, ◌≤◌, All, IfOk, length};
-ghost use Rattle.box_survey.specs.Survey.{IsSurvey};
+ghost use Rattle.box_survey.specs.Survey.{IsHeldIn, IsSurvey};
 ghost use Rattle.header_boxes.specs.Boxes.{IsValid, IsWithin};
 ghost use Rattle.report_reader.specs.Reports.{IsSoundReport, row_limit};
 ghost use Rattle.vpc_model.specs.Appliances.{appliances_of};
@@ -9,7 +9,7 @@ ghost use Rattle.report_check.specs.Texts.{CanBeTold};
 
 use crate::rows::{Untrue, first_untrue};
 use appliances::Deciders;
-use box_survey::{Survey, surveyed};
+use box_survey::{Survey, WholeBox, surveyed};
 use fabric::Fabric;
 use header_boxes::{Box5, Row};
 use report_reader::Report;
@@ -47,10 +47,11 @@ fn survey_of(alloc: Global, report: &Report) -> Result<Survey, NoMemory>
     requires whole { IsValid report.now.sides }
     requires within { All (λ row. IsWithin row.part report.now.sides) report.now.rows }
     requires few { length report.now.rows ≤ row_limit }
-    ensures { IfOk result (IsSurvey report.now.sides (boxes_of report.now.rows)) }
+    ensures { IfOk result (IsSurvey (IsHeldIn report.now.sides) (boxes_of report.now.rows)) }
 {
     let boxes = boxes_of(alloc, report.rows.as_slice())?;
-    surveyed(alloc, &report.sides, boxes.as_slice())
+    let whole = WholeBox::of(report.sides);
+    surveyed(alloc, &whole, boxes.as_slice())
 }
 
 /// Whether a report is true of the network, with the appliances that the network describes.

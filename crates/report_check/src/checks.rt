@@ -2,7 +2,7 @@
 ghost use Rattle.std.specs.Prelude.{◌≡◌, IfOk, decimal};
 ghost use Rattle.report_check.specs.Texts.{CanBeTold, checked_line};
 ghost use Rattle.report_reader.specs.Reports.{IsSoundReport};
-ghost use Rattle.report_check.specs.Certified.{IsCheckedFrom, IsVerdict, checked_status, report_refusal_line, too_many_text};
+ghost use Rattle.report_check.specs.Certified.{IsCheckedFrom, IsFaultTold, IsVerdict, checked_status, report_refusal_line, too_many_text};
 
 use crate::checked::{Checked, check};
 use crate::texts::put_checked;
@@ -97,23 +97,26 @@ fn refuse_bad_line(alloc: Global, number: u64) -> Result<Answer, NoMemory>
     refuse_report(alloc, cause.as_slice())
 }
 
+/// Refuses a report, or a listing, for what is wrong with its lines.
+pub fn refuse_fault(alloc: Global, fault: ReportFault) -> Result<Answer, NoMemory>
+    ensures { IfOk result (λ a. IsFaultTold fault a.status a.text.items) }
+{
+    match fault {
+        ReportFault::BadLine(number) => refuse_bad_line(alloc, number),
+        ReportFault::TooManyBoxes(number) => refuse_too_many(alloc, number),
+        ReportFault::Memory => Err(NoMemory),
+    }
+}
+
 /// What is found of the report that the bytes give.
 pub fn check_bytes(alloc: Global, network: Network, bytes: &[u8]) -> Result<Answer, NoMemory>
     ensures { IfOk result (λ a. IsCheckedFrom network bytes.now a.status a.text.items) }
 {
     match read_report(alloc, &network, bytes) {
         Ok(report) => answer_job(alloc, network, &Checking { report: &report }),
-        Err(ReportFault::BadLine(number)) => {
+        Err(fault) => {
             mem::forget(network);
-            refuse_bad_line(alloc, number)
-        }
-        Err(ReportFault::TooManyBoxes(number)) => {
-            mem::forget(network);
-            refuse_too_many(alloc, number)
-        }
-        Err(ReportFault::Memory) => {
-            mem::forget(network);
-            Err(NoMemory)
+            refuse_fault(alloc, fault)
         }
     }
 }

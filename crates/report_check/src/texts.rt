@@ -24,7 +24,8 @@ fn put_verdict_word(out: &mut Vec<u8>, n: &Network, v: &Verdict) -> Result<(), N
     }
 }
 
-fn put_overlap(out: &mut Vec<u8>, i: u32, j: u32) -> Result<(), NoMemory>
+/// Appends that two rows share a header.
+pub fn put_overlap(out: &mut Vec<u8>, i: u32, j: u32) -> Result<(), NoMemory>
     ensures { OnOk result (out.new.items ≡ out.old.items ++ overlap_text i j) }
 {
     put(out, b"no overlap")?;

@@ -63,7 +63,7 @@ rows_from-texts whole count all (row ∷ rows) is few fits h =
 -- ---- lines
 
 -- lines and the nothing after the last newline
-lines_of-ended : (lines : List (List ℕ)) → lines_of (lines ++ [] ∷ []) ≡ lines
+pub lines_of-ended : (lines : List (List ℕ)) → lines_of (lines ++ [] ∷ []) ≡ lines
 lines_of-ended lines = take_at lines ([] ∷ []) _ (omega (arith, length-append lines ([] ∷ [])))
 
 last_piece : (lines : List (List ℕ)) → get_or (lines ++ [] ∷ []) (length (lines ++ [] ∷ []) - 1) [] ≡ []
@@ -71,7 +71,7 @@ last_piece lines =
     let n : length (lines ++ [] ∷ []) - 1 ≡ length lines = omega (arith, length-append lines ([] ∷ [])) in
     ap (λ (k : ℕ). get_or (lines ++ [] ∷ []) k []) n ∙ get_or-append_seam lines [] [] []
 
-is_ended-ended : (lines : List (List ℕ)) → is_ended (lines ++ [] ∷ []) ≡ true
+pub is_ended-ended : (lines : List (List ℕ)) → is_ended (lines ++ [] ∷ []) ≡ true
 is_ended-ended lines = ap (λ (piece : List ℕ). length piece == 0) (last_piece lines)
 
 pub report_of_lines : (d : Description) (lines : List (List ℕ)) → report_of_pieces d (lines ++ [] ∷ []) ≡ report_in d lines true

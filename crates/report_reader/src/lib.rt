@@ -17,8 +17,10 @@ mod stops;
 mod told;
 mod words;
 
+pub use boxes::{is_inside, read_box};
 pub use laws::report_laws;
 pub use readable::print_readable;
-pub use reading::read_report;
+pub use reading::{pieces_of, read_report};
 pub use report::{Report, ReportFault};
-pub use stops::same_text;
+pub use stops::{is_rule, same_text};
+pub use words::{are_two, few_words};

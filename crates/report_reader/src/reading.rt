@@ -123,7 +123,8 @@ fn report_in(
 
 // ---- the text
 
-fn pieces_of(alloc: Global, text: &[u8]) -> Result<Vec<&[u8]>, AllocError>
+/// What stands between newlines, before the first and after the last.
+pub fn pieces_of(alloc: Global, text: &[u8]) -> Result<Vec<&[u8]>, AllocError>
     ensures { IfOk result (λ v. map (λ l. l.now) v.items ≡ pieces_of text.now) }
 {
     text.split(|c| *c == b'\n').collect(alloc)

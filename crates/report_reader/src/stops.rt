@@ -44,7 +44,8 @@ fn is_dash(text: &[u8]) -> bool
     text == b"-".as_slice()
 }
 
-fn is_rule(n: &Network, text: &[u8], s: &Stop) -> bool
+/// Whether a text is the rule of a stop, or a dash where it has none. It takes no memory.
+pub fn is_rule(n: &Network, text: &[u8], s: &Stop) -> bool
     requires { IsTrue (has_text n.now s.now) }
     ensures { result ≡ bytes_eq text.now (stop_rule n.now s.now) }
 {

@@ -1,6 +1,6 @@
 use Rattle.std.proofs.Common.{◌∙◌, IfOk, List, ap, subst, sym}
 use Rattle.std.specs.Prelude.{All}
-use Rattle.box_survey.specs.Survey.{IsSurvey}
+use Rattle.box_survey.specs.Survey.{IsHeldIn, IsSurvey}
 use Rattle.header_boxes.specs.Boxes.{IsValid}
 use Rattle.vpc_laws.specs.Types.{Box5}
 use Rattle.report_check.proofs.Boxes.{valid_boxes}
@@ -15,5 +15,7 @@ surveyed-requires-clause-boxes c =
 
 pub returns : goal.returns
 returns c =
+    let r = c.args.report.now in
     let copied = c.as_slice-2.ensures.value ∙ (c.in_ok-boxes.ensures ∙ ap boxes_of c.as_slice.ensures) in
-    subst (λ (boxes : List Box5). IfOk c.surveyed.result (IsSurvey c.args.report.now.sides boxes)) copied c.surveyed.ensures
+    subst (λ (boxes : List Box5). IfOk c.surveyed.result (IsSurvey (IsHeldIn r.sides) boxes)) copied
+    (subst (λ (sides : Box5). IfOk c.surveyed.result (IsSurvey (IsHeldIn sides) c.as_slice-2.result.now)) c.of-whole.ensures c.surveyed.ensures)

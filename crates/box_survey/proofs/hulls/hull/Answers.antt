@@ -1,7 +1,7 @@
 use Rattle.std.proofs.Common.{◌≤◌, ◌<◌, length, arith}
 use Rattle.std.proofs.lemmas.List.{take_all}
-use Rattle.box_survey.proofs.Within.{all_within_more, within_trans}
-use Rattle.box_survey.proofs.hull.hull.Goals as goal
+use Rattle.box_survey.proofs.Within.{all_within_more, valid_if_holds_box, within_trans}
+use Rattle.box_survey.proofs.hulls.hull.Goals as goal
 
 pub loop-b-preserved : goal.loop-b-preserved
 loop-b-preserved c =
@@ -14,3 +14,6 @@ pub returns-clause-boxes : goal.returns-clause-boxes
 returns-clause-boxes c =
     let le : length c.args.boxes.now ≤ c.loop-b.b-index = omega arith in
     rw take_all at c.loop-b.invariant.1
+
+pub returns-clause-valid : goal.returns-clause-valid
+returns-clause-valid c = valid_if_holds_box c.args.whole.now c.loop-b.hull c.loop-b.invariant.0

@@ -20,10 +20,11 @@ fn joined(a: &Box5, b: &Box5) -> Box5
     }
 }
 
-/// The least box that holds the whole and all boxes.
+/// The least box that holds another one and all boxes.
 pub fn hull(whole: &Box5, boxes: &[Box5]) -> Box5
     requires whole { IsValid whole.now }
     requires boxes { All IsValid boxes.now }
+    ensures valid { IsValid result }
     ensures whole { IsWithin whole.now result }
     ensures boxes { All (λ b. IsWithin b result) boxes.now }
 {
