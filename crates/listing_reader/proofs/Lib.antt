@@ -1,0 +1,6 @@
+pub mod CutLemmas
+pub mod ListLemmas
+pub mod PrintedLines
+pub mod ReadLists
+pub mod RowCuts
+pub mod RowLemmas

@@ -1,0 +1,5 @@
+pub mod Cuts
+pub mod Listings
+pub mod Printed
+pub mod Reading
+pub mod ReadsBack
