@@ -3,13 +3,14 @@ use Rattle.std.proofs.Common.{◌≡◌, ◌∙◌, ◌==◌, Bool, List, Option
 use Rattle.std.proofs.lemmas.Bool.{eqb-true}
 use Rattle.std.proofs.lemmas.List.Sorted.{length_permutation}
 use Rattle.std.proofs.lemmas.Bool.Decides.{nat_tests}
+use Rattle.query_words.specs.declared.changes.ChangeQuery.{ChangeQuery}
 use Rattle.query_words.specs.declared.changes.ChangedEnd.{ChangedEnd}
 use Rattle.vpc_laws.specs.Types.{Description, Header}
 use Rattle.command_job.specs.declared.status.Status.{Status}
 use Rattle.command_job.specs.declared.status.Status.TheVariants as ends
-use Rattle.change_report.specs.Answered.{IsAnswerTo, IsDiffTold, IsPrinted, IsTooMany, host_limit, status_by}
+use Rattle.change_report.specs.Answered.{IsAnswerTo, IsDiffTold, IsPrinted, host_limit, status_by}
 use Rattle.change_report.specs.Answered as answered
-use Rattle.change_report.specs.Asked.{AreHostsOfEither, AreStarts, AreTargets, Comparison, StartAt, TargetsAre, hosts_of_either}
+use Rattle.change_report.specs.Asked.{AreHostsOfEither, AreStarts, AreTargets, Comparison, StartAt, TargetsAre, comparison, hosts_of_either}
 use Rattle.change_report.specs.Bodies.{IsBody}
 use Rattle.change_report.specs.Bodies as bodies
 use Rattle.change_report.specs.Texts.{part_of, start_id, told_lines_from, whole_of, whole_text}
@@ -31,29 +32,29 @@ told_by c words targets starts lines count next status text (bodies.body_part to
     let p = subst (λ (o : Option (ChangedEnd × Header)). IsPrinted c words lines count o status text) next_is printed in
     answered.more told last h are p.0 (p.1 ∙ ap (λ (l : List ℕ). part_of words l (start_id c last.start) h) lines_are)
 
--- what is printed answers the query, where each network is that of its look-ups
-module _ (c : Comparison) (words : List (List ℕ)) (before after : Description) (first : before ≡ c.before) (second : after ≡ c.after) where
-  -- destinations and starts as they are handed on
-  targets_as : (targets given : List (ℕ × ℕ)) → given ≡ targets → TargetsAre before after c.query.pairs.dst c.query.goal targets → AreTargets c given
-  targets_as targets given is are =
-      subst (λ (l : List (ℕ × ℕ)). AreTargets c l) (sym is)
-      (subst (λ (d : Description). TargetsAre d c.after c.query.pairs.dst c.query.goal targets) first
-      (subst (λ (d : Description). TargetsAre before d c.query.pairs.dst c.query.goal targets) second are))
+-- destinations and starts as they are handed on, where each network is that of its look-ups
+module _ (c : Comparison) (before after : Description) (query : ChangeQuery) (first : before ≡ c.before) (second : after ≡ c.after) (third : query ≡ c.query) where
+  compared-as : comparison before after query ≡ c
+  compared-as =
+      ap (λ (d : Description). comparison d after query) first
+      ∙ (ap (λ (d : Description). comparison c.before d query) second ∙ ap (comparison c.before c.after) third)
 
-  starts_as : (starts given : List ChangedEnd) → given ≡ starts → StartAt before after c.query.start c.query.goal starts → AreStarts c given
-  starts_as starts given is are =
-      subst (λ (l : List ChangedEnd). AreStarts c l) (sym is)
-      (subst (λ (d : Description). StartAt d c.after c.query.start c.query.goal starts) first
-      (subst (λ (d : Description). StartAt before d c.query.start c.query.goal starts) second are))
+  pub targets_as : (targets given : List (ℕ × ℕ)) → given ≡ targets → TargetsAre before after query.pairs.dst query.goal targets → AreTargets c given
+  targets_as targets given is are = subst (λ (l : List (ℕ × ℕ)). AreTargets c l) (sym is) (subst (λ (x : Comparison). AreTargets x targets) compared-as are)
 
+  pub starts_as : (starts given : List ChangedEnd) → given ≡ starts → StartAt before after query.start query.goal starts → AreStarts c given
+  starts_as starts given is are = subst (λ (l : List ChangedEnd). AreStarts c l) (sym is) (subst (λ (x : Comparison). AreStarts x starts) compared-as are)
+
+-- what is printed answers the query
+module _ (c : Comparison) (words : List (List ℕ)) (before after : Description) (query : ChangeQuery) (first : before ≡ c.before) (second : after ≡ c.after) (third : query ≡ c.query) where
   pub answered_by : (targets given_targets : List (ℕ × ℕ)) (starts given_starts : List ChangedEnd) (lines : List ℕ) (count : ℕ) (next : Option (ChangedEnd × Header)) (status : Status) (text : List ℕ)
-      → given_targets ≡ targets → TargetsAre before after c.query.pairs.dst c.query.goal targets → given_starts ≡ starts → StartAt before after c.query.start c.query.goal starts
+      → given_targets ≡ targets → TargetsAre before after query.pairs.dst query.goal targets → given_starts ≡ starts → StartAt before after query.start query.goal starts
       → IsBody c given_targets given_starts lines count next → IsPrinted c words lines count next status text → IsAnswerTo c words status text
   answered_by targets given_targets starts given_starts lines count next status text targets_is targets_are starts_is starts_are body printed = record {
     targets = given_targets;
-    targets_are = targets_as targets given_targets targets_is targets_are;
+    targets_are = targets_as c before after query first second third targets given_targets targets_is targets_are;
     starts = given_starts;
-    starts_are = starts_as starts given_starts starts_is starts_are;
+    starts_are = starts_as c before after query first second third starts given_starts starts_is starts_are;
     told = told_by c words given_targets given_starts lines count next status text body printed;
   }
 

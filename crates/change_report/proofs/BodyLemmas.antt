@@ -130,6 +130,16 @@ some_if (Some x) is none = absurd cc
 
 -- ---- rows as they are handed on
 
+-- asked for in as many as are still asked for
+module _ (c : Comparison) (targets : List (ℕ × ℕ)) (start : ChangedEnd) (rows : List (Row Change)) (room count : ℕ) (is : room ≡ c.query.pairs.max - count) where
+  pub whole-room : IsWholeOver (change_in c start) (cuts_in c) (boxes_at c targets start) room rows
+      → IsWholeOver (change_in c start) (cuts_in c) (boxes_at c targets start) (c.query.pairs.max - count) rows
+  whole-room k = subst (λ (n : ℕ). IsWholeOver (change_in c start) (cuts_in c) (boxes_at c targets start) n rows) is k
+
+  pub part-room : (next : Header) → IsPartOver (change_in c start) (cuts_in c) (boxes_at c targets start) room rows next
+      → IsPartOver (change_in c start) (cuts_in c) (boxes_at c targets start) (c.query.pairs.max - count) rows next
+  part-room next k = subst (λ (n : ℕ). IsPartOver (change_in c start) (cuts_in c) (boxes_at c targets start) n rows next) is k
+
 module _ (c : Comparison) (start : ChangedEnd) (rows given : List (Row Change)) (is : given ≡ rows) (old text : List ℕ) (old_count count : ℕ) where
   pub lines-same : text ≡ old ++ lines_at c (old_count + 1) start given → text ≡ old ++ lines_at c (old_count + 1) start rows
   lines-same h = h ∙ ap (λ (l : List (Row Change)). old ++ lines_at c (old_count + 1) start l) is

@@ -1,5 +1,5 @@
 -- The boxes that are asked for: none is empty, and no two share a header.
-use Rattle.std.proofs.Common.{◌≡◌, ◌==◌, ◌≤◌, ◌++◌, ◌∷◌, [], All, AllPairs, Bool, IfSome, List, None, Option, Some, arith, cond, false, get_or, map, refl, subst, suc, sym, true, ℕ}
+use Rattle.std.proofs.Common.{◌≡◌, ◌==◌, ◌≤◌, ◌++◌, ◌∷◌, ◌∙◌, [], All, AllPairs, Bool, IfSome, List, None, Option, Some, ap, arith, cond, false, get_or, map, refl, subst, suc, sym, true, ℕ}
 use Rattle.std.proofs.lemmas.Bool.Decides.{nat_tests}
 use Rattle.std.proofs.lemmas.List.Elements.{All-append, All-cons, All-map, All-nil, All-head, All-tail}
 use Rattle.std.proofs.lemmas.List.Kept.{AllPairs-cons, AllPairs-from_increasing}
@@ -11,12 +11,13 @@ use Rattle.query_words.specs.ChangeQuery.{primary_in}
 use Rattle.query_words.specs.Pairs.{IsSide}
 use Rattle.query_words.specs.ReachQuery.{AreReachPairs}
 use Rattle.query_words.specs.Sides.{all_addresses}
+use Rattle.query_words.specs.declared.changes.ChangeQuery.{ChangeQuery}
 use Rattle.query_words.specs.declared.changes.ChangedEnd.{ChangedEnd}
 use Rattle.query_words.specs.declared.reaches.ReachPairs.{ReachPairs}
 use Rattle.vpc_laws.specs.Types.{Description}
-use Rattle.change_report.specs.Asked.{AreAllOrAlone, TargetsAre, addresses_in_either, alone, boxes_between, each_once, is_internet, sides_between, sources_of}
+use Rattle.change_report.specs.Asked.{AreAllOrAlone, AreTargets, Comparison, TargetsAre, addresses_in_either, alone, boxes_at, boxes_between, each_once, is_internet, sides_between, sources_of}
 
-AllPairs-map : {X Y : Type 0} (R : Y → Y → Type 0) (f : X → Y) (xs : List X) → AllPairs (λ a b. R (f a) (f b)) xs → AllPairs R (map f xs)
+pub AllPairs-map : {X Y : Type 0} (R : Y → Y → Type 0) (f : X → Y) (xs : List X) → AllPairs (λ a b. R (f a) (f b)) xs → AllPairs R (map f xs)
 AllPairs-map R f [] h = λ i j d lt inside. absurd (omega arith)
 AllPairs-map R f (x ∷ xs) h =
     AllPairs-cons R (f x) (map f xs) (All-map (R (f x)) f xs (λ k d lt. h 0 (suc k) d (omega arith) (omega arith)))
@@ -77,7 +78,7 @@ own_sides : (before after : Description) (start : ChangedEnd) (net : Bool)
 own_sides before after start true = one_side all_addresses all_side
 own_sides before after start false = once_sides (primary_in before start.before) (primary_in after start.after)
 
-pub sources_are_sides : (before after : Description) (given : Option (ℕ × ℕ)) (start : ChangedEnd) → IfSome given IsSide → AreSides (sources_of before after given start)
+sources_are_sides : (before after : Description) (given : Option (ℕ × ℕ)) (start : ChangedEnd) → IfSome given IsSide → AreSides (sources_of before after given start)
 sources_are_sides before after (Some side) start valid = one_side side valid
 sources_are_sides before after None start valid = own_sides before after start (is_internet start.before)
 
@@ -87,7 +88,7 @@ all_or_alone : (net : Bool) (addresses : List ℕ) (sides : List (ℕ × ℕ)) �
 all_or_alone true addresses sides is = subst AreSides (sym is) (one_side all_addresses all_side)
 all_or_alone false addresses sides is = subst AreSides (sym is.are) (ascending_sides is.order is.ascending)
 
-pub targets_are_sides : (before after : Description) (given : Option (ℕ × ℕ)) (goal : Option ChangedEnd) (targets : List (ℕ × ℕ)) → IfSome given IsSide
+targets_are_sides : (before after : Description) (given : Option (ℕ × ℕ)) (goal : Option ChangedEnd) (targets : List (ℕ × ℕ)) → IfSome given IsSide
     → TargetsAre before after given goal targets → AreSides targets
 targets_are_sides before after (Some side) goal targets valid are = subst AreSides (sym are) (one_side side valid)
 targets_are_sides before after None None targets valid are = subst AreSides (sym are) (one_side all_addresses all_side)
@@ -99,7 +100,7 @@ boxes_to : (pairs : ReachPairs) (targets : List (ℕ × ℕ)) (src : ℕ × ℕ)
 boxes_to pairs targets src given valid sides =
     All-map IsValid (sides_between pairs src) targets (λ k d lt. record { proto = given.proto; src = valid; dst = sides k d lt; p = given.p; q = given.q })
 
-pub boxes_are_valid : (pairs : ReachPairs) (targets sources : List (ℕ × ℕ)) → AreReachPairs pairs → All IsSide sources → All IsSide targets → All IsValid (boxes_between pairs targets sources)
+boxes_are_valid : (pairs : ReachPairs) (targets sources : List (ℕ × ℕ)) → AreReachPairs pairs → All IsSide sources → All IsSide targets → All IsValid (boxes_between pairs targets sources)
 boxes_are_valid pairs targets [] given from to = All-nil IsValid
 boxes_are_valid pairs targets (src ∷ sources) given from to =
     All-append IsValid (map (sides_between pairs src) targets) (boxes_between pairs targets sources)
@@ -135,7 +136,7 @@ boxes_apart pairs targets src apart =
     apart i j x lt inside h.dst a.dst.0 a.dst.1 b.dst.0 b.dst.1)
 
 -- two lists, each item of the one disjoint from each of the other
-AllPairs-joined : {X : Type 0} (R : X → X → Type 0) (xs ys : List X) → AllPairs R xs → AllPairs R ys → All (λ x. All (R x) ys) xs → AllPairs R (xs ++ ys)
+pub AllPairs-joined : {X : Type 0} (R : X → X → Type 0) (xs ys : List X) → AllPairs R xs → AllPairs R ys → All (λ x. All (R x) ys) xs → AllPairs R (xs ++ ys)
 AllPairs-joined R [] ys one other across = other
 AllPairs-joined R (x ∷ xs) ys one other across =
     AllPairs-cons R x (xs ++ ys)
@@ -148,7 +149,7 @@ across_sources pairs targets src boxes apart =
     All-map (λ b. All (AreDisjoint b) boxes) (sides_between pairs src) targets
     (λ k d lt i x below. disjoint_by_source pairs src (get_or targets k d) (get_or boxes i x) (apart i x below))
 
-pub boxes_are_disjoint : (pairs : ReachPairs) (targets sources : List (ℕ × ℕ)) → AllPairs AreApart targets → AllPairs AreApart sources → AllPairs AreDisjoint (boxes_between pairs targets sources)
+boxes_are_disjoint : (pairs : ReachPairs) (targets sources : List (ℕ × ℕ)) → AllPairs AreApart targets → AllPairs AreApart sources → AllPairs AreDisjoint (boxes_between pairs targets sources)
 boxes_are_disjoint pairs targets [] to from = λ i j d lt inside. absurd (omega (arith, inside))
 boxes_are_disjoint pairs targets (src ∷ sources) to from =
     AllPairs-joined AreDisjoint (map (sides_between pairs src) targets) (boxes_between pairs targets sources)
@@ -156,3 +157,27 @@ boxes_are_disjoint pairs targets (src ∷ sources) to from =
     (boxes_are_disjoint pairs targets sources to (λ i j d lt inside. from (suc i) (suc j) d (omega arith) (omega arith)))
     (across_sources pairs targets src (boxes_between pairs targets sources)
     (others_from pairs targets sources src (λ k d lt. from 0 (suc k) d (omega arith) (omega arith))))
+
+-- those of a start
+module _ (c : Comparison) (targets : List (ℕ × ℕ)) (start : ChangedEnd) where
+  -- by the parts of what is asked
+  pub boxes_at-as : (before after : Description) (query : ChangeQuery) (sources : List (ℕ × ℕ)) → before ≡ c.before → after ≡ c.after → query ≡ c.query
+      → sources ≡ sources_of before after query.pairs.src start → boxes_between query.pairs targets sources ≡ boxes_at c targets start
+  boxes_at-as before after query sources first second third is =
+      ap (boxes_between query.pairs targets) is
+      ∙ (ap (λ (d : Description). boxes_between query.pairs targets (sources_of d after query.pairs.src start)) first
+      ∙ (ap (λ (d : Description). boxes_between query.pairs targets (sources_of c.before d query.pairs.src start)) second
+      ∙ ap (λ (q : ChangeQuery). boxes_between q.pairs targets (sources_of c.before c.after q.pairs.src start)) third))
+
+  module _ (given : AreReachPairs c.query.pairs) (are : AreTargets c targets) where
+    from : AreSides (sources_of c.before c.after c.query.pairs.src start)
+    from = sources_are_sides c.before c.after c.query.pairs.src start given.src
+
+    to : AreSides targets
+    to = targets_are_sides c.before c.after c.query.pairs.dst c.query.goal targets given.dst are
+
+    pub boxes_at-valid : All IsValid (boxes_at c targets start)
+    boxes_at-valid = boxes_are_valid c.query.pairs targets (sources_of c.before c.after c.query.pairs.src start) given from.each to.each
+
+    pub boxes_at-disjoint : AllPairs AreDisjoint (boxes_at c targets start)
+    boxes_at-disjoint = boxes_are_disjoint c.query.pairs targets (sources_of c.before c.after c.query.pairs.src start) to.apart from.apart

@@ -38,7 +38,7 @@ same_own : (net : Bool) (addresses : List ℕ) (xs ys : List (ℕ × ℕ)) → A
 same_own true addresses xs ys a b = a ∙ sym b
 same_own false addresses xs ys a b = same_alone addresses xs ys a b
 
-same_targets : (before after : Description) (given : Option (ℕ × ℕ)) (goal : Option ChangedEnd) (xs ys : List (ℕ × ℕ)) → TargetsAre before after given goal xs → TargetsAre before after given goal ys → xs ≡ ys
+pub same_targets : (before after : Description) (given : Option (ℕ × ℕ)) (goal : Option ChangedEnd) (xs ys : List (ℕ × ℕ)) → TargetsAre before after given goal xs → TargetsAre before after given goal ys → xs ≡ ys
 same_targets before after (Some side) goal xs ys a b = a ∙ sym b
 same_targets before after None None xs ys a b = a ∙ sym b
 same_targets before after None (Some goal) xs ys a b = same_own (is_internet goal.before) (addresses_in_either before after goal) xs ys a b

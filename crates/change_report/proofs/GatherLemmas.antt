@@ -1,13 +1,15 @@
 -- What is gathered from a start.
-use Rattle.std.proofs.Common.{◌≡◌, IfSome, ap, List, None, Option, Some, subst, true, ℕ}
+use Rattle.std.proofs.Common.{◌≡◌, ◌∙◌, IfSome, ap, List, None, Option, Some, subst, true, ℕ}
 use Rattle.std.specs.Option.{option_map}
 use Rattle.box_gather.specs.Over.{IsGatheredOver}
 use Rattle.header_boxes.specs.declared.boxes.Box5.{Box5}
 use Rattle.journey_changes.specs.Changes.{change_of, cuts_of_both}
-use Rattle.journey_changes.specs.Sent.{AreSentWell, IsToward, Sent}
+use Rattle.journey_changes.specs.Sent.{AreSentWell, IsToward, Sent, sent}
 use Rattle.journey_changes.specs.declared.changes.Change.{Change}
+use Rattle.journey_changes.specs.declared.fates.Toward.{Toward}
 use Rattle.ordered_cover.specs.declared.rows.Gathered.{Gathered}
 use Rattle.query_words.specs.ChangeQuery.{AreChangedEnds, IsChangedEnd}
+use Rattle.query_words.specs.declared.changes.ChangeQuery.{ChangeQuery}
 use Rattle.query_words.specs.declared.changes.ChangedEnd.{ChangedEnd}
 use Rattle.vpc_laws.specs.Types.{Description, End}
 use Rattle.vpc_model.specs.Sound.{is_end}
@@ -41,6 +43,21 @@ from_nowhere_before c ends = record { start = tt; toward = toward_before c.befor
 
 pub from_nowhere_after : (c : Comparison) → AreChangedEnds c.before c.after c.query → AreSentWell (sent_after c nowhere)
 from_nowhere_after c ends = record { start = tt; toward = toward_after c.before c.after c.query.goal ends.goal }
+
+-- ---- requests, by the parts of what is asked
+
+module _ (c : Comparison) (start : Option End) (d : Description) (query : ChangeQuery) (toward : Toward) where
+  pub sent_before-as : d ≡ c.before → query ≡ c.query → toward ≡ toward_of (option_map (λ e. e.before) query.goal)
+      → sent d start toward ≡ sent c.before start (toward_of (option_map (λ e. e.before) c.query.goal))
+  sent_before-as network is toward_is =
+      ap (λ (n : Description). sent n start toward) network
+      ∙ (ap (sent c.before start) toward_is ∙ ap (λ (q : ChangeQuery). sent c.before start (toward_of (option_map (λ e. e.before) q.goal))) is)
+
+  pub sent_after-as : d ≡ c.after → query ≡ c.query → toward ≡ toward_of (option_map (λ e. e.after) query.goal)
+      → sent d start toward ≡ sent c.after start (toward_of (option_map (λ e. e.after) c.query.goal))
+  sent_after-as network is toward_is =
+      ap (λ (n : Description). sent n start toward) network
+      ∙ (ap (sent c.after start) toward_is ∙ ap (λ (q : ChangeQuery). sent c.after start (toward_of (option_map (λ e. e.after) q.goal))) is)
 
 -- ---- walks that are turned to a start
 

@@ -22,7 +22,7 @@ numbers_are_described d k x below =
     let within : k < n = omega (arith, long, below) in
     subst (λ (i : EniNo). is_eni d i ≡ true) (sym (get_or-map-range_with_len numbered 0 n k k x within (omega arith))) (lt-ltb k n within)
 
-hosts_are_described : (d : Description) → All (λ i. is_eni d i ≡ true) (hosts_of d)
+pub hosts_are_described : (d : Description) → All (λ i. is_eni d i ≡ true) (hosts_of d)
 hosts_are_described d = All-filter (λ (i : EniNo). is_host (interface_at d i)) (λ i. is_eni d i ≡ true) (map numbered (range_with_len 0 (length d.interfaces))) (numbers_are_described d)
 
 found_by : (d : Description) (id : List ℕ) (has host : Bool) → (has ≡ true → is_eni d (eni_no d id) ≡ true)

@@ -6,6 +6,7 @@ ghost use Rattle.change_report.specs.Asked.{comparison, hosts_of_either};
 ghost use Rattle.change_report.specs.Texts.{next_line, part_of, whole_of};
 
 use crate::bodies::{Body, body_of};
+use crate::compared::Compared;
 use crate::gathered::Asked;
 use crate::hosts::{changed_id, hosts_of_either};
 use crate::starts::starts_of;
@@ -91,19 +92,18 @@ fn answer_part(
 // The answer with these lines.
 fn answer_body(
     alloc: Global,
-    asked: &Asked,
+    compared: &Compared,
     words: &[String],
     body: &Body,
 ) -> Result<Answer, NoMemory>
     requires { 3 ≤ length words.now }
-    ensures { IfOk result (λ a. IsPrinted
-        (comparison asked.now.before.now asked.now.after.now asked.now.query.now) (map string_bytes words.now)
+    ensures { IfOk result (λ a. IsPrinted compared.now (map string_bytes words.now)
         body.now.text.items body.now.count body.now.next a.status a.text.items) }
 {
     match body.next {
         None => answer_whole(alloc, words, body.text.as_slice(), body.count),
         Some((start, next)) => {
-            let id = changed_id(asked.before.network(), asked.after.network(), &start);
+            let id = changed_id(compared.before(), compared.after(), &start);
             answer_part(alloc, words, body.text.as_slice(), id, &next)
         }
     }
@@ -112,18 +112,18 @@ fn answer_body(
 // ---- two networks
 
 fn answer_asked(alloc: Global, asked: &Asked, words: &[String]) -> Result<Answer, NoMemory>
-    requires { CanBeTold (comparison asked.now.before.now asked.now.after.now asked.now.query.now) words.now }
-    ensures { IfOk result (λ a. IsAnswerTo
-        (comparison asked.now.before.now asked.now.after.now asked.now.query.now)
-        (map string_bytes words.now) a.status a.text.items) }
+    requires { CanBeTold asked.now.compared words.now }
+    ensures { IfOk result (λ a.
+        IsAnswerTo asked.now.compared (map string_bytes words.now) a.status a.text.items) }
 {
-    let query = asked.query;
-    let before = asked.before.network();
-    let after = asked.after.network();
+    let compared = &asked.compared;
+    let query = compared.query();
+    let before = compared.before();
+    let after = compared.after();
     let targets = targets_of(alloc, before, after, query.pairs.dst, query.goal)?;
     let starts = starts_of(alloc, before, after, query.start, query.goal)?;
     let body = body_of(alloc, asked, targets.as_slice(), starts.as_slice())?;
-    answer_body(alloc, asked, words, &body)
+    answer_body(alloc, compared, words, &body)
 }
 
 // What is told by the look-ups of both networks, with the appliances that each describes.
@@ -155,11 +155,13 @@ fn answer_between(
     )?;
     let after_deciders = deciders_of(alloc, after.network(), later_decide)?;
     let asked = Asked {
-        before,
+        compared: Compared {
+            before,
+            after,
+            query,
+        },
         before_deciders: &before_deciders,
-        after,
         after_deciders: &after_deciders,
-        query,
     };
     answer_asked(alloc, &asked, words)
 }
@@ -222,7 +224,8 @@ fn have_many_hosts(alloc: Global, before: &Network, after: &Network) -> Result<b
     Ok(MOST_HOSTS < hosts.len())
 }
 
-fn is_too_many(
+/// Whether no end is given and the two networks have more than 500 hosts.
+pub fn is_too_many(
     alloc: Global,
     before: &Network,
     after: &Network,

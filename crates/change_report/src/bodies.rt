@@ -1,19 +1,19 @@
 // The rows of all starts.
-ghost use Rattle.std.specs.Prelude.{◌≡◌, ◌≤◌, ◌+◌, ◌++◌, All, IfOk, OnOk, length};
+ghost use Rattle.std.specs.Prelude.{◌≡◌, ◌≤◌, ◌+◌, ◌-◌, ◌++◌, All, IfOk, OnOk, length};
 ghost use Rattle.journey_changes.specs.Telling.{IsTellable};
 ghost use Rattle.query_words.specs.ChangeQuery.{AreChangedEnds, IsChangedEnd};
 ghost use Rattle.query_words.specs.ReachQuery.{AreReachPairs};
-ghost use Rattle.change_report.specs.Asked.{AreTargets, comparison};
+ghost use Rattle.change_report.specs.Asked.{AreTargets};
 ghost use Rattle.change_report.specs.Bodies.{IsAdded, IsBody, lines_at};
 ghost use Rattle.change_report.specs.Walked.{AreWalksOf};
-ghost use Rattle.journey_changes.specs.Sent.{sent};
 
-use crate::gathered::{Asked, Walks, gather_at};
+use crate::compared::Compared;
+use crate::gathered::{Asked, gather_at, walks_of};
 use crate::hosts::changed_id;
 use crate::rows::put_rows;
 use box_gather::Gathered;
 use header_boxes::Row;
-use journey_changes::Change;
+use journey_changes::{Change, ChangeProbe};
 use query_words::ChangedEnd;
 use std::alloc::Global;
 use vpc_base::{Header, NoMemory};
@@ -29,63 +29,93 @@ pub struct Body {
 // Adds the lines of rows.
 fn add_rows(
     body: &mut Body,
-    asked: &Asked,
+    compared: &Compared,
     start: &ChangedEnd,
     rows: &[Row<Change>],
 ) -> Result<(), NoMemory>
-    requires told { All (λ row. IsTellable asked.now.before.now asked.now.after.now row.word) rows.now }
+    requires told { All (λ row. IsTellable compared.now.before compared.now.after row.word) rows.now }
     requires few { body.old.count + length rows.now ≤ 20000 }
-    ensures lines { OnOk result (body.new.text.items ≡ body.old.text.items ++ lines_at
-        (comparison asked.now.before.now asked.now.after.now asked.now.query.now)
-        (body.old.count + 1) start.now rows.now) }
+    ensures lines { OnOk result (body.new.text.items
+        ≡ body.old.text.items ++ lines_at compared.now (body.old.count + 1) start.now rows.now) }
     ensures count { OnOk result (body.new.count ≡ body.old.count + length rows.now) }
     ensures next { OnOk result (body.new.next ≡ body.old.next) }
 {
-    let before = asked.before.network();
-    let after = asked.after.network();
+    let before = compared.before();
+    let after = compared.after();
     let id = changed_id(before, after, start);
     put_rows(&mut body.text, before, after, body.count + 1, id, rows)?;
     body.count += rows.len() as u32;
     Ok(())
 }
 
+// How many rows are still asked for.
+fn room_after(compared: &Compared, count: u32) -> u32
+    requires { count ≤ compared.now.query.pairs.max }
+    ensures { result ≡ compared.now.query.pairs.max - count }
+{
+    compared.query().pairs.max - count
+}
+
 // Adds what is gathered from a start.
 fn add_start(
     alloc: Global,
-    asked: &Asked,
-    walks: &mut Walks,
+    compared: &Compared,
+    walks: &mut ChangeProbe,
     targets: &[(u32, u32)],
     start: ChangedEnd,
     body: &mut Body,
 ) -> Result<(), NoMemory>
-    requires walks { AreWalksOf (comparison asked.now.before.now asked.now.after.now asked.now.query.now)
-        (sent walks.old.before.fabric.now walks.old.before.start walks.old.before.toward)
-        (sent walks.old.after.fabric.now walks.old.after.start walks.old.after.toward) }
-    requires ends { AreChangedEnds asked.now.before.now asked.now.after.now asked.now.query.now }
-    requires pairs { AreReachPairs asked.now.query.now.pairs }
-    requires targets { AreTargets
-        (comparison asked.now.before.now asked.now.after.now asked.now.query.now) targets.now }
-    requires start { IsChangedEnd asked.now.before.now asked.now.after.now start }
-    requires few { body.old.count ≤ asked.now.query.now.pairs.max }
-    ensures added { OnOk result (IsAdded
-        (comparison asked.now.before.now asked.now.after.now asked.now.query.now) targets.now start
+    requires walks { AreWalksOf compared.now walks.old.before.sent walks.old.after.sent }
+    requires ends { AreChangedEnds compared.now.before compared.now.after compared.now.query }
+    requires pairs { AreReachPairs compared.now.query.pairs }
+    requires targets { AreTargets compared.now targets.now }
+    requires start { IsChangedEnd compared.now.before compared.now.after start }
+    requires few { body.old.count ≤ compared.now.query.pairs.max }
+    ensures added { OnOk result (IsAdded compared.now targets.now start
         body.old.text.items body.old.count body.old.next body.new.text.items body.new.count body.new.next) }
-    ensures walks { AreWalksOf (comparison asked.now.before.now asked.now.after.now asked.now.query.now)
-        (sent walks.new.before.fabric.now walks.new.before.start walks.new.before.toward)
-        (sent walks.new.after.fabric.now walks.new.after.start walks.new.after.toward) }
+    ensures walks { AreWalksOf compared.now walks.new.before.sent walks.new.after.sent }
 {
-    let room = asked.query.pairs.max - body.count;
+    let room = room_after(compared, body.count);
     // That the networks are accepted is a clause of these calls.
-    let _ = asked.before.network().description();
-    let _ = asked.after.network().description();
-    match gather_at(alloc, asked, walks, targets, start, room)? {
-        Gathered::All(rows) => add_rows(body, asked, &start, rows.as_slice()),
+    let _ = compared.before().description();
+    let _ = compared.after().description();
+    match gather_at(alloc, compared, walks, targets, start, room)? {
+        Gathered::All(rows) => add_rows(body, compared, &start, rows.as_slice()),
         Gathered::More(rows, next) => {
-            add_rows(body, asked, &start, rows.as_slice())?;
+            add_rows(body, compared, &start, rows.as_slice())?;
             body.next = Some((start, next));
             Ok(())
         }
     }
+}
+
+// The rows of all starts, by walks that are turned to each.
+fn body_by(
+    alloc: Global,
+    compared: &Compared,
+    walks: &mut ChangeProbe,
+    targets: &[(u32, u32)],
+    starts: &[ChangedEnd],
+) -> Result<Body, NoMemory>
+    requires walks { AreWalksOf compared.now walks.old.before.sent walks.old.after.sent }
+    requires ends { AreChangedEnds compared.now.before compared.now.after compared.now.query }
+    requires pairs { AreReachPairs compared.now.query.pairs }
+    requires targets { AreTargets compared.now targets.now }
+    requires starts { All (IsChangedEnd compared.now.before compared.now.after) starts.now }
+    ensures { IfOk result (λ b. IsBody compared.now targets.now starts.now b.text.items b.count b.next) }
+{
+    let mut body = Body {
+        text: Vec::new(alloc),
+        count: 0,
+        next: None,
+    };
+    for start in starts {
+        add_start(alloc, compared, walks, targets, *start, &mut body)?;
+        if body.next.is_some() {
+            return Ok(body);
+        }
+    }
+    Ok(body)
 }
 
 /// The rows of all starts, not more than asked for.
@@ -95,26 +125,13 @@ pub fn body_of(
     targets: &[(u32, u32)],
     starts: &[ChangedEnd],
 ) -> Result<Body, NoMemory>
-    requires ends { AreChangedEnds asked.now.before.now asked.now.after.now asked.now.query.now }
-    requires pairs { AreReachPairs asked.now.query.now.pairs }
-    requires targets { AreTargets
-        (comparison asked.now.before.now asked.now.after.now asked.now.query.now) targets.now }
-    requires starts { All (IsChangedEnd asked.now.before.now asked.now.after.now) starts.now }
-    ensures { IfOk result (λ b. IsBody
-        (comparison asked.now.before.now asked.now.after.now asked.now.query.now)
-        targets.now starts.now b.text.items b.count b.next) }
+    requires ends { AreChangedEnds asked.now.compared.before asked.now.compared.after asked.now.compared.query }
+    requires pairs { AreReachPairs asked.now.compared.query.pairs }
+    requires targets { AreTargets asked.now.compared targets.now }
+    requires starts { All (IsChangedEnd asked.now.compared.before asked.now.compared.after) starts.now }
+    ensures { IfOk result (λ b.
+        IsBody asked.now.compared targets.now starts.now b.text.items b.count b.next) }
 {
-    let mut body = Body {
-        text: Vec::new(alloc),
-        count: 0,
-        next: None,
-    };
-    let mut walks = Walks::of(asked);
-    for start in starts {
-        add_start(alloc, asked, &mut walks, targets, *start, &mut body)?;
-        if body.next.is_some() {
-            return Ok(body);
-        }
-    }
-    Ok(body)
+    let mut walks = walks_of(asked);
+    body_by(alloc, &asked.compared, &mut walks, targets, starts)
 }

@@ -3,12 +3,13 @@ ghost use Rattle.std.specs.Prelude.{◌≡◌, ◌++◌, All, AllPairs, IfOk, If
 ghost use Rattle.header_boxes.specs.Boxes.{AreDisjoint, IsValid};
 ghost use Rattle.query_words.specs.Pairs.{IsSide};
 ghost use Rattle.query_words.specs.ReachQuery.{AreReachPairs};
-ghost use Rattle.change_report.specs.Asked.{AreTargets, boxes_at, boxes_between, comparison, each_once, own_sources, sides_between, sources_of};
+ghost use Rattle.change_report.specs.Asked.{AreTargets, boxes_at, boxes_between, each_once, own_sources, sides_between, sources_of};
 
+use crate::compared::Compared;
 use crate::starts::primary_in;
 use crate::targets::{ALL, each_alone, is_internet, only};
 use header_boxes::Box5;
-use query_words::{ChangeQuery, ChangedEnd, ReachPairs};
+use query_words::{ChangedEnd, ReachPairs};
 use reference_check::Network;
 use std::alloc::Global;
 use vpc_base::NoMemory;
@@ -114,19 +115,17 @@ fn boxes_between(
 /// The headers that are asked for from a start, by the destinations of the query.
 pub fn boxes_at(
     alloc: Global,
-    before: &Network,
-    after: &Network,
-    query: &ChangeQuery,
+    compared: &Compared,
     targets: &[(u32, u32)],
     start: ChangedEnd,
 ) -> Result<Vec<Box5>, NoMemory>
-    requires pairs { AreReachPairs query.now.pairs }
-    requires targets { AreTargets (comparison before.now after.now query.now) targets.now }
-    ensures value { IfOk result (λ v.
-        v.items ≡ boxes_at (comparison before.now after.now query.now) targets.now start) }
+    requires pairs { AreReachPairs compared.now.query.pairs }
+    requires targets { AreTargets compared.now targets.now }
+    ensures value { IfOk result (λ v. v.items ≡ boxes_at compared.now targets.now start) }
     ensures valid { IfOk result (λ v. All IsValid v.items) }
     ensures disjoint { IfOk result (λ v. AllPairs AreDisjoint v.items) }
 {
-    let sources = sources_of(alloc, before, after, query.pairs.src, start)?;
-    boxes_between(alloc, &query.pairs, targets, sources.as_slice())
+    let pairs = &compared.query().pairs;
+    let sources = sources_of(alloc, compared.before(), compared.after(), pairs.src, start)?;
+    boxes_between(alloc, pairs, targets, sources.as_slice())
 }

@@ -2,37 +2,33 @@
 ghost use Rattle.std.specs.Prelude.{◌≡◌, All, AllPairs, IfOk, Some, option_map};
 ghost use Rattle.box_gather.specs.Over.{IsGatheredOver};
 ghost use Rattle.header_boxes.specs.Boxes.{AreDisjoint, IsValid};
-ghost use Rattle.journey_changes.specs.Changes.{change_of, cuts_of_both};
-ghost use Rattle.journey_changes.specs.Sent.{sent};
 ghost use Rattle.query_words.specs.ChangeQuery.{AreChangedEnds, IsChangedEnd};
 ghost use Rattle.query_words.specs.ReachQuery.{AreReachPairs};
 ghost use Rattle.vpc_model.specs.Appliances.{appliances_of};
-ghost use Rattle.change_report.specs.Asked.{AreTargets, comparison};
+ghost use Rattle.change_report.specs.Asked.{AreTargets};
 ghost use Rattle.change_report.specs.Bodies.{IsGatheredFrom};
 ghost use Rattle.change_report.specs.Told.{change_in, cuts_in, sent_after, sent_before, toward_of};
 ghost use Rattle.change_report.specs.Walked.{AreWalksOf, nowhere};
 
 use crate::boxes::boxes_at;
+use crate::compared::Compared;
 use appliances::Deciders;
 use box_gather::{Gathered, gather_over};
-use fabric::Fabric;
 use header_boxes::Box5;
 use journey_changes::{Change, ChangeProbe, FateProbe, Toward};
-use query_words::{ChangeQuery, ChangedEnd};
+use query_words::ChangedEnd;
 use std::alloc::Global;
 use vpc_base::NoMemory;
 use vpc_model::End;
 
-/// A query about two networks: their look-ups, and what the appliances that they describe forward.
+/// A query about two networks, and what the appliances that they describe forward.
 #[derive(Drop)]
 pub struct Asked<'a> {
-    pub before: &'a Fabric,
+    pub compared: Compared<'a>,
     pub before_deciders: &'a Deciders,
-    pub after: &'a Fabric,
     pub after_deciders: &'a Deciders,
-    pub query: &'a ChangeQuery,
-    ghost described_before: { before_deciders.now.appliances ≡ appliances_of before.now },
-    ghost described_after: { after_deciders.now.appliances ≡ appliances_of after.now },
+    ghost described_before: { before_deciders.now.appliances ≡ appliances_of compared.before },
+    ghost described_after: { after_deciders.now.appliances ≡ appliances_of compared.after },
 }
 
 // ---- where requests are to arrive
@@ -46,8 +42,8 @@ fn toward(goal: Option<End>) -> Toward
     }
 }
 
-// At the goal of a query, as it stands in the first network.
-fn toward_before(goal: Option<ChangedEnd>) -> Toward
+/// Where requests are to arrive in the first network: at the goal of a query as it stands there, or at any end.
+pub fn toward_before(goal: Option<ChangedEnd>) -> Toward
     ensures { result ≡ toward_of (option_map (λ e. e.before) goal) }
 {
     match goal {
@@ -56,7 +52,8 @@ fn toward_before(goal: Option<ChangedEnd>) -> Toward
     }
 }
 
-fn toward_after(goal: Option<ChangedEnd>) -> Toward
+/// The same in the second network.
+pub fn toward_after(goal: Option<ChangedEnd>) -> Toward
     ensures { result ≡ toward_of (option_map (λ e. e.after) goal) }
 {
     match goal {
@@ -68,130 +65,77 @@ fn toward_after(goal: Option<ChangedEnd>) -> Toward
 // ---- what is asked
 
 fn probe_before<'a>(asked: &Asked<'a>) -> FateProbe<'a>
-    requires { AreChangedEnds asked.now.before.now asked.now.after.now asked.now.query.now }
-    ensures { sent result.fabric.now result.start result.toward
-        ≡ sent_before (comparison asked.now.before.now asked.now.after.now asked.now.query.now) nowhere }
+    requires { AreChangedEnds asked.now.compared.before asked.now.compared.after asked.now.compared.query }
+    ensures { result.sent ≡ sent_before asked.now.compared nowhere }
 {
     FateProbe::of(
-        asked.before,
+        asked.compared.fabric_before(),
         asked.before_deciders,
         None,
-        toward_before(asked.query.goal),
+        toward_before(asked.compared.query().goal),
     )
 }
 
 fn probe_after<'a>(asked: &Asked<'a>) -> FateProbe<'a>
-    requires { AreChangedEnds asked.now.before.now asked.now.after.now asked.now.query.now }
-    ensures { sent result.fabric.now result.start result.toward
-        ≡ sent_after (comparison asked.now.before.now asked.now.after.now asked.now.query.now) nowhere }
+    requires { AreChangedEnds asked.now.compared.before asked.now.compared.after asked.now.compared.query }
+    ensures { result.sent ≡ sent_after asked.now.compared nowhere }
 {
     FateProbe::of(
-        asked.after,
+        asked.compared.fabric_after(),
         asked.after_deciders,
         None,
-        toward_after(asked.query.goal),
+        toward_after(asked.compared.query().goal),
     )
 }
 
-/// The walks of a query's requests in each of the two networks. They are made once, since each has room for all that a walk
-/// may leave behind, and turned to one start after the other.
-#[derive(Drop)]
-pub struct Walks<'a> {
-    before: FateProbe<'a>,
-    after: FateProbe<'a>,
-}
-
-impl<'a> Walks<'a> {
-    /// The walks toward the goal, as it stands in each network, or toward any end.
-    pub fn of(asked: &Asked<'a>) -> Walks<'a>
-        requires { AreChangedEnds asked.now.before.now asked.now.after.now asked.now.query.now }
-        ensures { AreWalksOf (comparison asked.now.before.now asked.now.after.now asked.now.query.now)
-            (sent result.before.fabric.now result.before.start result.before.toward)
-            (sent result.after.fabric.now result.after.start result.after.toward) }
-    {
-        Walks {
-            before: probe_before(asked),
-            after: probe_after(asked),
-        }
-    }
-}
-
-// What changes for the headers of boxes, which are sent in both networks.
-fn gather_changes(
-    alloc: Global,
-    before: &FateProbe,
-    after: &FateProbe,
-    boxes: &[Box5],
-    room: u32,
-) -> Result<Gathered<Change>, NoMemory>
-    requires valid { All IsValid boxes.now }
-    requires disjoint { AllPairs AreDisjoint boxes.now }
-    ensures { IfOk result (IsGatheredOver (change_of
-        (sent before.now.fabric.now before.now.start before.now.toward)
-        (sent after.now.fabric.now after.now.start after.now.toward))
-        (cuts_of_both before.now.fabric.now after.now.fabric.now) boxes.now room) }
+/// The walks of a query's requests in both networks, toward the goal, as it stands in each, or toward any end. They are made
+/// once, since each has room for all that a walk may leave behind, and turned to one start after the other.
+pub fn walks_of<'a>(asked: &Asked<'a>) -> ChangeProbe<'a>
+    requires { AreChangedEnds asked.now.compared.before asked.now.compared.after asked.now.compared.query }
+    ensures { AreWalksOf asked.now.compared result.before.sent result.after.sent }
 {
-    gather_over(alloc, &ChangeProbe::of(before, after), boxes, room)
+    ChangeProbe::of(probe_before(asked), probe_after(asked))
 }
 
-// The same from a start.
+// What changes for the headers of boxes, which are sent from a start in both networks.
 fn gather_from(
     alloc: Global,
-    asked: &Asked,
-    walks: &mut Walks,
+    compared: &Compared,
+    walks: &mut ChangeProbe,
     start: ChangedEnd,
     boxes: &[Box5],
     room: u32,
 ) -> Result<Gathered<Change>, NoMemory>
-    requires walks { AreWalksOf (comparison asked.now.before.now asked.now.after.now asked.now.query.now)
-        (sent walks.old.before.fabric.now walks.old.before.start walks.old.before.toward)
-        (sent walks.old.after.fabric.now walks.old.after.start walks.old.after.toward) }
-    requires ends { AreChangedEnds asked.now.before.now asked.now.after.now asked.now.query.now }
-    requires start { IsChangedEnd asked.now.before.now asked.now.after.now start }
+    requires walks { AreWalksOf compared.now walks.old.before.sent walks.old.after.sent }
+    requires ends { AreChangedEnds compared.now.before compared.now.after compared.now.query }
+    requires start { IsChangedEnd compared.now.before compared.now.after start }
     requires valid { All IsValid boxes.now }
     requires disjoint { AllPairs AreDisjoint boxes.now }
     ensures gathered { IfOk result (IsGatheredOver
-        (change_in (comparison asked.now.before.now asked.now.after.now asked.now.query.now) start)
-        (cuts_in (comparison asked.now.before.now asked.now.after.now asked.now.query.now)) boxes.now room) }
-    ensures walks { AreWalksOf (comparison asked.now.before.now asked.now.after.now asked.now.query.now)
-        (sent walks.new.before.fabric.now walks.new.before.start walks.new.before.toward)
-        (sent walks.new.after.fabric.now walks.new.after.start walks.new.after.toward) }
+        (change_in compared.now start) (cuts_in compared.now) boxes.now room) }
+    ensures walks { AreWalksOf compared.now walks.new.before.sent walks.new.after.sent }
 {
-    walks.before.turn(start.before);
-    walks.after.turn(start.after);
-    gather_changes(alloc, &walks.before, &walks.after, boxes, room)
+    walks.turn(start.before, start.after);
+    gather_over(alloc, walks, boxes, room)
 }
 
 /// What changes for the requests that are asked for from a start, in at most `room` rows.
 pub fn gather_at(
     alloc: Global,
-    asked: &Asked,
-    walks: &mut Walks,
+    compared: &Compared,
+    walks: &mut ChangeProbe,
     targets: &[(u32, u32)],
     start: ChangedEnd,
     room: u32,
 ) -> Result<Gathered<Change>, NoMemory>
-    requires walks { AreWalksOf (comparison asked.now.before.now asked.now.after.now asked.now.query.now)
-        (sent walks.old.before.fabric.now walks.old.before.start walks.old.before.toward)
-        (sent walks.old.after.fabric.now walks.old.after.start walks.old.after.toward) }
-    requires ends { AreChangedEnds asked.now.before.now asked.now.after.now asked.now.query.now }
-    requires pairs { AreReachPairs asked.now.query.now.pairs }
-    requires start { IsChangedEnd asked.now.before.now asked.now.after.now start }
-    requires targets { AreTargets
-        (comparison asked.now.before.now asked.now.after.now asked.now.query.now) targets.now }
-    ensures gathered { IfOk result (IsGatheredFrom
-        (comparison asked.now.before.now asked.now.after.now asked.now.query.now) targets.now start room) }
-    ensures walks { AreWalksOf (comparison asked.now.before.now asked.now.after.now asked.now.query.now)
-        (sent walks.new.before.fabric.now walks.new.before.start walks.new.before.toward)
-        (sent walks.new.after.fabric.now walks.new.after.start walks.new.after.toward) }
+    requires walks { AreWalksOf compared.now walks.old.before.sent walks.old.after.sent }
+    requires ends { AreChangedEnds compared.now.before compared.now.after compared.now.query }
+    requires pairs { AreReachPairs compared.now.query.pairs }
+    requires start { IsChangedEnd compared.now.before compared.now.after start }
+    requires targets { AreTargets compared.now targets.now }
+    ensures gathered { IfOk result (IsGatheredFrom compared.now targets.now start room) }
+    ensures walks { AreWalksOf compared.now walks.new.before.sent walks.new.after.sent }
 {
-    let boxes = boxes_at(
-        alloc,
-        asked.before.network(),
-        asked.after.network(),
-        asked.query,
-        targets,
-        start,
-    )?;
-    gather_from(alloc, asked, walks, start, boxes.as_slice(), room)
+    let boxes = boxes_at(alloc, compared, targets, start)?;
+    gather_from(alloc, compared, walks, start, boxes.as_slice(), room)
 }

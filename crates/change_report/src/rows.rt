@@ -17,7 +17,8 @@ use vpc_model::{End, Phase, Stop};
 
 // ---- what keeps a request from an end
 
-fn phase_text(phase: Phase) -> &'static [u8]
+/// A phase, as it is printed.
+pub fn phase_text(phase: Phase) -> &'static [u8]
     ensures { result.now ≡ phase_text phase }
 {
     match phase {
@@ -44,7 +45,13 @@ fn put_absent(out: &mut Vec<u8>, id: &[u8]) -> Result<(), NoMemory>
     put_word(out, b"-")
 }
 
-fn put_barrier(out: &mut Vec<u8>, n: &Network, id: &[u8], barrier: &Barrier) -> Result<(), NoMemory>
+/// Appends what keeps a request from an end, where its start has this id.
+pub fn put_barrier(
+    out: &mut Vec<u8>,
+    n: &Network,
+    id: &[u8],
+    barrier: &Barrier,
+) -> Result<(), NoMemory>
     requires { CanBeTold n.now barrier.now }
     ensures { OnOk result (out.new.items ≡ out.old.items ++ barrier_text n.now id.now barrier.now) }
 {
@@ -76,7 +83,8 @@ fn put_end_word(out: &mut Vec<u8>, n: &Network, end: End) -> Result<(), NoMemory
     put_word(out, id_at(n, end))
 }
 
-fn put_change(
+/// Appends what changes for a request from the start with this id.
+pub fn put_change(
     out: &mut Vec<u8>,
     before: &Network,
     after: &Network,

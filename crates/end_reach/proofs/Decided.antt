@@ -25,14 +25,14 @@ use Rattle.vpc_model.specs.Cuts.{cuts_of}
 use Rattle.vpc_model.specs.Verdict.{same_end}
 use Rattle.vpc_model.specs.declared.places.End.TheVariants as places
 use Rattle.described_hosts.specs.Hosts.{AreHostsById, hosts_of}
-use Rattle.end_reach.specs.Answered.{FewCells, IsAnswerTo, IsDecided, IsReachAnswered, IsReachDecided, IsReachTold, IsToldUnlessTooMany, IsTooMany, SomeReaches}
+use Rattle.end_reach.specs.Answered.{FewCells, IsDecided, IsReachAnswered, IsReachDecided, IsReachTold, IsToldUnlessTooMany, IsTooMany, SomeReaches}
 use Rattle.end_reach.specs.Answered as answered
 use Rattle.end_reach.specs.Asked.{AreStarts, AreTargets, alone, boxes_at, is_goal, is_start, starts_among}
 use Rattle.end_reach.specs.Told.{AreToldAll, AreToldInPart, IsToldFrom, StartRows, reached_in, row_count}
 
 -- ---- one list of destinations
 
-same_targets : (d : Description) (given : Option (ℕ × ℕ)) (goal : Option End) (xs ys : List (ℕ × ℕ)) → AreTargets d given goal xs → AreTargets d given goal ys → xs ≡ ys
+pub same_targets : (d : Description) (given : Option (ℕ × ℕ)) (goal : Option End) (xs ys : List (ℕ × ℕ)) → AreTargets d given goal xs → AreTargets d given goal ys → xs ≡ ys
 same_targets d (Some side) goal xs ys a b = a ∙ sym b
 same_targets d None None xs ys a b = a ∙ sym b
 same_targets d None (Some places.Internet) xs ys a b = a ∙ sym b

@@ -148,7 +148,8 @@ impl<'a> Job for Reaching<'a> {
 
 // ---- the words
 
-fn is_too_many(n: &Network, query: &ReachQuery) -> bool
+/// Whether no end is given and the network has more hosts than it is asked from then.
+pub fn is_too_many(n: &Network, query: &ReachQuery) -> bool
     ensures { IsTrue result ↔ IsTooMany n.now query.now }
 {
     match (query.start, query.goal) {

@@ -9,4 +9,7 @@ mod sides;
 mod starts;
 mod words;
 
+pub use answers::is_too_many;
 pub use command::ReachCommand;
+pub use sides::{boxes_at, targets_of};
+pub use starts::starts_of;

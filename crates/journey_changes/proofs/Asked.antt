@@ -65,42 +65,42 @@ goal_described d (towards.Goal goal) there = there
 some_start : (start : Option End) (s : End) → start ≡ Some s → Some (start_or start) ≡ start
 some_start start s is = ap (λ (o : Option End). Some (start_or o)) is ∙ sym is
 
-open_sent : (d e : Description) (b s : End) (start : Option End) (toward t : Toward) → starting d b ≡ starting e (start_or start) → start ≡ Some s → toward ≡ t
-    → sent d (Some b) t ≡ sent e start toward
-open_sent d e b s start toward t same is toward_is =
-    ap (λ (x : Starting). sent x.network (Some x.start) t) same
-    ∙ (ap (λ (o : Option End). sent e o t) (some_start start s is) ∙ ap (sent e start) (sym toward_is))
-
 goal_toward : (toward : Toward) (goal : End) → toward ≡ towards.Goal goal → towards.Goal (goal_or toward) ≡ toward
 goal_toward toward goal is = ap (λ (t : Toward). towards.Goal (goal_or t)) is ∙ sym is
 
-round_sent : (d e : Description) (b g s goal : End) (start : Option End) (toward : Toward) → asked d b g ≡ asked e (start_or start) (goal_or toward) → start ≡ Some s → toward ≡ towards.Goal goal
-    → sent d (Some b) (towards.Goal g) ≡ sent e start toward
-round_sent d e b g s goal start toward same is toward_is =
-    ap (λ (x : Asking). sent x.network (Some x.start) (towards.Goal x.goal)) same
-    ∙ (ap (λ (o : Option End). sent e o (towards.Goal (goal_or toward))) (some_start start s is) ∙ ap (sent e start) (goal_toward toward goal toward_is))
+-- what a probe asks is what is sent
+module _ (q : Sent) (d : Description) (b s : End) (is : q.start ≡ Some s) where
+  open_sent : (t : Toward) → starting d b ≡ starting q.network (start_or q.start) → q.toward ≡ t → sent d (Some b) t ≡ q
+  open_sent t same toward_is =
+      ap (λ (x : Starting). sent x.network (Some x.start) t) same
+      ∙ (ap (λ (o : Option End). sent q.network o t) (some_start q.start s is) ∙ ap (sent q.network q.start) (sym toward_is))
 
--- the goal of a probe is the one that is meant
-one_goal : (d e : Description) (b g start goal : End) (toward : Toward) → asked d b g ≡ asked e start (goal_or toward) → toward ≡ towards.Goal goal → g ≡ goal
-one_goal d e b g start goal toward same is = ap (λ (x : Asking). x.goal) same ∙ ap goal_or is
+  round_sent : (g goal : End) → asked d b g ≡ asked q.network (start_or q.start) (goal_or q.toward) → q.toward ≡ towards.Goal goal → sent d (Some b) (towards.Goal g) ≡ q
+  round_sent g goal same toward_is =
+      ap (λ (x : Asking). sent x.network (Some x.start) (towards.Goal x.goal)) same
+      ∙ (ap (λ (o : Option End). sent q.network o (towards.Goal (goal_or q.toward))) (some_start q.start s is) ∙ ap (sent q.network q.start) (goal_toward q.toward goal toward_is))
+
+  -- the goal of a probe is the one that is meant
+  one_goal : (g goal : End) → asked d b g ≡ asked q.network (start_or q.start) (goal_or q.toward) → q.toward ≡ towards.Goal goal → g ≡ goal
+  one_goal g goal same toward_is = ap (λ (x : Asking). x.goal) same ∙ ap goal_or toward_is
 
 -- ---- fates
 
-pub absent_fate : (d : Description) (start : Option End) (toward : Toward) (h : Header) → start ≡ None → fate_of d start toward h ≡ Err barriers.Absent
-absent_fate d start toward h none = ap (λ (o : Option End). fate_of d o toward h) none
+pub absent_fate : (q : Sent) (h : Header) → q.start ≡ None → fate q h ≡ Err barriers.Absent
+absent_fate q h none = ap (λ (o : Option End). fate_of q.network o q.toward h) none
 
-pub absent_reached : (d : Description) (start : Option End) (toward : Toward) (h : Header) → start ≡ None → reached_by (fate_of d start toward h) ≡ None
-absent_reached d start toward h none = ap reached_by (absent_fate d start toward h none)
+pub absent_reached : (q : Sent) (h : Header) → q.start ≡ None → reached q h ≡ None
+absent_reached q h none = ap reached_by (absent_fate q h none)
 
 by_missing : (j : Journey) → reached_by (missing_by j) ≡ None
 by_missing (journeys.Reached end) = refl
 by_missing (journeys.Stopped phase s) = refl
 
 -- toward an end that isn't there nothing gets through
-pub missing_reached : (d : Description) (start : Option End) (s : End) (toward : Toward) (h : Header) → start ≡ Some s → toward ≡ towards.Missing → reached_by (fate_of d start toward h) ≡ None
-missing_reached d start s toward h is toward_is =
-    ap (λ (t : Toward). reached_by (fate_of d start t h)) toward_is
-    ∙ (ap (λ (o : Option End). reached_by (fate_of d o towards.Missing h)) is ∙ by_missing (journey_of d (appliances_of d) s None h))
+pub missing_reached : (q : Sent) (s : End) (h : Header) → q.start ≡ Some s → q.toward ≡ towards.Missing → reached q h ≡ None
+missing_reached q s h is toward_is =
+    ap (λ (t : Toward). reached_by (fate_of q.network q.start t h)) toward_is
+    ∙ (ap (λ (o : Option End). reached_by (fate_of q.network o towards.Missing h)) is ∙ by_missing (journey_of q.network (appliances_of q.network) s None h))
 
 by_goal_reached : (goal : End) (v : Verdict) → goal_unless goal (whether (stop_of v)) ≡ reached_by (fate_by (journey_by goal v))
 by_goal_reached goal verdicts.Through = refl
@@ -112,46 +112,40 @@ by_goal_fate goal (verdicts.Stopped phase s) = refl
 
 -- ---- what the probes tell
 
-module _ (d e : Description) (b s : End) (start : Option End) (toward : Toward) (part : Box5) where
-  pub any_reached : (x : Part Journey) (told : Option End) → starting d b ≡ starting e (start_or start) → start ≡ Some s → toward ≡ towards.Any → told ≡ reached_by (fate_by x.told)
+module _ (q : Sent) (d : Description) (b s : End) (part : Box5) (is : q.start ≡ Some s) where
+  pub any_reached : (x : Part Journey) (told : Option End) → starting d b ≡ starting q.network (start_or q.start) → q.toward ≡ towards.Any → told ≡ reached_by (fate_by x.told)
       → Answers (AreAmong (open_cuts d (appliances_of d) b (low_of part))) (journey_of d (appliances_of d) b None) part x
-      → Answers (AreAmong (near (sent e start toward) (low_of part))) (reached (sent e start toward)) part (record { body = x.body; told = told })
-  any_reached x told same is toward_is says k =
-      told_in (sent e start toward) (sent d (Some b) towards.Any) (journey_of d (appliances_of d) b None) reached part x told (λ j. reached_by (fate_by j))
-      (open_sent d e b s start toward towards.Any same is toward_is) (λ h. refl) says k
+      → Answers (AreAmong (near q (low_of part))) (reached q) part (record { body = x.body; told = told })
+  any_reached x told same toward_is says k =
+      told_in q (sent d (Some b) towards.Any) (journey_of d (appliances_of d) b None) reached part x told (λ j. reached_by (fate_by j))
+      (open_sent q d b s is towards.Any same toward_is) (λ h. refl) says k
 
-  pub any_fate : (x : Part Journey) (told : Fate) → starting d b ≡ starting e (start_or start) → start ≡ Some s → toward ≡ towards.Any → told ≡ fate_by x.told
+  pub any_fate : (x : Part Journey) (told : Fate) → starting d b ≡ starting q.network (start_or q.start) → q.toward ≡ towards.Any → told ≡ fate_by x.told
       → Answers (AreAmong (open_cuts d (appliances_of d) b (low_of part))) (journey_of d (appliances_of d) b None) part x
-      → Answers (AreAmong (near (sent e start toward) (low_of part))) (fate (sent e start toward)) part (record { body = x.body; told = told })
-  any_fate x told same is toward_is says k =
-      told_in (sent e start toward) (sent d (Some b) towards.Any) (journey_of d (appliances_of d) b None) fate part x told fate_by
-      (open_sent d e b s start toward towards.Any same is toward_is) (λ h. refl) says k
+      → Answers (AreAmong (near q (low_of part))) (fate q) part (record { body = x.body; told = told })
+  any_fate x told same toward_is says k =
+      told_in q (sent d (Some b) towards.Any) (journey_of d (appliances_of d) b None) fate part x told fate_by
+      (open_sent q d b s is towards.Any same toward_is) (λ h. refl) says k
 
-  pub missing_fate : (x : Part Journey) (told : Fate) → starting d b ≡ starting e (start_or start) → start ≡ Some s → toward ≡ towards.Missing → told ≡ missing_by x.told
+  pub missing_fate : (x : Part Journey) (told : Fate) → starting d b ≡ starting q.network (start_or q.start) → q.toward ≡ towards.Missing → told ≡ missing_by x.told
       → Answers (AreAmong (open_cuts d (appliances_of d) b (low_of part))) (journey_of d (appliances_of d) b None) part x
-      → Answers (AreAmong (near (sent e start toward) (low_of part))) (fate (sent e start toward)) part (record { body = x.body; told = told })
-  missing_fate x told same is toward_is says k =
-      told_in (sent e start toward) (sent d (Some b) towards.Missing) (journey_of d (appliances_of d) b None) fate part x told missing_by
-      (open_sent d e b s start toward towards.Missing same is toward_is) (λ h. refl) says k
+      → Answers (AreAmong (near q (low_of part))) (fate q) part (record { body = x.body; told = told })
+  missing_fate x told same toward_is says k =
+      told_in q (sent d (Some b) towards.Missing) (journey_of d (appliances_of d) b None) fate part x told missing_by
+      (open_sent q d b s is towards.Missing same toward_is) (λ h. refl) says k
 
-  pub goal_reached : (g goal : End) (x : Part (Option (Unit {0}))) (told : Option End) → asked d b g ≡ asked e (start_or start) (goal_or toward) → start ≡ Some s → toward ≡ towards.Goal goal
+  pub goal_reached : (g goal : End) (x : Part (Option (Unit {0}))) (told : Option End) → asked d b g ≡ asked q.network (start_or q.start) (goal_or q.toward) → q.toward ≡ towards.Goal goal
       → told ≡ goal_unless goal x.told → Answers (AreAmong (near_cuts d (appliances_of d) b g (low_of part))) (stopped_of (asked d b g)) part x
-      → Answers (AreAmong (near (sent e start toward) (low_of part))) (reached (sent e start toward)) part (record { body = x.body; told = told })
-  goal_reached g goal x told same is toward_is says k =
-      told_in (sent e start toward) (sent d (Some b) (towards.Goal g)) (stopped_of (asked d b g)) reached part x told (goal_unless goal)
-      (round_sent d e b g s goal start toward same is toward_is)
-      (λ h.
-      ap (λ (y : End). goal_unless y (stopped_of (asked d b g) h)) (sym (one_goal d e b g (start_or start) goal toward same toward_is))
-      ∙ by_goal_reached g (verdict_of d (appliances_of d) b g h))
+      → Answers (AreAmong (near q (low_of part))) (reached q) part (record { body = x.body; told = told })
+  goal_reached g goal x told same toward_is says k =
+      told_in q (sent d (Some b) (towards.Goal g)) (stopped_of (asked d b g)) reached part x told (goal_unless goal) (round_sent q d b s is g goal same toward_is)
+      (λ h. ap (λ (y : End). goal_unless y (stopped_of (asked d b g) h)) (sym (one_goal q d b s is g goal same toward_is)) ∙ by_goal_reached g (verdict_of d (appliances_of d) b g h))
       says k
 
-  pub goal_fate : (g goal : End) (x : Part (Option (Phase × Stop))) (told : Fate) → asked d b g ≡ asked e (start_or start) (goal_or toward) → start ≡ Some s → toward ≡ towards.Goal goal
+  pub goal_fate : (g goal : End) (x : Part (Option (Phase × Stop))) (told : Fate) → asked d b g ≡ asked q.network (start_or q.start) (goal_or q.toward) → q.toward ≡ towards.Goal goal
       → told ≡ fate_unless goal x.told → Answers (AreAmong (near_cuts d (appliances_of d) b g (low_of part))) (word_of (asked d b g)) part x
-      → Answers (AreAmong (near (sent e start toward) (low_of part))) (fate (sent e start toward)) part (record { body = x.body; told = told })
-  goal_fate g goal x told same is toward_is says k =
-      told_in (sent e start toward) (sent d (Some b) (towards.Goal g)) (word_of (asked d b g)) fate part x told (fate_unless goal)
-      (round_sent d e b g s goal start toward same is toward_is)
-      (λ h.
-      ap (λ (y : End). fate_unless y (word_of (asked d b g) h)) (sym (one_goal d e b g (start_or start) goal toward same toward_is))
-      ∙ by_goal_fate g (verdict_of d (appliances_of d) b g h))
+      → Answers (AreAmong (near q (low_of part))) (fate q) part (record { body = x.body; told = told })
+  goal_fate g goal x told same toward_is says k =
+      told_in q (sent d (Some b) (towards.Goal g)) (word_of (asked d b g)) fate part x told (fate_unless goal) (round_sent q d b s is g goal same toward_is)
+      (λ h. ap (λ (y : End). fate_unless y (word_of (asked d b g) h)) (sym (one_goal q d b s is g goal same toward_is)) ∙ by_goal_fate g (verdict_of d (appliances_of d) b g h))
       says k

@@ -30,28 +30,20 @@ none_changes before after (Err b) (Err a) none other = refl
 
 -- ---- the answer of one network
 
-pub opened_answers : (before after : Sent) (end : End) (part : Box5) (x : Part Fate) (told : Option Change) (n m : Description) → n ≡ before.network → m ≡ after.network
-    → told ≡ change_by n m x.told (Ok end) → Answers (AreAmong (near before (low_of part))) (fate before) part x
+pub opened_answers : (before after : Sent) (end : End) (part : Box5) (x : Part Fate) (told : Option Change) → told ≡ change_by before.network after.network x.told (Ok end)
+    → Answers (AreAmong (near before (low_of part))) (fate before) part x
     → Answers (AreAmong (near before (low_of part))) (opened_at before after end) part (record { body = x.body; told = told })
-opened_answers before after end part x told n m first second is k = record {
-  told = λ h i.
-      is
-      ∙ (ap (λ (d : Description). change_by d m x.told (Ok end)) first
-      ∙ (ap (λ (d : Description). change_by before.network d x.told (Ok end)) second
-      ∙ ap (λ (y : Fate). change_by before.network after.network y (Ok end)) (k.told h i)));
+opened_answers before after end part x told is k = record {
+  told = λ h i. is ∙ ap (λ (y : Fate). change_by before.network after.network y (Ok end)) (k.told h i);
   body = k.body;
   aligned = k.aligned;
 }
 
-pub closed_answers : (before after : Sent) (end : End) (part : Box5) (x : Part Fate) (told : Option Change) (n m : Description) → n ≡ before.network → m ≡ after.network
-    → told ≡ change_by n m (Ok end) x.told → Answers (AreAmong (near after (low_of part))) (fate after) part x
+pub closed_answers : (before after : Sent) (end : End) (part : Box5) (x : Part Fate) (told : Option Change) → told ≡ change_by before.network after.network (Ok end) x.told
+    → Answers (AreAmong (near after (low_of part))) (fate after) part x
     → Answers (AreAmong (near after (low_of part))) (closed_at before after end) part (record { body = x.body; told = told })
-closed_answers before after end part x told n m first second is k = record {
-  told = λ h i.
-      is
-      ∙ (ap (λ (d : Description). change_by d m (Ok end) x.told) first
-      ∙ (ap (λ (d : Description). change_by before.network d (Ok end) x.told) second
-      ∙ ap (change_by before.network after.network (Ok end)) (k.told h i)));
+closed_answers before after end part x told is k = record {
+  told = λ h i. is ∙ ap (change_by before.network after.network (Ok end)) (k.told h i);
   body = k.body;
   aligned = k.aligned;
 }

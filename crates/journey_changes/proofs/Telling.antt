@@ -76,7 +76,7 @@ goal_told d start goal h accepted there described =
 
 -- ---- fates
 
-abbrev IsFateTold : Description → Fate → Type 0
+abbrev pub IsFateTold : Description → Fate → Type 0
 IsFateTold d (Ok end) = is_end d end ≡ true
 IsFateTold d (Err barrier) = CanBeTold d barrier
 
@@ -94,7 +94,8 @@ from_told d start towards.Missing h accepted there known = missing_journey d (jo
 from_told d start (towards.Goal goal) h accepted there known =
     by_journey d (journey_of d (appliances_of d) start (Some goal) h) (goal_told d start goal h accepted there known)
 
-fate_told : (d : Description) (start : Option End) (toward : Toward) (h : Header) → IsAccepted d → IfSome start (λ e. is_end d e ≡ true) → IsToward d toward
+-- what becomes of a request can be told
+pub fate_told : (d : Description) (start : Option End) (toward : Toward) (h : Header) → IsAccepted d → IfSome start (λ e. is_end d e ≡ true) → IsToward d toward
     → IsFateTold d (fate_of d start toward h)
 fate_told d None toward h accepted there known = tt
 fate_told d (Some start) toward h accepted there known = from_told d start toward h accepted there known

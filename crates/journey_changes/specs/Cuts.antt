@@ -18,7 +18,8 @@ from_among d start towards.Any h = open_cuts_are_among_all d start h
 from_among d start towards.Missing h = open_cuts_are_among_all d start h
 from_among d start (towards.Goal goal) h = near_cuts_are_among_all d (appliances_of d) start goal h
 
-along_among : (d : Description) (start : Option End) (toward : Toward) (h : Header) → AreAmong (cuts_along d start toward h) (cuts_of d)
+-- the near cuts are among those of the description
+pub along_among : (d : Description) (start : Option End) (toward : Toward) (h : Header) → AreAmong (cuts_along d start toward h) (cuts_of d)
 along_among d None toward h = none_among (cuts_of d)
 along_among d (Some start) toward h = from_among d start toward h
 

@@ -16,21 +16,63 @@ use fabric::Fabric;
 use header_boxes::Box5;
 use ordered_cover::Probe;
 use reference_check::Network;
+use std::marker::Model;
 use vpc_model::End;
+
+// Requests from a start, where the network has it, and where they are to arrive.
+#[derive(Drop)]
+struct Requests<'a> {
+    fabric: &'a Fabric,
+    start: Option<End>,
+    toward: Toward,
+}
+
+impl<'a> Model for Requests<'a> {
+    ghost use Rattle.journey_changes.specs.Sent.{Sent, sent};
+
+    ghost Value = { Sent };
+
+    ghost view = { λ r. sent r.fabric.now r.start r.toward };
+}
+
+impl<'a> Requests<'a> {
+    fn network(&self) -> &Network
+        ensures { result.now ≡ self.now.network }
+    {
+        self.fabric.network()
+    }
+
+    fn start(&self) -> Option<End>
+        ensures { result ≡ self.now.start }
+    {
+        self.start
+    }
+
+    fn toward(&self) -> Toward
+        ensures { result ≡ self.now.toward }
+    {
+        self.toward
+    }
+
+    fn turn(&mut self, start: Option<End>)
+        ensures { self.new ≡ sent self.old.network start self.old.toward }
+    {
+        self.start = start;
+    }
+}
 
 /// What becomes of requests that are sent in one network. A part that is answered is one on which the answer depends on
 /// the cuts at the places of the journey alone.
 #[derive(Drop)]
 pub struct FateProbe<'a> {
-    fabric: &'a Fabric,
-    start: Option<End>,
-    toward: Toward,
+    // Contracts see it as the network, the start and where requests are to arrive.
+    sent: Requests<'a>,
     // Where the network has no such start, or there is no goal, these are never asked.
     open: OpenProbe<'a>,
     round: RoundProbe<'a>,
-    ghost same_open: { starting open.fabric.now open.start ≡ starting fabric.now (start_or start) },
+    ghost same_open: { starting open.fabric.now open.start ≡ starting sent.network (start_or sent.start) },
     ghost same_round: { asked round.fabric.now round.start round.goal
-        ≡ asked fabric.now (start_or start) (goal_or toward) },
+        ≡ asked sent.network (start_or sent.start) (goal_or sent.toward) },
 }
 
 fn start_or(start: Option<End>) -> End
@@ -62,12 +104,14 @@ impl<'a> FateProbe<'a> {
     ) -> FateProbe<'a>
         requires appliances { deciders.now.appliances ≡ appliances_of f.now }
         requires ends { AreSentWell (sent f.now start toward) }
-        ensures { sent result.fabric.now result.start result.toward ≡ sent f.now start toward }
+        ensures { result.sent ≡ sent f.now start toward }
     {
         FateProbe {
-            fabric: f,
-            start,
-            toward,
+            sent: Requests {
+                fabric: f,
+                start,
+                toward,
+            },
             open: OpenProbe::of(f, deciders, start_or(start)),
             round: RoundProbe::of(f, deciders, start_or(start), goal_or(toward)),
         }
@@ -75,31 +119,29 @@ impl<'a> FateProbe<'a> {
 
     /// Asks about requests from another start from here on, by the same moments: many starts are asked about by one probe.
     pub fn turn(&mut self, start: Option<End>)
-        requires { AreSentWell (sent self.old.fabric.now start self.old.toward) }
-        ensures { sent self.new.fabric.now self.new.start self.new.toward
-            ≡ sent self.old.fabric.now start self.old.toward }
+        requires { AreSentWell (sent self.old.sent.network start self.old.sent.toward) }
+        ensures { self.new.sent ≡ sent self.old.sent.network start self.old.sent.toward }
     {
-        self.start = start;
+        self.sent.turn(start);
         self.open.turn(start_or(start));
-        self.round.turn(start_or(start), goal_or(self.toward));
+        self.round
+            .turn(start_or(start), goal_or(self.sent.toward()));
     }
 
     /// Its network.
     pub(crate) fn network(&self) -> &Network
-        ensures { result.now ≡ self.now.fabric.now }
+        ensures { result.now ≡ self.now.sent.network }
     {
-        self.fabric.network()
+        self.sent.network()
     }
 
     // Which end requests from a start that is there reach.
     fn reached_from(&self, start: End, sides: &Box5) -> Part<Option<End>>
         requires valid { IsValid sides.now }
-        requires start { self.now.start ≡ Some start }
-        ensures { Answers
-            (AreAmong (near (sent self.now.fabric.now self.now.start self.now.toward) (low_of sides.now)))
-            (reached (sent self.now.fabric.now self.now.start self.now.toward)) sides.now result }
+        requires start { self.now.sent.start ≡ Some start }
+        ensures { Answers (AreAmong (near self.now.sent (low_of sides.now))) (reached self.now.sent) sides.now result }
     {
-        match self.toward {
+        match self.sent.toward() {
             Toward::Missing => Part {
                 body: *sides,
                 told: None,
@@ -125,11 +167,9 @@ impl<'a> FateProbe<'a> {
     /// which that is told.
     pub fn reached_on(&self, sides: &Box5) -> Part<Option<End>>
         requires { IsValid sides.now }
-        ensures { Answers
-            (AreAmong (near (sent self.now.fabric.now self.now.start self.now.toward) (low_of sides.now)))
-            (reached (sent self.now.fabric.now self.now.start self.now.toward)) sides.now result }
+        ensures { Answers (AreAmong (near self.now.sent (low_of sides.now))) (reached self.now.sent) sides.now result }
     {
-        match self.start {
+        match self.sent.start() {
             Some(start) => self.reached_from(start, sides),
             None => Part {
                 body: *sides,
@@ -141,12 +181,10 @@ impl<'a> FateProbe<'a> {
     // What becomes of requests from a start that is there.
     fn fate_from(&self, start: End, sides: &Box5) -> Part<Result<End, Barrier>>
         requires valid { IsValid sides.now }
-        requires start { self.now.start ≡ Some start }
-        ensures { Answers
-            (AreAmong (near (sent self.now.fabric.now self.now.start self.now.toward) (low_of sides.now)))
-            (fate (sent self.now.fabric.now self.now.start self.now.toward)) sides.now result }
+        requires start { self.now.sent.start ≡ Some start }
+        ensures { Answers (AreAmong (near self.now.sent (low_of sides.now))) (fate self.now.sent) sides.now result }
     {
-        match self.toward {
+        match self.sent.toward() {
             Toward::Any => {
                 let answer = self.open.journey_on(sides);
                 Part {
@@ -174,11 +212,9 @@ impl<'a> FateProbe<'a> {
     /// What becomes of the requests of a part of the sides.
     pub fn fate_on(&self, sides: &Box5) -> Part<Result<End, Barrier>>
         requires { IsValid sides.now }
-        ensures { Answers
-            (AreAmong (near (sent self.now.fabric.now self.now.start self.now.toward) (low_of sides.now)))
-            (fate (sent self.now.fabric.now self.now.start self.now.toward)) sides.now result }
+        ensures { Answers (AreAmong (near self.now.sent (low_of sides.now))) (fate self.now.sent) sides.now result }
     {
-        match self.start {
+        match self.sent.start() {
             Some(start) => self.fate_from(start, sides),
             None => Part {
                 body: *sides,

@@ -1,18 +1,16 @@
 use Rattle.std.proofs.Common.{map, string_bytes}
 use Rattle.command_job.proofs.Answers.{if_ok}
 use Rattle.change_report.specs.Answered.{IsAnswerTo, IsPrinted}
-use Rattle.change_report.specs.Asked.{Comparison, comparison}
 use Rattle.change_report.proofs.AnswerLemmas.{answered_by}
 use Rattle.change_report.proofs.answers.answer_asked.Goals as goal
 
 pub returns : goal.returns
 returns g c =
-    let asked = c.args.asked.now in
-    let all : Comparison = comparison asked.before.now asked.after.now asked.query.now in
+    let all = c.args.asked.now.compared in
     let words = map string_bytes c.args.words.now in
     let body = c.in_ok-body.body in
     if_ok (λ a. IsPrinted all words body.text.items body.count body.next a.status a.text.items) (λ a. IsAnswerTo all words a.status a.text.items) c.answer_body.result
-    (λ a. answered_by all words c.network-before.result.now c.network-after.result.now c.network-before.ensures c.network-after.ensures
+    (λ a. answered_by all words c.before-before.result.now c.after-after.result.now c.query-query.result.now c.before-before.ensures c.after-after.ensures c.query-query.ensures
     c.in_ok-targets.targets.items c.as_slice.result.now c.in_ok-starts.starts.items c.as_slice-2.result.now body.text.items body.count body.next a.status a.text.items
     c.as_slice.ensures.value c.in_ok-targets.ensures c.as_slice-2.ensures.value c.in_ok-starts.ensures.starts c.in_ok-body.ensures)
     c.answer_body.ensures

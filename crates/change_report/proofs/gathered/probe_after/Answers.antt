@@ -1,17 +1,15 @@
-use Rattle.std.proofs.Common.{◌∙◌, None, ap, subst, sym}
-use Rattle.journey_changes.specs.Sent.{AreSentWell, sent}
-use Rattle.journey_changes.specs.declared.fates.Toward.{Toward}
-use Rattle.change_report.specs.Asked.{comparison}
-use Rattle.change_report.proofs.GatherLemmas.{from_nowhere_after}
+use Rattle.std.proofs.Common.{◌∙◌, None, subst, sym}
+use Rattle.journey_changes.specs.Sent.{AreSentWell, Sent}
+use Rattle.change_report.proofs.GatherLemmas.{from_nowhere_after, sent_after-as}
 use Rattle.change_report.proofs.gathered.probe_after.Goals as goal
 
 pub of-requires-clause-ends : goal.of-requires-clause-ends
 of-requires-clause-ends g c =
-    let asked = c.args.asked.now in
-    subst (λ (t : Toward). AreSentWell (sent asked.after.now None t)) (sym c.toward_after.ensures)
-    (from_nowhere_after (comparison asked.before.now asked.after.now asked.query.now) c.requires)
+    let all = c.args.asked.now.compared in
+    subst (λ (s : Sent). AreSentWell s) (sym (sent_after-as all None c.fabric_after.result.now c.query.result.now c.toward_after.result c.fabric_after.ensures c.query.ensures c.toward_after.ensures))
+    (from_nowhere_after all c.requires)
 
 pub returns : goal.returns
 returns g c =
-    let asked = c.args.asked.now in
-    c.of.ensures ∙ ap (λ (t : Toward). sent asked.after.now None t) c.toward_after.ensures
+    let all = c.args.asked.now.compared in
+    c.of.ensures ∙ sent_after-as all None c.fabric_after.result.now c.query.result.now c.toward_after.result c.fabric_after.ensures c.query.ensures c.toward_after.ensures

@@ -1,3 +1,4 @@
+use Rattle.std.proofs.Common.{◌∙◌, sym}
 use Rattle.vpc_model.specs.Appliances.{appliances_of}
 use Rattle.vpc_model.specs.Near.{near_cuts}
 use Rattle.header_boxes.specs.Boxes.{low_of}
@@ -8,14 +9,14 @@ use Rattle.journey_changes.proofs.probe.FateProbe.fate_from.Goals as goal
 pub returns-in-Any : goal.returns-in-Any
 returns-in-Any g c =
     let p = c.args.self.now in
-    any_fate p.open.fabric.now p.fabric.now p.open.start c.args.start p.start p.toward c.args.sides.now c.journey_on-answer.result c.fate_by.result
-    p.same_open c.requires.start c.in-Any.is c.fate_by.ensures c.journey_on-answer.ensures
+    any_fate p.sent p.open.fabric.now p.open.start c.args.start c.args.sides.now c.requires.start c.journey_on-answer.result c.fate_by.result
+    p.same_open (sym c.toward.ensures ∙ c.in-Any.is) c.fate_by.ensures c.journey_on-answer.ensures
 
 pub returns-in-Missing : goal.returns-in-Missing
 returns-in-Missing g c =
     let p = c.args.self.now in
-    missing_fate p.open.fabric.now p.fabric.now p.open.start c.args.start p.start p.toward c.args.sides.now c.journey_on-answer-in-Missing.result c.missing_by.result
-    p.same_open c.requires.start c.in-Missing.is c.missing_by.ensures c.journey_on-answer-in-Missing.ensures
+    missing_fate p.sent p.open.fabric.now p.open.start c.args.start c.args.sides.now c.requires.start c.journey_on-answer-in-Missing.result c.missing_by.result
+    p.same_open (sym c.toward.ensures ∙ c.in-Missing.is) c.missing_by.ensures c.journey_on-answer-in-Missing.ensures
 
 pub returns-in-Goal : goal.returns-in-Goal
 returns-in-Goal g c =
@@ -23,7 +24,7 @@ returns-in-Goal g c =
     let d = p.round.fabric.now in
     let answer = c.probe-told.result in
     let says = c.probe-told.ensures in
-    goal_fate d p.fabric.now p.round.start c.args.start p.start p.toward c.args.sides.now p.round.goal c.in-Goal.goal (record { body = answer.0; told = answer.1 }) c.fate_unless.result
-    p.same_round c.requires.start c.in-Goal.is c.fate_unless.ensures
+    goal_fate p.sent d p.round.start c.args.start c.args.sides.now c.requires.start p.round.goal c.in-Goal.goal (record { body = answer.0; told = answer.1 }) c.fate_unless.result
+    p.same_round (sym c.toward.ensures ∙ c.in-Goal.is) c.fate_unless.ensures
     (told_by_probe (near_cuts d (appliances_of d) p.round.start p.round.goal (low_of c.args.sides.now)) (word_of (asked d p.round.start p.round.goal)) c.args.sides.now answer.0 answer.1
     says.within says.low says.aligned says.means)
