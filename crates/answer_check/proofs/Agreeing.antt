@@ -1,0 +1,62 @@
+-- What an agreement tells.
+use Rattle.std.proofs.Common.{◌≡◌, ◌≢◌, ◌∙◌, Bool, Err, IfOk, List, None, Ok, Option, Result, Some, ap, false, if◌then◌else◌, refl, subst, sym, true, ℕ}
+use Rattle.std.specs.Prelude.{bytes_eq, option_map}
+use Rattle.std.proofs.lemmas.Slice.Eq.{bytes_eq-Decides}
+use Rattle.header_boxes.specs.Rows.{IsFirst}
+use Rattle.journey_changes.specs.Sent.{Sent, reached}
+use Rattle.listing_check.specs.Looks.{IsOther}
+use Rattle.vpc_laws.specs.Types.{Box5, Description, End, Header}
+use Rattle.vpc_model.specs.Told.{end_id}
+use Rattle.answer_check.specs.Agreement.{agreed, agreement_of, end_told}
+
+-- ---- texts
+
+if_some : (b : Bool) → (if b then Some (tt {0}) else None) ≢ None → b ≡ true
+if_some true some = refl
+if_some false some = absurd (some refl)
+
+if_none : (b : Bool) → (if b then Some (tt {0}) else None) ≡ None → b ≢ true
+if_none true none = absurd (cc)
+if_none false none = λ is. cc
+
+-- one text, or none
+pub agreed-some : (wanted told : Option (List ℕ)) → agreed wanted told ≢ None → told ≡ wanted
+agreed-some None None some = refl
+agreed-some None (Some text) some = absurd (some refl)
+agreed-some (Some text) None some = absurd (some refl)
+agreed-some (Some one) (Some other) some = let decides = bytes_eq-Decides one other in ap Some (sym (decides.0 (if_some (bytes_eq one other) some)))
+
+-- two texts, or one alone
+pub agreed-none : (wanted told : Option (List ℕ)) → agreed wanted told ≡ None → told ≢ wanted
+agreed-none None None none = absurd (cc)
+agreed-none None (Some text) none = λ is. cc
+agreed-none (Some text) None none = λ is. cc
+agreed-none (Some one) (Some other) none = λ is.
+    let decides = bytes_eq-Decides one other in
+    let same : one ≡ other = cc in
+    if_none (bytes_eq one other) none (decides.1 same)
+
+-- ---- headers of a box
+
+-- by the end that all requests of a part reach
+pub agreement_of-part : (s : Sent) (d : Description) (wanted : Option (List ℕ)) (told : Option End) (h : Header) → s.network ≡ d → told ≡ reached s h
+    → agreement_of s wanted h ≡ agreed wanted (option_map (end_id d) told)
+unfolding agreement_of
+agreement_of-part s d wanted told h same is =
+    ap (λ (o : Option End). agreed wanted (option_map (end_id s.network) o)) (sym is)
+    ∙ ap (λ (x : Description). agreed wanted (option_map (end_id x) told)) same
+
+other_if_first : (s : Sent) (wanted : Option (List ℕ)) (part : Box5) (o : Option Header) → IsFirst (agreement_of s wanted) part o → IsOther (end_told s) wanted part o
+unfolding agreement_of
+other_if_first s wanted part None none = λ h held. agreed-some wanted (end_told s h) (none h held)
+other_if_first s wanted part (Some h) found = record {
+  inside = found.inside;
+  other = agreed-none wanted (end_told s h) found.through;
+  first = λ k held before. agreed-some wanted (end_told s k) (found.first k held before);
+}
+
+-- the first header that isn't agreed on is the first of which something else is told
+pub other_if_found : {E : Type 0} (meaning : Header → Option (Unit {0})) (s : Sent) (wanted : Option (List ℕ)) (part : Box5) (r : Result (Option Header) E) → meaning ≡ agreement_of s wanted
+    → IfOk r (IsFirst meaning part) → IfOk r (IsOther (end_told s) wanted part)
+other_if_found meaning s wanted part (Ok o) same found = other_if_first s wanted part o (subst (λ (m : Header → Option (Unit {0})). IsFirst m part o) same found)
+other_if_found meaning s wanted part (Err e) same found = tt

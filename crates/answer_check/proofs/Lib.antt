@@ -1,0 +1,13 @@
+pub mod FirstLines
+pub mod Agreeing
+pub mod Starts
+pub mod Fates
+pub mod Checked
+pub mod Same
+pub mod Decided
+pub mod DiffPieces
+pub mod DiffAgreeing
+pub mod DiffLists
+pub mod DiffOrder
+pub mod DiffChecking
+pub mod DiffDecided

@@ -1,0 +1,20 @@
+-- Whether what is told of a request is what is wanted of it.
+use Rattle.std.specs.Prelude.{if◌then◌else◌, List, None, Option, Some, bytes_eq, option_map, ℕ}
+use Rattle.journey_changes.specs.Sent.{Sent, reached}
+use Rattle.vpc_laws.specs.Types.{Header}
+use Rattle.vpc_model.specs.Told.{end_id}
+
+-- a word where both are one text, or neither is there
+abbrev pub agreed : Option (List ℕ) → Option (List ℕ) → Option (Unit {0})
+agreed None None = Some tt
+agreed None (Some told) = None
+agreed (Some wanted) None = None
+agreed (Some wanted) (Some told) = if bytes_eq wanted told then Some tt else None
+
+-- the id of the end that a request reaches
+abbrev pub end_told : Sent → Header → Option (List ℕ)
+end_told s h = option_map (end_id s.network) (reached s h)
+
+-- a word for a request that reaches the end with this id; where none is wanted, for one that reaches no end
+unfoldable pub agreement_of : Sent → Option (List ℕ) → Header → Option (Unit {0})
+agreement_of s wanted h = agreed wanted (end_told s h)
