@@ -1,0 +1,167 @@
+-- The words of `diff`, read with `max N` behind them or without.
+use Rattle.std.proofs.Common.{◌≡◌, ◌∙◌, ◌+◌, ◌<◌, ◌≤◌, Bool, Err, List, None, Ok, Option, Result, Some, ap, arith, codes, false, if◌then◌else◌, refl, subst, sym, true, ℕ}
+use Rattle.std.specs.Str.{bytes_eq}
+use Rattle.std.proofs.lemmas.Bool.{cond-false}
+use Rattle.query_words.specs.ChangeQuery.{before_of, change_query_of, change_sourced, changed_end_of, end_in, given_changed_end, in_either, internet_in_both, named_end}
+use Rattle.query_words.specs.ReachQuery.{apart, reach_pairs_of}
+use Rattle.query_words.specs.Refusal.{◌>>=◌}
+use Rattle.query_words.specs.Words.{word_at}
+use Rattle.query_words.specs.declared.changes.ChangeQuery.{ChangeQuery}
+use Rattle.query_words.specs.declared.changes.ChangedEnd.{ChangedEnd}
+use Rattle.query_words.specs.declared.reaches.ReachPairs.{ReachPairs}
+use Rattle.query_words.specs.declared.refusal.QueryRefusal.{QueryRefusal}
+use Rattle.query_words.specs.declared.refusal.QueryRefusal.TheVariants as refusals
+use Rattle.vpc_laws.proofs.Numbering.{same_bytes}
+use Rattle.vpc_laws.specs.Types.{Description, End}
+use Rattle.vpc_model.specs.Lookup.{has_interface}
+use Rattle.listing_laws.proofs.ShortWords.{IsShortWord, IsShortWord-id}
+use Rattle.listing_laws.specs.Typed.{HasTypedInterfaces}
+use Rattle.listing_laws.proofs.PairsRead.{ArePairsFit, Ended, PairsRead, is_named, pairs_read}
+use Rattle.listing_laws.proofs.Readers.{IsAny, ok_is, then_reader}
+use Rattle.listing_laws.proofs.Taking.{Agree, IsReader, Passed, pair_step, pair_took, passed_both, passed_order, was_taken}
+use Rattle.listing_laws.proofs.Typing.{IsShortWord-described}
+
+-- ---- ends
+
+-- no end of either network
+abbrev no_end : ChangedEnd
+no_end = record { before = None; after = None }
+
+none_named : (before after : Description) (id : List ℕ) → has_interface before id ≡ false → has_interface after id ≡ false
+    → named_end before after id ≡ Ok no_end
+none_named before after id first second =
+    ap (λ (r : Result (Option End) QueryRefusal). r >>= (λ b. end_in after id >>= (λ a. Ok (record { before = b; after = a }))))
+    (cond-false _ _ _ first)
+    ∙ ap (λ (r : Result (Option End) QueryRefusal). r >>= (λ a. Ok (record { before = None; after = a }))) (cond-false _ _ _ second)
+
+end_word : (before after : Description) (id : List ℕ) (n : ℕ) (e : ChangedEnd) (internet first second : Bool) → HasTypedInterfaces before
+    → HasTypedInterfaces after
+    → bytes_eq id (codes "internet") ≡ internet → has_interface before id ≡ first → has_interface after id ≡ second
+    → (if internet then Ok internet_in_both else named_end before after id >>= (λ x. in_either x n)) ≡ Ok e → IsShortWord id
+end_word before after id n e true first second typed_before typed_after internet a b is =
+    subst IsShortWord (sym (same_bytes id (codes "internet") internet)) (IsShortWord-id (codes "internet") refl)
+end_word before after id n e false true second typed_before typed_after internet a b is = IsShortWord-described before id typed_before a
+end_word before after id n e false false true typed_before typed_after internet a b is = IsShortWord-described after id typed_after b
+end_word before after id n e false false false typed_before typed_after internet a b is =
+    let wrong : refused ≡ Ok e = sym (ap (λ (r : Result ChangedEnd QueryRefusal). r >>= (λ x. in_either x n))
+    (none_named before after id a b)) ∙ is in
+    absurd (cc)
+  where
+    refused : Result ChangedEnd QueryRefusal
+    refused = Err (refusals.UnknownId n)
+
+changed_reader : (before after : Description) → HasTypedInterfaces before → HasTypedInterfaces after
+    → IsReader (changed_end_of before after) IsAny
+changed_reader before after typed_before typed_after = record {
+  spelled = λ words n e is.
+      let id = word_at words n in
+      end_word before after id n e (bytes_eq id (codes "internet")) (has_interface before id)
+      (has_interface after id) typed_before typed_after refl refl refl is;
+  value = λ words n e is. tt;
+  same =
+      λ words others n same. ap (λ (id : List ℕ). if bytes_eq id
+      (codes "internet") then Ok internet_in_both else named_end before after id >>= (λ x. in_either x n)) same;
+}
+
+given_changed_reader : (before after : Description) → HasTypedInterfaces before → HasTypedInterfaces after
+    → IsReader (given_changed_end before after) IsAny
+given_changed_reader before after typed_before typed_after =
+    then_reader (changed_end_of before after) IsAny (λ n e. Ok (Some e)) IsAny (changed_reader before after typed_before typed_after)
+    (λ n a b fits is. tt)
+
+-- ---- what follows the ends
+
+abbrev change_with : Option ChangedEnd → Option ChangedEnd → ReachPairs → ChangeQuery
+change_with start goal pairs = record { start = start; goal = goal; pairs = pairs }
+
+abbrev with_source : Description → Description → Option ChangedEnd → Option ChangedEnd → ReachPairs → Result ChangeQuery QueryRefusal
+with_source before after start goal pairs = change_sourced before after start pairs.src >>= (λ source. Ok (change_with start goal pairs))
+
+abbrev after_to : Description → Description → List (List ℕ) → Option ChangedEnd → Option ChangedEnd → ℕ → Result ChangeQuery QueryRefusal
+after_to before after words start goal n =
+    apart (before_of start) (before_of goal) >>= (λ both. reach_pairs_of words n >>= with_source before after start goal)
+
+abbrev after_from : Description → Description → List (List ℕ) → Option ChangedEnd → ℕ → Result ChangeQuery QueryRefusal
+after_from before after words start n =
+    pair_step None (codes "to") (given_changed_end before after) words n (after_to before after words start)
+
+-- ---- the query
+
+-- the same question, for as many rows as may be asked for
+abbrev pub for_most : ChangeQuery → ChangeQuery
+for_most query = record query { pairs = (let pairs = query.pairs in record pairs { max = 20000 }) }
+
+-- the words up to `max` or the end
+pub record ChangeRead (before after : Description) (words : List (List ℕ)) (query : ChangeQuery) : Type 0 where
+  pub stop : ℕ
+  pub passed : Passed words 4 stop
+  pub short : stop ≤ 18
+  pub fits : ArePairsFit query.pairs
+  pub ended : Ended words stop
+  pub again : (last : ℕ) (others : List (List ℕ)) → Agree 3 last words others → stop ≡ last + 1
+      → change_query_of before after others ≡ Ok (for_most query)
+
+-- what is read after the ends
+record PairsFollow (before after : Description) (words : List (List ℕ)) (start goal : Option ChangedEnd) (n : ℕ)
+    (query : ChangeQuery) : Type 0 where
+  stop : ℕ
+  passed : Passed words n stop
+  short : stop ≤ n + 10
+  fits : ArePairsFit query.pairs
+  ended : Ended words stop
+  again : (last : ℕ) (others : List (List ℕ)) → 3 < n → Agree 3 last words others → stop ≡ last + 1
+      → after_to before after others start goal n ≡ Ok (for_most query)
+
+pairs_follow : (before after : Description) (words : List (List ℕ)) (start goal : Option ChangedEnd) (n : ℕ) (query : ChangeQuery)
+    → after_to before after words start goal n ≡ Ok query
+    → PairsFollow before after words start goal n query
+pairs_follow before after words start goal n query is =
+    let both = was_taken (apart (before_of start) (before_of goal))
+    (λ u. reach_pairs_of words n >>= with_source before after start goal) query is in
+    let pairs = was_taken (reach_pairs_of words n) (with_source before after start goal) query both.follows in
+    let source = was_taken (change_sourced before after start pairs.value.src)
+    (λ u. Ok (change_with start goal pairs.value)) query pairs.follows in
+    follow (pairs_read words n pairs.value pairs.taken) both.value source.value both.taken source.taken
+    (ok_is (change_with start goal pairs.value) query source.follows)
+  where
+    follow : {pairs : ReachPairs} → PairsRead words n pairs → (u v : Unit {0}) → apart (before_of start) (before_of goal) ≡ Ok u
+        → change_sourced before after start pairs.src ≡ Ok v → change_with start goal pairs ≡ query
+        → PairsFollow before after words start goal n query
+    follow {pairs = pairs} r u v both source same = record {
+      stop = r.stop;
+      passed = r.passed;
+      short = r.short;
+      fits = subst (λ (q : ChangeQuery). ArePairsFit q.pairs) same r.fits;
+      ended = r.ended;
+      again = λ last others over agree stops.
+          ap (λ (x : Result (Unit {0}) QueryRefusal). x >>= (λ w. reach_pairs_of others n >>= with_source before after start goal)) both
+          ∙ (ap (λ (x : Result ReachPairs QueryRefusal). x >>= with_source before after start goal) (r.again 3 last others over agree stops)
+          ∙ (ap (λ (x : Result (Unit {0}) QueryRefusal). x >>= (λ w. Ok (change_with start goal (record pairs { max = 20000 })))) source
+          ∙ ap (λ (q : ChangeQuery). Ok (for_most q)) same));
+    }
+
+pub change_read : (before after : Description) (words : List (List ℕ)) (query : ChangeQuery) → HasTypedInterfaces before
+    → HasTypedInterfaces after → change_query_of before after words ≡ Ok query
+    → ChangeRead before after words query
+change_read before after words query typed_before typed_after is =
+    let reader = given_changed_reader before after typed_before typed_after in
+    let read = given_changed_end before after in
+    let from = pair_took None (codes "from") read IsAny words 4 (after_from before after words) query
+    (is_named (codes "from") refl refl) reader tt is in
+    let to = pair_took None (codes "to") read IsAny words from.after (after_to before after words from.value) query
+    (is_named (codes "to") refl refl) reader tt from.follows in
+    let f = pairs_follow before after words from.value to.value to.after query to.follows in
+    let a = passed_order words 4 from.after from.passed in
+    let b = passed_order words from.after to.after to.passed in
+    let c = passed_order words to.after f.stop f.passed in
+    record {
+      stop = f.stop;
+      passed = passed_both words 4 from.after f.stop from.passed (passed_both words from.after to.after f.stop to.passed f.passed);
+      short = omega (arith, from.short, to.short, f.short);
+      fits = f.fits;
+      ended = f.ended;
+      again = λ last others agree stops.
+          from.again 3 last others (after_from before after others) (for_most query) (omega arith) agree (omega (arith, b, c, stops))
+          (to.again 3 last others (after_to before after others from.value) (for_most query) (omega (arith, a)) agree
+          (omega (arith, c, stops)) (f.again last others (omega (arith, a, b)) agree stops));
+    }

@@ -1,0 +1,46 @@
+-- Ids are words, also those of interfaces that aren't described.
+use Rattle.std.proofs.Common.{◌≡◌, ◌<◌, ◌^◌, ◌∷◌, [], All, IfSome, List, codes, refl, subst, suc, true, zero, ℕ}
+use Rattle.std.specs.List.{flat_map, slice_index_or}
+use Rattle.std.proofs.lemmas.List.Elements.{All-head, All-nil, All-tail}
+use Rattle.vpc_laws.proofs.Numbering.{ids_are_found}
+use Rattle.vpc_laws.specs.Types.{Description, End, EniNo, Interface}
+use Rattle.vpc_model.specs.Lookup.{both_addresses, eni_no, has_interface, interface_at, no_interface}
+use Rattle.vpc_model.specs.Told.{end_id}
+use Rattle.vpc_model.specs.declared.places.End.TheVariants as ends
+use Rattle.listing_laws.proofs.ShortWords.{IsShortWord, IsShortWord-id, IsShortWord-nil}
+use Rattle.listing_laws.specs.Typed.{HasTypedInterfaces, IsTyped}
+
+-- what is known of an interface with a number, described or not
+pub record HasKnown (e : Interface) : Type 0 where
+  pub id : IsShortWord e.id
+  pub primary : IfSome e.primary (λ a. a < 2 ^ 32)
+  pub addresses : All (λ a. a < 2 ^ 32) (flat_map both_addresses e.addresses)
+
+none_known : HasKnown no_interface
+none_known = record {
+  id = IsShortWord-nil;
+  primary = tt;
+  addresses = All-nil _;
+}
+
+known_at : (rows : List Interface) (k : ℕ) → All IsTyped rows → HasKnown (slice_index_or rows k no_interface)
+known_at [] k typed = none_known
+known_at (e ∷ rows) zero typed =
+    let first = All-head IsTyped e rows typed in
+    record { id = IsShortWord-id e.id first.id; primary = first.primary; addresses = first.addresses }
+known_at (e ∷ rows) (suc k) typed = known_at rows k (All-tail IsTyped e rows typed)
+
+pub known : (d : Description) (i : EniNo) → HasTypedInterfaces d → HasKnown (interface_at d i)
+known d i typed = known_at d.interfaces i.0 typed
+
+-- the id of an end
+pub IsShortWord-end_id : (d : Description) (e : End) → HasTypedInterfaces d → IsShortWord (end_id d e)
+IsShortWord-end_id d ends.Internet typed = IsShortWord-id (codes "internet") refl
+IsShortWord-end_id d (ends.Interface i) typed = let k = known d i typed in k.id
+
+-- an id that is described
+pub IsShortWord-described : (d : Description) (id : List ℕ) → HasTypedInterfaces d → has_interface d id ≡ true → IsShortWord id
+IsShortWord-described d id typed there =
+    let found = (ids_are_found d).interface id there in
+    let k = known d (eni_no d id) typed in
+    subst IsShortWord found.1 k.id

@@ -1,0 +1,4 @@
+pub mod Typed
+pub mod Networks
+pub mod ReachTexts
+pub mod DiffTexts
