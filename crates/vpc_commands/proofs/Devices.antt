@@ -9,7 +9,8 @@ use Rattle.command_job.specs.declared.status.Status.TheVariants as ends
 use Rattle.command_job.proofs.Devices.{description_is_none, memory_is_none, no_device, query_is_none, words_are_none}
 use Rattle.packet_trace.proofs.Decided.{trace_is_none}
 use Rattle.network_reach.proofs.Decided.{ask_is_none}
-use Rattle.report_check.proofs.Decided.{check_is_none}
+use Rattle.answer_check.proofs.Decided.{text_is_none}
+use Rattle.answer_check.proofs.DiffDecided.{diff_check_is_none}
 use Rattle.replay_log.proofs.Decided.{replay_is_none}
 use Rattle.made_reach.proofs.Decided.{make_is_none}
 use Rattle.reach_matrix.proofs.AnswerLemmas.{matrix_tells_of_no_device}
@@ -21,9 +22,9 @@ use Rattle.policy_check.proofs.Decided.{policies_are_of_no_device}
 use Rattle.vpc_commands.specs.Complete.{ReadFailed}
 use Rattle.vpc_commands.specs.Due.{IsAnswered, IsDue}
 use Rattle.vpc_commands.specs.Due as due
-use Rattle.vpc_commands.specs.Files.{IsAnsweredBy, IsAnsweredTo, IsNoNetwork}
+use Rattle.vpc_commands.specs.Files.{IsAnsweredBy, IsAnsweredTo, IsNoNetwork, second_fault, third_fault}
 use Rattle.vpc_commands.specs.Files as files
-use Rattle.vpc_commands.specs.Words.{command_of, file_name, files_of, second_name}
+use Rattle.vpc_commands.specs.Words.{command_of, file_name, files_of, second_name, third_name}
 use Rattle.vpc_commands.specs.declared.words.Command.{Command}
 use Rattle.vpc_commands.specs.declared.words.Command.TheVariants as commands
 use Rattle.vpc_commands.specs.declared.files.Which.{Which}
@@ -48,14 +49,14 @@ in_is_read told failed file answer F status text of_file of_answer (files.no_net
     let read = no_network_is_read told failed file status text none h in (read.0, of_file read.1)
 in_is_read told failed file answer F status text of_file of_answer (files.answered d is so) h = of_answer d so h
 
--- ---- the second file
+-- ---- the file of a text
 
-to_is_read : (told : List ℕ → Option (List ℕ)) (failed : List ℕ → Type 0) (file : List ℕ) (refusal : List ℕ → List ℕ) (answer : List ℕ → Status → List ℕ → Type 0) (F : Type 0) (status : Status) (text : List ℕ)
+to_is_read : (fault : List ℕ) (told : List ℕ → Option (List ℕ)) (failed : List ℕ → Type 0) (file : List ℕ) (refusal : List ℕ → List ℕ) (answer : List ℕ → Status → List ℕ → Type 0) (F : Type 0) (status : Status) (text : List ℕ)
     → (failed file → F) → ((bytes : List ℕ) → answer bytes status text → IsOfDevice status → ⊥)
-    → IsAnsweredTo told failed file refusal answer status text → IsOfDevice status → IsRead status F
-to_is_read told failed file refusal answer F status text of_file none (files.not_read failure status_is says) h = (status_is, of_file failure)
-to_is_read told failed file refusal answer F status text of_file none (files.too_big bytes read long status_is says) h = absurd (no_device status ends.Query status_is query_is_none h)
-to_is_read told failed file refusal answer F status text of_file none (files.answered bytes read few so) h = absurd (none bytes so h)
+    → IsAnsweredTo fault told failed file refusal answer status text → IsOfDevice status → IsRead status F
+to_is_read fault told failed file refusal answer F status text of_file none (files.not_read failure status_is says) h = (status_is, of_file failure)
+to_is_read fault told failed file refusal answer F status text of_file none (files.too_big bytes read long status_is says) h = absurd (no_device status ends.Query status_is query_is_none h)
+to_is_read fault told failed file refusal answer F status text of_file none (files.answered bytes read few so) h = absurd (none bytes so h)
 
 -- ---- the command
 
@@ -73,19 +74,26 @@ answer_is_read commands.Ask words told failed status text is answer h =
     (λ d so device. absurd (ask_is_none d words status text so device)) answer h
 answer_is_read commands.Check words told failed status text is answer h =
     in_is_read told failed (file_name words) _ (ReadFailed words failed) status text (failed_at words failed commands.Check 2 is refl)
-    (λ d so device. to_is_read told failed (second_name words) _ _ (ReadFailed words failed) status text (failed_at words failed commands.Check 3 is refl)
-    (λ bytes. check_is_none d bytes status text) so device) answer h
+    (λ d so device. to_is_read second_fault told failed (second_name words) _ _ (ReadFailed words failed) status text (failed_at words failed commands.Check 3 is refl)
+    (λ bytes. text_is_none d bytes status text) so device) answer h
+answer_is_read commands.CheckDiff words told failed status text is answer h =
+    in_is_read told failed (file_name words) _ (ReadFailed words failed) status text (failed_at words failed commands.CheckDiff 2 is refl)
+    (λ before so device.
+    in_is_read told failed (second_name words) _ (ReadFailed words failed) status text (failed_at words failed commands.CheckDiff 3 is refl)
+    (λ after told_so also.
+    to_is_read third_fault told failed (third_name words) _ _ (ReadFailed words failed) status text (failed_at words failed commands.CheckDiff 4 is refl)
+    (λ bytes. diff_check_is_none before after bytes status text) told_so also) so device) answer h
 answer_is_read commands.Replay words told failed status text is answer h =
     in_is_read told failed (file_name words) _ (ReadFailed words failed) status text (failed_at words failed commands.Replay 2 is refl)
-    (λ d so device. to_is_read told failed (second_name words) _ _ (ReadFailed words failed) status text (failed_at words failed commands.Replay 3 is refl)
+    (λ d so device. to_is_read second_fault told failed (second_name words) _ _ (ReadFailed words failed) status text (failed_at words failed commands.Replay 3 is refl)
     (λ bytes. replay_is_none d bytes status text) so device) answer h
 answer_is_read commands.Expect words told failed status text is answer h =
     in_is_read told failed (file_name words) _ (ReadFailed words failed) status text (failed_at words failed commands.Expect 2 is refl)
-    (λ d so device. to_is_read told failed (second_name words) _ _ (ReadFailed words failed) status text (failed_at words failed commands.Expect 3 is refl)
+    (λ d so device. to_is_read second_fault told failed (second_name words) _ _ (ReadFailed words failed) status text (failed_at words failed commands.Expect 3 is refl)
     (λ bytes. policies_are_of_no_device d bytes status text) so device) answer h
 answer_is_read commands.Flows words told failed status text is answer h =
     in_is_read told failed (file_name words) _ (ReadFailed words failed) status text (failed_at words failed commands.Flows 2 is refl)
-    (λ d so device. to_is_read told failed (second_name words) _ _ (ReadFailed words failed) status text (failed_at words failed commands.Flows 3 is refl)
+    (λ d so device. to_is_read second_fault told failed (second_name words) _ _ (ReadFailed words failed) status text (failed_at words failed commands.Flows 3 is refl)
     (λ bytes. flows_tell_of_no_device d bytes status text) so device) answer h
 answer_is_read commands.Matrix words told failed status text is answer h =
     in_is_read told failed (file_name words) _ (ReadFailed words failed) status text (failed_at words failed commands.Matrix 2 is refl)

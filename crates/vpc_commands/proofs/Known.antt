@@ -1,15 +1,17 @@
 -- What is due decides the status, where the files are told.
-use Rattle.std.proofs.Common.{◌≡◌, ◌∙◌, ◌<◌, ◌≤◌, ◌⊎◌, ℕ, List, None, Option, Some, Err, Ok, ap, arith, inl, inr, length, subst, sym}
+use Rattle.std.proofs.Common.{◌≡◌, ◌∙◌, ◌∷◌, ◌<◌, ◌≤◌, ◌⊎◌, [], ℕ, List, None, Option, Result, Some, Err, Ok, ap, arith, inl, inr, length, refl, subst, sym}
 use Rattle.serde_json.specs.Data.{Data}
 use Rattle.serde_json.specs.Read.{read}
 use Rattle.vpc_io.specs.Told.{IfTold}
-use Rattle.bundle.specs.Meaning.{IsCause, Means, meaning_of}
+use Rattle.bundle.specs.Meaning.{IsCause, Means, accepted, description_of, judged, meaning_of}
+use Rattle.bundle.specs.Types.{FieldFault, Refusal}
 use Rattle.bundle.specs.declared.refusal.BundleRefusal.{BundleRefusal}
 use Rattle.bundle.specs.declared.refusal.BundleRefusal.TheVariants as causes
 use Rattle.query_words.specs.declared.queries.Query.{Query}
 use Rattle.report_reader.specs.Reports.{report_of_text}
 use Rattle.report_reader.specs.declared.report.Report.{Report}
 use Rattle.vpc_laws.specs.Types.{Description}
+use Rattle.vpc_model.specs.Accepted.{IsAccepted, first_cause, refusals_of}
 use Rattle.command_job.specs.Files.{file_limit}
 use Rattle.command_job.specs.declared.status.Status.{Status}
 use Rattle.command_job.specs.declared.status.Status.TheVariants as ends
@@ -17,7 +19,9 @@ use Rattle.packet_trace.proofs.Decided.{trace_is_decided}
 use Rattle.network_reach.proofs.Decided.{ask_is_decided}
 use Rattle.network_reach.specs.Asked.{IsAnswerTo, IsAsked, report_about}
 use Rattle.network_reach.specs.Asked as asks
-use Rattle.report_check.proofs.Decided.{check_is_decided}
+use Rattle.answer_check.proofs.Decided.{text_is_decided}
+use Rattle.answer_check.proofs.DiffDecided.{diff_check_is_decided}
+use Rattle.answer_check.proofs.FirstLines.{no_listing}
 use Rattle.report_check.specs.Certified.{IsReportDecided}
 use Rattle.report_check.specs.Checked.{IsReportTrue}
 use Rattle.replay_log.proofs.Decided.{replay_is_decided}
@@ -31,9 +35,9 @@ use Rattle.policy_check.proofs.Decided.{expect_is_decided}
 use Rattle.vpc_commands.specs.Complete.{IsComplete, IsFault}
 use Rattle.vpc_commands.specs.Due.{IsAnswered, IsDue}
 use Rattle.vpc_commands.specs.Due as due
-use Rattle.vpc_commands.specs.Files.{AreToldBytes, Describes, IsAnsweredBy, IsAnsweredTo, IsNoNetwork, IsRefused, IsToldNetwork}
+use Rattle.vpc_commands.specs.Files.{AreToldBytes, Describes, IsAnsweredBy, IsAnsweredTo, IsNoNetwork, IsToldNetwork, second_fault, third_fault}
 use Rattle.vpc_commands.specs.Files as files
-use Rattle.vpc_commands.specs.Words.{command_of, file_name, second_name}
+use Rattle.vpc_commands.specs.Words.{command_of, file_name, second_name, third_name}
 use Rattle.vpc_commands.specs.declared.files.Which.{Which}
 use Rattle.vpc_commands.specs.declared.words.Command.{Command}
 use Rattle.vpc_commands.specs.declared.words.Command.TheVariants as commands
@@ -101,14 +105,28 @@ known_in told failed file answer d status text is (files.answered e of_file so) 
     let these = subst (λ (b : List ℕ). Describes b e) (told_is (told file) is.bytes of_file.bytes is.told_so of_file.told_so) of_file.describes in
     inr (subst (λ (n : Description). answer n status text) (described_network is.bytes e d these is.describes) so)
 
--- a fault, or the answer to the told bytes of a second file
-known_to : (told : List ℕ → Option (List ℕ)) (failed : List ℕ → Type 0) (file : List ℕ) (refusal : List ℕ → List ℕ) (answer : List ℕ → Status → List ℕ → Type 0) (bytes : List ℕ) (status : Status) (text : List ℕ)
-    → AreToldBytes told file bytes → IsAnsweredTo told failed file refusal answer status text → IsFault status ⊎ answer bytes status text
-known_to told failed file refusal answer bytes status text is (files.not_read failure status_is says) = inl (inl status_is)
-known_to told failed file refusal answer bytes status text is (files.too_big other read long status_is says) =
+-- a fault, or the answer to the told bytes of a file
+known_to : (fault : List ℕ) (told : List ℕ → Option (List ℕ)) (failed : List ℕ → Type 0) (file : List ℕ) (refusal : List ℕ → List ℕ) (answer : List ℕ → Status → List ℕ → Type 0) (bytes : List ℕ) (status : Status) (text : List ℕ)
+    → AreToldBytes told file bytes → IsAnsweredTo fault told failed file refusal answer status text → IsFault status ⊎ answer bytes status text
+known_to fault told failed file refusal answer bytes status text is (files.not_read failure status_is says) = inl (inl status_is)
+known_to fault told failed file refusal answer bytes status text is (files.too_big other read long status_is says) =
     absurd (too_many other bytes file_limit long is.few (told_is (told file) bytes other is.told_so read))
-known_to told failed file refusal answer bytes status text is (files.answered other read few so) =
+known_to fault told failed file refusal answer bytes status text is (files.answered other read few so) =
     inr (subst (λ (b : List ℕ). answer b status text) (told_is (told file) bytes other is.told_so read) so)
+
+-- ---- networks that are told
+
+by_causes : (d e : Description) (causes : List Refusal) → refusals_of d ≡ causes → accepted d (first_cause causes) ≡ Ok e → IsAccepted e
+by_causes d e [] none is = let same : d ≡ e = cc in subst IsAccepted same none
+by_causes d e (cause ∷ others) some is = absurd cc
+
+judged_accepted : (read_rows : Result Description FieldFault) (d : Description) → judged read_rows ≡ Ok d → IsAccepted d
+judged_accepted (Ok e) d is = by_causes e d (refusals_of e) refl is
+judged_accepted (Err fault) d is = absurd cc
+
+-- the description of a told network is accepted
+told_is_accepted : (told : List ℕ → Option (List ℕ)) (file : List ℕ) (d : Description) → IsToldNetwork told file d → IsAccepted d
+told_is_accepted told file d is = let described = is.describes in judged_accepted (description_of described.value) d described.accepted
 
 -- ---- the command
 
@@ -149,8 +167,8 @@ check_known : (words : List (List ℕ)) (told : List ℕ → Option (List ℕ)) 
     → IsDue words told failed status text → command_of words ≡ Ok commands.Check → IsToldNetwork told (file_name words) d
     → AreToldBytes told (second_name words) bytes → report_of_text d bytes ≡ Ok r → IsFault status ⊎ IsReportDecided d r status
 check_known words told failed d bytes r status text answer named at there reads =
-    or_known (λ known. check_is_decided d bytes status text known r reads)
-    (or_either (known_to told failed (second_name words) _ _ bytes status text there)
+    or_known (λ known. let decided = text_is_decided d bytes status text known in decided.report (no_listing d bytes r reads) r reads)
+    (or_either (known_to second_fault told failed (second_name words) _ _ bytes status text there)
     (or_either (known_in told failed (file_name words) _ d status text at) (known_of commands.Check words told failed status text answer named)))
 
 pub complete_if_due : (words : List (List ℕ)) (told : List ℕ → Option (List ℕ)) (failed : List ℕ → Type 0) (status : Status) (text : List ℕ)
@@ -163,24 +181,29 @@ complete_if_due words told failed status text answer = record {
       or_known (ask_is_decided d words status text)
       (or_either (known_in told failed (file_name words) _ d status text at) (known_of commands.Ask words told failed status text answer named));
   check = λ d bytes named at there.
-      or_known (check_is_decided d bytes status text)
-      (or_either (known_to told failed (second_name words) _ _ bytes status text there)
+      or_known (text_is_decided d bytes status text)
+      (or_either (known_to second_fault told failed (second_name words) _ _ bytes status text there)
       (or_either (known_in told failed (file_name words) _ d status text at) (known_of commands.Check words told failed status text answer named)));
+  check_diff = λ before after bytes named one other there.
+      or_known (diff_check_is_decided before after bytes status text (told_is_accepted told (file_name words) before one) (told_is_accepted told (second_name words) after other))
+      (or_either (known_to third_fault told failed (third_name words) _ _ bytes status text there)
+      (or_either (known_in told failed (second_name words) _ after status text other)
+      (or_either (known_in told failed (file_name words) _ before status text one) (known_of commands.CheckDiff words told failed status text answer named))));
   certified = λ d bytes asked named at there reported.
       let of_ask = reported_is_true d asked bytes reported in
       or_known (λ decided. decided.yes of_ask.true_of)
       (check_known words told failed d bytes of_ask.report status text answer named at (record { told_so = there; few = of_ask.short }) of_ask.reads);
   replay = λ d bytes named at there.
       or_known (replay_is_decided d bytes status text)
-      (or_either (known_to told failed (second_name words) _ _ bytes status text there)
+      (or_either (known_to second_fault told failed (second_name words) _ _ bytes status text there)
       (or_either (known_in told failed (file_name words) _ d status text at) (known_of commands.Replay words told failed status text answer named)));
   expect = λ d bytes named at there.
       or_known (expect_is_decided d bytes status text)
-      (or_either (known_to told failed (second_name words) _ _ bytes status text there)
+      (or_either (known_to second_fault told failed (second_name words) _ _ bytes status text there)
       (or_either (known_in told failed (file_name words) _ d status text at) (known_of commands.Expect words told failed status text answer named)));
   flows = λ d bytes named at there.
       or_known (flows_is_decided d bytes status text)
-      (or_either (known_to told failed (second_name words) _ _ bytes status text there)
+      (or_either (known_to second_fault told failed (second_name words) _ _ bytes status text there)
       (or_either (known_in told failed (file_name words) _ d status text at) (known_of commands.Flows words told failed status text answer named)));
   matrix = λ d named at.
       or_known (matrix_is_decided d words status text)

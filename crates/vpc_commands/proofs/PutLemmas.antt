@@ -26,6 +26,7 @@ complete_if_fault words told status fault = record {
   trace = λ d named at. inl fault;
   ask = λ d named at. inl fault;
   check = λ d bytes named at there. inl fault;
+  check_diff = λ before after bytes named one other there. inl fault;
   certified = λ d bytes asked named at there reported. inl fault;
   replay = λ d bytes named at there. inl fault;
   make = λ named. inl fault;

@@ -11,7 +11,7 @@ use Rattle.command_job.specs.Files.{file_limit}
 use Rattle.command_job.specs.declared.status.Answer.{Answer}
 use Rattle.command_job.specs.declared.status.Status.{Status}
 use Rattle.command_job.specs.declared.status.Status.TheVariants as ends
-use Rattle.vpc_commands.specs.Files.{Describes, IsAnsweredAfter, IsAnsweredTo, IsDescribed, IsNetworkOf, IsNoNetwork, IsRefused, IsTaken, refusal_line}
+use Rattle.vpc_commands.specs.Files.{IsAnsweredAfter, IsAnsweredBy, IsAnsweredTo, IsDescribed, IsNetworkOf, IsNoNetwork, IsRefused, IsTaken, refusal_line}
 use Rattle.vpc_commands.specs.Files as files
 use Rattle.vpc_commands.specs.declared.files.Described.{Described}
 use Rattle.vpc_commands.specs.declared.files.Described.TheVariants as described
@@ -63,17 +63,17 @@ pub none_taken : (which : Which) (told : List ℕ → Option (List ℕ)) (failed
     → x ≡ described.Refused a → IsTaken which told failed file x → IsNoNetwork which told failed file a.status a.text.items
 none_taken which told failed file x a is taken = subst (IsTaken which told failed file) is taken
 
--- ---- the second file
+-- ---- the file of a text
 
 -- what is answered to the bytes that were read is answered to their file
-pub second_of_bytes : (told : List ℕ → Option (List ℕ)) (failed : List ℕ → Type 0) (file bytes : List ℕ) (refusal : List ℕ → List ℕ) (answer : List ℕ → Status → List ℕ → Type 0) (status : Status) (text : List ℕ)
-    → IfTold (told file) (λ b. bytes ≡ b) → length bytes ≤ file_limit → answer bytes status text → IsAnsweredTo told failed file refusal answer status text
-second_of_bytes told failed file bytes refusal answer status text read few is = files.answered bytes (told_bytes (told file) bytes read) few is
+pub text_of_bytes : (fault : List ℕ) (told : List ℕ → Option (List ℕ)) (failed : List ℕ → Type 0) (file bytes : List ℕ) (refusal : List ℕ → List ℕ) (answer : List ℕ → Status → List ℕ → Type 0) (status : Status) (text : List ℕ)
+    → IfTold (told file) (λ b. bytes ≡ b) → length bytes ≤ file_limit → answer bytes status text → IsAnsweredTo fault told failed file refusal answer status text
+text_of_bytes fault told failed file bytes refusal answer status text read few is = files.answered bytes (told_bytes (told file) bytes read) few is
 
-pub second_is_too_big : (told : List ℕ → Option (List ℕ)) (failed : List ℕ → Type 0) (file : List ℕ) (refusal : List ℕ → List ℕ) (answer : List ℕ → Status → List ℕ → Type 0) (status : Status) (text : List ℕ)
+pub text_is_too_big : (fault : List ℕ) (told : List ℕ → Option (List ℕ)) (failed : List ℕ → Type 0) (file : List ℕ) (refusal : List ℕ → List ℕ) (answer : List ℕ → Status → List ℕ → Type 0) (status : Status) (text : List ℕ)
     → IfTold (told file) (λ bytes. file_limit < length bytes) → (status ≡ ends.Query) × (text ≡ refusal (codes "TooBig"))
-    → IsAnsweredTo told failed file refusal answer status text
-second_is_too_big told failed file refusal answer status text long h = let found = some_long (told file) file_limit long in files.too_big found.0 found.1 found.2 h.0 h.1
+    → IsAnsweredTo fault told failed file refusal answer status text
+text_is_too_big fault told failed file refusal answer status text long h = let found = some_long (told file) file_limit long in files.too_big found.0 found.1 found.2 h.0 h.1
 
 -- ---- a shelf that was asked before
 
@@ -83,13 +83,13 @@ rose_before before after now le (inl less) = inl (omega arith)
 rose_before before after now le (inr last) = inr last
 
 -- what is answered by a shelf is answered by one that tells the same, and of which as many files failed
-pub second_before : (told before : List ℕ → Option (List ℕ)) (failed sooner : List ℕ → Type 0) (file : List ℕ) (refusal : List ℕ → List ℕ) (answer : List ℕ → Status → List ℕ → Type 0) (status : Status) (text : List ℕ)
+pub text_before : (fault : List ℕ) (told before : List ℕ → Option (List ℕ)) (failed sooner : List ℕ → Type 0) (file : List ℕ) (refusal : List ℕ → List ℕ) (answer : List ℕ → Status → List ℕ → Type 0) (status : Status) (text : List ℕ)
     → ((n : List ℕ) → told n ≡ before n) → ((n : List ℕ) → failed n → sooner n)
-    → IsAnsweredTo told failed file refusal answer status text → IsAnsweredTo before sooner file refusal answer status text
-second_before told before failed sooner file refusal answer status text same follows (files.not_read failure ends_so says) = files.not_read (follows file failure) ends_so says
-second_before told before failed sooner file refusal answer status text same follows (files.too_big bytes is long ends_so says) =
+    → IsAnsweredTo fault told failed file refusal answer status text → IsAnsweredTo fault before sooner file refusal answer status text
+text_before fault told before failed sooner file refusal answer status text same follows (files.not_read failure ends_so says) = files.not_read (follows file failure) ends_so says
+text_before fault told before failed sooner file refusal answer status text same follows (files.too_big bytes is long ends_so says) =
     files.too_big bytes (subst (λ (o : Option (List ℕ)). IfTold o (λ b. b ≡ bytes)) (same file) is) long ends_so says
-second_before told before failed sooner file refusal answer status text same follows (files.answered bytes is few so) =
+text_before fault told before failed sooner file refusal answer status text same follows (files.answered bytes is few so) =
     files.answered bytes (subst (λ (o : Option (List ℕ)). IfTold o (λ b. b ≡ bytes)) (same file) is) few so
 
 -- ---- the second description
@@ -112,3 +112,12 @@ after_before told before failed sooner file answer status text same follows (fil
 after_before told before failed sooner file answer status text same follows (files.answered d is so) =
     files.answered d
     (record { bytes = is.bytes; told_so = subst (λ (o : Option (List ℕ)). IfTold o (λ b. b ≡ is.bytes)) (same file) is.told_so; describes = is.describes }) so
+
+-- ---- another answer
+
+-- what is answered in the network of a file is answered so too, where it follows in each network
+pub answered_as : {which : Which} (told : List ℕ → Option (List ℕ)) (failed : List ℕ → Type 0) (file : List ℕ) (answer other : Description → Status → List ℕ → Type 0) (status : Status) (text : List ℕ)
+    → ((d : Description) → answer d status text → other d status text)
+    → IsAnsweredBy which told failed file answer status text → IsAnsweredBy which told failed file other status text
+answered_as told failed file answer other status text follows (files.no_network none) = files.no_network none
+answered_as told failed file answer other status text follows (files.answered d is so) = files.answered d is (follows d so)

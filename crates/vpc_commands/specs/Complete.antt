@@ -7,7 +7,8 @@ use Rattle.command_job.specs.declared.status.Status.{Status}
 use Rattle.command_job.specs.declared.status.Status.TheVariants as ends
 use Rattle.packet_trace.specs.Traced.{IsTraceDecided}
 use Rattle.network_reach.specs.Asked.{IsAskDecided, IsAsked}
-use Rattle.report_check.specs.Certified.{IsCheckDecided}
+use Rattle.answer_check.specs.Diffs.{IsDiffListingDecided}
+use Rattle.answer_check.specs.Texts.{IsTextDecided}
 use Rattle.replay_log.specs.Replayed.{IsReplayDecided}
 use Rattle.made_reach.specs.Made.{IsMakeDecided}
 use Rattle.policy_check.specs.Policy.{IsExpectDecided}
@@ -17,7 +18,7 @@ use Rattle.end_reach.specs.Answered.{IsReachDecided}
 use Rattle.change_report.specs.Answered.{IsDiffDecided}
 use Rattle.unused_rules.specs.Answered.{IsUnusedDecided}
 use Rattle.vpc_commands.specs.Files.{AreToldBytes, IsToldNetwork}
-use Rattle.vpc_commands.specs.Words.{command_of, file_name, files_of, second_name}
+use Rattle.vpc_commands.specs.Words.{command_of, file_name, files_of, second_name, third_name}
 use Rattle.vpc_commands.specs.declared.words.Command.{Command}
 use Rattle.vpc_commands.specs.declared.words.Command.TheVariants as commands
 
@@ -32,7 +33,9 @@ pub record IsComplete (words : List (List ℕ)) (told : List ℕ → Option (Lis
   pub ask : (d : Description) → command_of words ≡ Ok commands.Ask → IsToldNetwork told (file_name words) d
       → IsFault status ⊎ IsAskDecided d words status
   pub check : (d : Description) (text : List ℕ) → command_of words ≡ Ok commands.Check → IsToldNetwork told (file_name words) d
-      → AreToldBytes told (second_name words) text → IsFault status ⊎ IsCheckDecided d text status
+      → AreToldBytes told (second_name words) text → IsFault status ⊎ IsTextDecided d text status
+  pub check_diff : (before after : Description) (text : List ℕ) → command_of words ≡ Ok commands.CheckDiff → IsToldNetwork told (file_name words) before
+      → IsToldNetwork told (second_name words) after → AreToldBytes told (third_name words) text → IsFault status ⊎ IsDiffListingDecided before after text status
   -- each report that is due for `ask` in the network gets a yes
   pub certified : (d : Description) (text : List ℕ) (asked : List (List ℕ)) → command_of words ≡ Ok commands.Check → IsToldNetwork told (file_name words) d
       → told (second_name words) ≡ Some text → IsAsked d asked ends.No text → IsFault status ⊎ (status ≡ ends.Yes)

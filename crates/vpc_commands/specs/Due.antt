@@ -7,7 +7,9 @@ use Rattle.command_job.specs.declared.status.Status.{Status}
 use Rattle.command_job.specs.declared.status.Status.TheVariants as ends
 use Rattle.packet_trace.specs.Traced.{IsTraced}
 use Rattle.network_reach.specs.Asked.{IsAsked}
-use Rattle.report_check.specs.Certified.{IsCheckedFrom, report_refusal_line}
+use Rattle.report_check.specs.Certified.{report_refusal_line}
+use Rattle.answer_check.specs.Diffs.{IsDiffChecked}
+use Rattle.answer_check.specs.Texts.{IsTextChecked}
 use Rattle.replay_log.specs.Replayed.{IsReplayedFrom, events_refusal_line}
 use Rattle.made_reach.specs.Made.{IsMade}
 use Rattle.policy_check.specs.Policy.{ArePoliciesJudged, rules_refusal_line}
@@ -15,9 +17,9 @@ use Rattle.flow_check.specs.Answers.{AreFlowsJudged, log_refusal_line}
 use Rattle.reach_matrix.specs.Answered.{IsMatrixAnswered}
 use Rattle.end_reach.specs.Answered.{IsReachAnswered}
 use Rattle.change_report.specs.Answered.{IsDiffAnswered}
-use Rattle.vpc_commands.specs.Files.{IsAnsweredAfter, IsAnsweredIn, IsAnsweredTo}
+use Rattle.vpc_commands.specs.Files.{IsAnsweredAfter, IsAnsweredIn, IsAnsweredTo, second_fault, third_fault}
 use Rattle.unused_rules.specs.Answered.{IsUnusedAnswered}
-use Rattle.vpc_commands.specs.Words.{command_of, file_name, second_name}
+use Rattle.vpc_commands.specs.Words.{command_of, file_name, second_name, third_name}
 use Rattle.vpc_commands.specs.declared.words.Command.{Command}
 use Rattle.vpc_commands.specs.declared.words.Command.TheVariants as commands
 use Rattle.vpc_commands.specs.declared.words.WordsRefusal.{WordsRefusal}
@@ -37,14 +39,17 @@ abbrev pub IsAnswered : Command → List (List ℕ) → (List ℕ → Option (Li
 IsAnswered commands.Trace words told failed = IsAnsweredIn told failed (file_name words) (λ d. IsTraced d words)
 IsAnswered commands.Ask words told failed = IsAnsweredIn told failed (file_name words) (λ d. IsAsked d words)
 IsAnswered commands.Check words told failed =
-    IsAnsweredIn told failed (file_name words) (λ d. IsAnsweredTo told failed (second_name words) report_refusal_line (IsCheckedFrom d))
+    IsAnsweredIn told failed (file_name words) (λ d. IsAnsweredTo second_fault told failed (second_name words) report_refusal_line (IsTextChecked d))
+IsAnswered commands.CheckDiff words told failed =
+    IsAnsweredIn told failed (file_name words) (λ before. IsAnsweredAfter told failed (second_name words)
+    (λ after. IsAnsweredTo third_fault told failed (third_name words) report_refusal_line (IsDiffChecked before after)))
 IsAnswered commands.Replay words told failed =
-    IsAnsweredIn told failed (file_name words) (λ d. IsAnsweredTo told failed (second_name words) events_refusal_line (IsReplayedFrom d))
+    IsAnsweredIn told failed (file_name words) (λ d. IsAnsweredTo second_fault told failed (second_name words) events_refusal_line (IsReplayedFrom d))
 IsAnswered commands.Make words told failed = IsMade words
 IsAnswered commands.Expect words told failed =
-    IsAnsweredIn told failed (file_name words) (λ d. IsAnsweredTo told failed (second_name words) rules_refusal_line (ArePoliciesJudged d))
+    IsAnsweredIn told failed (file_name words) (λ d. IsAnsweredTo second_fault told failed (second_name words) rules_refusal_line (ArePoliciesJudged d))
 IsAnswered commands.Flows words told failed =
-    IsAnsweredIn told failed (file_name words) (λ d. IsAnsweredTo told failed (second_name words) log_refusal_line (AreFlowsJudged d))
+    IsAnsweredIn told failed (file_name words) (λ d. IsAnsweredTo second_fault told failed (second_name words) log_refusal_line (AreFlowsJudged d))
 IsAnswered commands.Matrix words told failed = IsAnsweredIn told failed (file_name words) (λ d. IsMatrixAnswered d words)
 IsAnswered commands.Reach words told failed = IsAnsweredIn told failed (file_name words) (λ d. IsReachAnswered d words)
 IsAnswered commands.Diff words told failed =

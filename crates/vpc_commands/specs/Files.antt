@@ -74,15 +74,22 @@ IsAnsweredIn told failed file answer status text = IsAnsweredBy numbers.First to
 abbrev pub IsAnsweredAfter : (List ℕ → Option (List ℕ)) → (List ℕ → Type 0) → List ℕ → (Description → Status → List ℕ → Type 0) → Status → List ℕ → Type 0
 IsAnsweredAfter told failed file answer status text = IsAnsweredBy numbers.After told failed file answer status text
 
--- ---- the second file
+-- ---- the file of a text
 
--- what is answered to the bytes of a second file, which a line refuses where it is too long
-pub data IsAnsweredTo (told : List ℕ → Option (List ℕ)) (failed : List ℕ → Type 0) (file : List ℕ) (refusal : List ℕ → List ℕ) (answer : List ℕ → Status → List ℕ → Type 0) (status : Status) (text : List ℕ) : Type 0 where
-  not_read : failed file → status ≡ ends.Read → text ≡ line (codes "read fault 2") → IsAnsweredTo told failed file refusal answer status text
+-- that it could not be read, by its number: after one description, and after two
+abbrev pub second_fault : List ℕ
+second_fault = codes "read fault 2"
+
+abbrev pub third_fault : List ℕ
+third_fault = codes "read fault 3"
+
+-- what is answered to its bytes; a line refuses them where they are too many
+pub data IsAnsweredTo (fault : List ℕ) (told : List ℕ → Option (List ℕ)) (failed : List ℕ → Type 0) (file : List ℕ) (refusal : List ℕ → List ℕ) (answer : List ℕ → Status → List ℕ → Type 0) (status : Status) (text : List ℕ) : Type 0 where
+  not_read : failed file → status ≡ ends.Read → text ≡ line fault → IsAnsweredTo fault told failed file refusal answer status text
   too_big : (bytes : List ℕ) → IfTold (told file) (λ b. b ≡ bytes) → file_limit < length bytes
-      → status ≡ ends.Query → text ≡ refusal (codes "TooBig") → IsAnsweredTo told failed file refusal answer status text
+      → status ≡ ends.Query → text ≡ refusal (codes "TooBig") → IsAnsweredTo fault told failed file refusal answer status text
   answered : (bytes : List ℕ) → IfTold (told file) (λ b. b ≡ bytes) → length bytes ≤ file_limit
-      → answer bytes status text → IsAnsweredTo told failed file refusal answer status text
+      → answer bytes status text → IsAnsweredTo fault told failed file refusal answer status text
 
 -- ---- what became of a file
 

@@ -34,16 +34,22 @@ command_named name =
     else (if bytes_eq name (codes "diff") then Some commands.Diff
     else (if bytes_eq name (codes "unused") then Some commands.Unused else None))))))))))
 
--- the command that the first word names
+-- `check` with a third file is about a change
+abbrev pub with_files : ℕ → Command → Command
+with_files n commands.Check = if nat_lt 3 n then commands.CheckDiff else commands.Check
+with_files n command = command
+
+-- the command that the first word names, by how many words there are
 abbrev pub first_named : List (List ℕ) → Option Command
 first_named [] = None
-first_named (w ∷ words) = command_named w
+first_named (w ∷ words) = option_map (with_files (length words + 1)) (command_named w)
 
 -- how many words a command has, its own name included
 abbrev pub count_of : Command → Count
 count_of commands.Trace = record { least = 10; most = 10; pairs = false }
 count_of commands.Ask = record { least = 6; most = 18; pairs = true }
 count_of commands.Check = record { least = 3; most = 3; pairs = false }
+count_of commands.CheckDiff = record { least = 4; most = 4; pairs = false }
 count_of commands.Replay = record { least = 3; most = 3; pairs = false }
 count_of commands.Make = record { least = 2; most = 2; pairs = false }
 count_of commands.Expect = record { least = 3; most = 3; pairs = false }
@@ -58,6 +64,7 @@ abbrev pub files_of : Command → List ℕ
 files_of commands.Trace = 2 ∷ []
 files_of commands.Ask = 2 ∷ []
 files_of commands.Check = 2 ∷ 3 ∷ []
+files_of commands.CheckDiff = 2 ∷ 3 ∷ 4 ∷ []
 files_of commands.Replay = 2 ∷ 3 ∷ []
 files_of commands.Make = []
 files_of commands.Expect = 2 ∷ 3 ∷ []
@@ -116,3 +123,7 @@ file_name words = word_at words 2
 -- the name of the second file, where the command has one
 abbrev pub second_name : List (List ℕ) → List ℕ
 second_name words = word_at words 3
+
+-- that of the third one
+abbrev pub third_name : List (List ℕ) → List ℕ
+third_name words = word_at words 4

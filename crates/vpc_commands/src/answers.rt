@@ -4,9 +4,10 @@ ghost use Rattle.vpc_io.specs.Rose.{Rose};
 ghost use Rattle.vpc_commands.specs.Due.{IsAnswered, IsDue};
 ghost use Rattle.vpc_commands.specs.Words.{HasCount, count_of};
 
-use crate::files::{answer_file, answer_files, answer_networks};
+use crate::files::{answer_change, answer_file, answer_files, answer_networks};
 use crate::refusals::refuse_words;
 use crate::words::{Command, read_words};
+use answer_check::CheckCommand;
 use change_report::DiffCommand;
 use command_job::Answer;
 use end_reach::ReachCommand;
@@ -17,7 +18,6 @@ use packet_trace::TraceCommand;
 use policy_check::ExpectCommand;
 use reach_matrix::MatrixCommand;
 use replay_log::ReplayCommand;
-use report_check::CheckCommand;
 use std::alloc::Global;
 use unused_rules::UnusedCommand;
 use vpc_base::NoMemory;
@@ -38,6 +38,7 @@ fn answer_command<S: Shelf>(
         Command::Trace => answer_file(alloc, &TraceCommand, words, shelf),
         Command::Ask => answer_file(alloc, &AskCommand, words, shelf),
         Command::Check => answer_files(alloc, &CheckCommand, words, shelf),
+        Command::CheckDiff => answer_change(alloc, words, shelf),
         Command::Replay => answer_files(alloc, &ReplayCommand, words, shelf),
         Command::Make => make(alloc, words),
         Command::Matrix => answer_file(alloc, &MatrixCommand, words, shelf),

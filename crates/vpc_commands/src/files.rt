@@ -4,14 +4,18 @@ ghost use Rattle.serde_json.specs.View.{view};
 ghost use Rattle.bundle.specs.Json.{IsJson};
 ghost use Rattle.command_job.specs.Files.{file_limit};
 ghost use Rattle.vpc_io.specs.Rose.{Rose};
-ghost use Rattle.vpc_commands.specs.Files.{IsAnsweredAfter, IsAnsweredIn, IsAnsweredTo, IsDescribed, IsTaken, read_fault};
-ghost use Rattle.vpc_commands.specs.Words.{file_name, second_name};
+ghost use Rattle.answer_check.specs.Diffs.{IsDiffChecked};
+ghost use Rattle.report_check.specs.Certified.{report_refusal_line};
+ghost use Rattle.vpc_commands.specs.Files.{IsAnsweredAfter, IsAnsweredIn, IsAnsweredTo, IsDescribed, IsTaken, read_fault, second_fault, third_fault};
+ghost use Rattle.vpc_commands.specs.Words.{file_name, second_name, third_name};
 
 use crate::refusals::{refuse_bundle, refuse_description};
+use answer_check::check_diff;
 use bundle::{network_of, read_json};
 use command_job::{Answer, OneFile, Status, TwoFiles, TwoNetworks, answer_line};
 use query_words::word;
 use reference_check::Network;
+use report_check::refuse_report;
 use serde_json::Value;
 use std::alloc::Global;
 use std::mem;
@@ -146,7 +150,7 @@ fn answer_second<S: Shelf, C: TwoFiles>(
     file: &str,
     shelf: &mut S,
 ) -> Result<Answer, NoMemory>
-    ensures { IfOk result (λ a. IsAnsweredTo (S.told shelf.old)
+    ensures { IfOk result (λ a. IsAnsweredTo second_fault (S.told shelf.old)
         (λ n. Rose (S.faults shelf.old n) (S.faults shelf.new n)) file.now
         (C.refusal command.now) (C.answers command.now network) a.status a.text.items) }
 {
@@ -177,7 +181,7 @@ pub fn answer_files<S: Shelf, C: TwoFiles>(
     requires files { 3 ≤ length words.now }
     ensures { IfOk result (λ a. IsAnsweredIn (S.told shelf.old)
         (λ n. Rose (S.faults shelf.old n) (S.faults shelf.new n)) (file_name (map string_bytes words.now))
-        (λ d. IsAnsweredTo (S.told shelf.old) (λ n. Rose (S.faults shelf.old n) (S.faults shelf.new n))
+        (λ d. IsAnsweredTo second_fault (S.told shelf.old) (λ n. Rose (S.faults shelf.old n) (S.faults shelf.new n))
         (second_name (map string_bytes words.now)) (C.refusal command.now) (C.answers command.now d))
         a.status a.text.items) }
 {
@@ -240,6 +244,95 @@ pub fn answer_networks<S: Shelf, C: TwoNetworks>(
     let first = describe(alloc, Which::First, Spent::GivenBack, word(words, 2), shelf)?;
     match first {
         Described::Network(before) => answer_after(alloc, command, before, words, shelf),
+        Described::Refused(answer) => Ok(answer),
+    }
+}
+
+// ---- a text about two networks
+
+// What is answered to the third file.
+fn answer_third<S: Shelf>(
+    alloc: Global,
+    before: Network,
+    after: Network,
+    file: &str,
+    shelf: &mut S,
+) -> Result<Answer, NoMemory>
+    ensures { IfOk result (λ a. IsAnsweredTo third_fault (S.told shelf.old)
+        (λ n. Rose (S.faults shelf.old n) (S.faults shelf.new n)) file.now
+        report_refusal_line (IsDiffChecked before after) a.status a.text.items) }
+{
+    match shelf.take(alloc, file, FILE_LIMIT) {
+        Ok(bytes) => check_diff(alloc, before, after, bytes.as_slice()),
+        Err(ShelfFault::Failed) => {
+            leave(before, after);
+            answer_line(alloc, Status::Read, b"read fault 3")
+        }
+        Err(ShelfFault::TooLong) => {
+            leave(before, after);
+            refuse_report(alloc, b"TooBig")
+        }
+        Err(ShelfFault::Memory) => {
+            leave(before, after);
+            Err(NoMemory)
+        }
+    }
+}
+
+// The process ends with its answer: their rows are not given back.
+fn leave(before: Network, after: Network) {
+    mem::forget(before);
+    mem::forget(after);
+}
+
+// What is answered once the first file has described a network.
+fn answer_between<S: Shelf>(
+    alloc: Global,
+    before: Network,
+    words: &[String],
+    shelf: &mut S,
+) -> Result<Answer, NoMemory>
+    requires files { 4 ≤ length words.now }
+    ensures { IfOk result (λ a. IsAnsweredAfter (S.told shelf.old)
+        (λ n. Rose (S.faults shelf.old n) (S.faults shelf.new n)) (second_name (map string_bytes words.now))
+        (λ after. IsAnsweredTo third_fault (S.told shelf.old) (λ n. Rose (S.faults shelf.old n) (S.faults shelf.new n))
+        (third_name (map string_bytes words.now)) report_refusal_line (IsDiffChecked before after))
+        a.status a.text.items) }
+{
+    match describe(alloc, Which::After, Spent::GivenBack, word(words, 3), shelf) {
+        Ok(Described::Network(after)) => {
+            answer_third(alloc, before, after, word(words, 4), shelf)
+        }
+        Ok(Described::Refused(answer)) => {
+            mem::forget(before);
+            Ok(answer)
+        }
+        Err(no_memory) => {
+            mem::forget(before);
+            Err(no_memory)
+        }
+    }
+}
+
+/// What `check` answers to a text about a change: its file is taken once the first two describe networks. By then nothing of
+/// them is kept but these.
+pub fn answer_change<S: Shelf>(
+    alloc: Global,
+    words: &[String],
+    shelf: &mut S,
+) -> Result<Answer, NoMemory>
+    requires files { 4 ≤ length words.now }
+    ensures { IfOk result (λ a. IsAnsweredIn (S.told shelf.old)
+        (λ n. Rose (S.faults shelf.old n) (S.faults shelf.new n)) (file_name (map string_bytes words.now))
+        (λ before. IsAnsweredAfter (S.told shelf.old) (λ n. Rose (S.faults shelf.old n) (S.faults shelf.new n))
+        (second_name (map string_bytes words.now))
+        (λ after. IsAnsweredTo third_fault (S.told shelf.old) (λ n. Rose (S.faults shelf.old n) (S.faults shelf.new n))
+        (third_name (map string_bytes words.now)) report_refusal_line (IsDiffChecked before after)))
+        a.status a.text.items) }
+{
+    let earlier = describe(alloc, Which::First, Spent::GivenBack, word(words, 2), shelf)?;
+    match earlier {
+        Described::Network(before) => answer_between(alloc, before, words, shelf),
         Described::Refused(answer) => Ok(answer),
     }
 }

@@ -1,7 +1,7 @@
 // The words of a command.
 ghost use Rattle.std.specs.Prelude.{◌≡◌, ◌<◌, ◌≤◌, IfNone, IfOk, IfSome, length, map, position, string_bytes};
 ghost use Rattle.vpc_commands.specs.Words.{HasCount, bad_word, command_named, command_of, count_fault};
-ghost use Rattle.vpc_commands.specs.Words.{count_of, counted, first_named, is_bad_word, lacks_one, named};
+ghost use Rattle.vpc_commands.specs.Words.{count_of, counted, first_named, is_bad_word, lacks_one, named, with_files};
 
 /// What a command does, by its first word.
 #[derive(Clone, Copy, Debug, PartialEq, Eq)]
@@ -10,8 +10,10 @@ pub enum Command {
     Trace,
     /// `ask`: what is known of all requests of a query.
     Ask,
-    /// `check`: whether a report about a query is true.
+    /// `check` with one description: whether a report about a query is true, or what `reach` printed.
     Check,
+    /// `check` with two: whether what `diff` printed is true.
+    CheckDiff,
     /// `replay`: the walks of packets that come one after another.
     Replay,
     /// `make`: what is reached in a network that is generated from a number.
@@ -99,12 +101,38 @@ fn command_named(name: &str) -> Option<Command>
     }
 }
 
-// The command that the first word names.
+// `check` with a third file is about a change.
+fn with_files(n: usize, command: Command) -> Command
+    ensures { result ≡ with_files n command }
+{
+    match command {
+        Command::Check => {
+            if n > 3 {
+                Command::CheckDiff
+            } else {
+                Command::Check
+            }
+        }
+        Command::Trace => Command::Trace,
+        Command::Ask => Command::Ask,
+        Command::CheckDiff => Command::CheckDiff,
+        Command::Replay => Command::Replay,
+        Command::Make => Command::Make,
+        Command::Expect => Command::Expect,
+        Command::Flows => Command::Flows,
+        Command::Matrix => Command::Matrix,
+        Command::Reach => Command::Reach,
+        Command::Diff => Command::Diff,
+        Command::Unused => Command::Unused,
+    }
+}
+
+// The command that the first word names, by how many words there are.
 fn first_named(words: &[String]) -> Option<Command>
     ensures { result ≡ first_named (map string_bytes words.now) }
 {
     match words.first() {
-        Some(w) => command_named(w.as_str()),
+        Some(w) => Some(with_files(words.len(), command_named(w.as_str())?)),
         None => None,
     }
 }
@@ -117,6 +145,7 @@ fn count_of(command: Command) -> Count
         Command::Trace => (10, 10, false),
         Command::Ask => (6, 18, true),
         Command::Check => (3, 3, false),
+        Command::CheckDiff => (4, 4, false),
         Command::Replay => (3, 3, false),
         Command::Make => (2, 2, false),
         Command::Expect => (3, 3, false),

@@ -9,6 +9,9 @@ returns-in-Ask g c = rw c.in-Ask.is c.answer_file-in-Ask.ensures
 pub returns-in-Check : goal.returns-in-Check
 returns-in-Check g c = rw c.in-Check.is c.answer_files.ensures
 
+pub returns-in-CheckDiff : goal.returns-in-CheckDiff
+returns-in-CheckDiff g c = rw c.in-CheckDiff.is c.answer_change.ensures
+
 pub returns-in-Replay : goal.returns-in-Replay
 returns-in-Replay g c = rw c.in-Replay.is c.answer_files-in-Replay.ensures
 
