@@ -1,6 +1,6 @@
 -- A description with other rules in its ACLs and groups is accepted where it was, if they are fewer.
 use Rattle.std.proofs.Common.{◌≡◌, ◌≤◌, ◌∙◌, ◌||◌, ◌++◌, ◌∷◌, [], Bool, List, ap, ap₂, arith, false, if◌then◌else◌, length, map, not, refl, sym, true, ℕ}
-use Rattle.std.specs.List.{filter, flat_map, list_any}
+use Rattle.std.specs.List.{flat_map, list_any}
 use Rattle.std.specs.Prelude.{bytes_eq, nat_le, nat_lt}
 use Rattle.std.proofs.lemmas.Bool.{or_from, or_parts}
 use Rattle.std.proofs.lemmas.Bool.Decides.{nat_tests}
@@ -8,28 +8,15 @@ use Rattle.copied_rows.specs.Filters.{with_filters}
 use Rattle.vpc_laws.specs.Types.{Acl, Appliance, Association, Attachment, Description, Group, Interface, InternetGateway, NatGateway, Peering, Permission, PrefixList, RouteTable, Subnet, TgwTable, Vpc}
 use Rattle.vpc_laws.proofs.Accepting.{accepted_is_faultless}
 use Rattle.vpc_laws.proofs.Members.{append-nothing}
-use Rattle.vpc_model.specs.Accepted.{IsAccepted, duplicate_ids, duplicates_in, holds_twice, ids_by_list, is_long, is_long_group, is_long_rule, missing_of_acl, missing_of_appliance, missing_of_attachment, missing_of_group, missing_of_igw, missing_of_interface, missing_of_life, missing_of_subnet, missing_of_table, missing_references, too_long, too_many_rows, two_acls, wanted, without_acl}
+use Rattle.vpc_model.specs.Accepted.{IsAccepted, duplicates_in, holds_twice, ids_by_list, is_long, is_long_group, is_long_rule, missing_of_acl, missing_of_appliance, missing_of_attachment, missing_of_group, missing_of_igw, missing_of_interface, missing_of_life, missing_of_subnet, missing_of_table, missing_references, too_long, too_many_rows, two_acls, wanted, without_acl}
 use Rattle.vpc_model.specs.Lookup.{has_group, is_listed}
 use Rattle.vpc_model.specs.declared.refusals.ListName.{ListName}
 use Rattle.vpc_model.specs.declared.refusals.ListName.TheVariants as lists
 use Rattle.vpc_model.specs.declared.refusals.Refusal.{Refusal}
 use Rattle.vpc_model.specs.declared.refusals.Refusal.TheVariants as refusals
+use Rattle.unused_rules.proofs.Fewer.{FewerRows, FewerRules, none-fewer, nothing-fewer}
+use Rattle.unused_rules.proofs.Parts.{length-part}
 use Rattle.unused_rules.proofs.Alike.{Alike, count-alike, filter-same, flat_map-alike, flat_map-same, length-alike, list_any-alike, map-alike, none-alike, nothing-alike}
-
--- ---- ACLs and groups that differ in their rules alone
-
-pub record FewerRows (a b : Acl) : Type 0 where
-  pub id : a.id ≡ b.id
-  pub subnets : a.subnets ≡ b.subnets
-  pub rows : length b.rows ≤ length a.rows
-
-pub record FewerRules (a b : Group) : Type 0 where
-  pub id : a.id ≡ b.id
-  pub vpc : a.vpc ≡ b.vpc
-  pub inward : length b.inward ≤ length a.inward
-  pub outward : length b.outward ≤ length a.outward
-  pub none : (p : Permission → Bool) → list_any p (a.inward ++ a.outward) ≡ false → list_any p (b.inward ++ b.outward) ≡ false
-  pub nothing : (f : Permission → List Refusal) → flat_map f (a.inward ++ a.outward) ≡ [] → flat_map f (b.inward ++ b.outward) ≡ []
 
 -- ---- the length of lists
 
@@ -60,10 +47,10 @@ short-group a b fewer short =
     let first = or_parts (is_long a.inward) (is_long a.outward || list_any is_long_rule (a.inward ++ a.outward)) short in
     let second = or_parts (is_long a.outward) (list_any is_long_rule (a.inward ++ a.outward)) first.1 in
     or_from (is_long b.inward) (is_long b.outward || list_any is_long_rule (b.inward ++ b.outward))
-    (short-if-shorter (length a.inward) (length b.inward) fewer.inward first.0)
+    (short-if-shorter (length a.inward) (length b.inward) (length-part fewer.inward) first.0)
     (or_from (is_long b.outward) (list_any is_long_rule (b.inward ++ b.outward))
-    (short-if-shorter (length a.outward) (length b.outward) fewer.outward second.0)
-    (fewer.none is_long_rule second.1))
+    (short-if-shorter (length a.outward) (length b.outward) (length-part fewer.outward) second.0)
+    (none-fewer is_long_rule a b fewer second.1))
 
 -- ---- the parts of the test
 
@@ -120,7 +107,7 @@ missing-groups d groups rules none = nothing-alike FewerRules (missing_of_group 
     less : (a b : Group) → FewerRules a b → missing_of_group d a ≡ [] → missing_of_group d b ≡ []
     less a b r e =
         let parts = append-nothing (wanted (list_any (λ v. bytes_eq v.id a.vpc) d.vpcs) a.id a.vpc) (flat_map (λ p. flat_map (λ l. wanted (list_any (λ x. bytes_eq x.id l) d.lists) a.id l) p.lists) (a.inward ++ a.outward)) e in
-        let kept = r.nothing (λ p. flat_map (λ l. wanted (list_any (λ x. bytes_eq x.id l) d.lists) a.id l) p.lists) parts.1 in
+        let kept = nothing-fewer (λ p. flat_map (λ l. wanted (list_any (λ x. bytes_eq x.id l) d.lists) a.id l) p.lists) a b r parts.1 in
         let named = sym (flat_map-same (λ p. flat_map (λ l. wanted (list_any (λ x. bytes_eq x.id l) d.lists) a.id l) p.lists) (λ p. flat_map (λ l. wanted (list_any (λ x. bytes_eq x.id l) d.lists) b.id l) p.lists) (same-id a b r) (b.inward ++ b.outward)) ∙ kept in
         ap₂ (λ (x y : List Refusal). x ++ y) (sym (same-first a b r) ∙ parts.0) named
 

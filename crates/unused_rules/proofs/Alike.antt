@@ -1,6 +1,7 @@
--- Lists that are alike item by item, and lists with one item less.
-use Rattle.std.proofs.Common.{◌≡◌, ◌≤◌, ◌+◌, ◌∙◌, ◌||◌, ◌++◌, ◌∷◌, [], Bool, List, ap, ap₂, arith, cond, drop, false, get_or, length, map, refl, slice_set, subst, suc, sym, take, zero, ℕ}
-use Rattle.std.specs.List.{count_by, filter, flat_map, list_any, remove}
+-- Lists that are alike item by item.
+use Rattle.std.proofs.Common.{◌≡◌, ◌+◌, ◌∙◌, ◌||◌, ◌++◌, ◌∷◌, [], Bool, List, None, Some, ap, ap₂, cond, false, get_or, length, map, not, refl, slice_set, suc, sym, zero, ℕ}
+use Rattle.std.specs.List.{count_by, filter, flat_map, list_any, position, position_or_len}
+use Rattle.std.specs.Prelude.{nat_lt}
 use Rattle.std.proofs.lemmas.Bool.{or_from, or_parts}
 use Rattle.std.proofs.lemmas.List.Sums.{sum_by-cons}
 use Rattle.vpc_laws.proofs.Members.{append-nothing}
@@ -16,6 +17,12 @@ Alike R _ _ = ⊥
 pub alike_itself : {X : Type 0} (R : X → X → Type 0) → ((x : X) → R x x) → (xs : List X) → Alike R xs xs
 alike_itself R itself [] = tt
 alike_itself R itself (x ∷ xs) = (itself x, alike_itself R itself xs)
+
+-- both replace one item
+pub alike_both_set : {X : Type 0} (R : X → X → Type 0) → ((x : X) → R x x) → (xs : List X) (k : ℕ) (x y : X) → R x y → Alike R (slice_set xs k x) (slice_set xs k y)
+alike_both_set R itself [] k x y one = tt
+alike_both_set R itself (z ∷ zs) zero x y one = (one, alike_itself R itself zs)
+alike_both_set R itself (z ∷ zs) (suc k) x y one = (itself z, alike_both_set R itself zs k x y one)
 
 -- one item is replaced
 pub alike_set : {X : Type 0} (R : X → X → Type 0) → ((x : X) → R x x) → (xs : List X) (k : ℕ) (none y : X) → R (get_or xs k none) y → Alike R xs (slice_set xs k y)
@@ -59,6 +66,23 @@ count-alike R p same (x ∷ xs) (y ∷ ys) alike =
 count-alike R p same [] (y ∷ ys) alike = absurd alike
 count-alike R p same (x ∷ xs) [] alike = absurd alike
 
+-- the items in one place
+pub get_or-alike : {X : Type 0} (R : X → X → Type 0) (none : X) → R none none → (xs ys : List X) (k : ℕ) → Alike R xs ys → R (get_or xs k none) (get_or ys k none)
+get_or-alike R none itself [] [] k alike = itself
+get_or-alike R none itself (x ∷ xs) (y ∷ ys) zero alike = alike.0
+get_or-alike R none itself (x ∷ xs) (y ∷ ys) (suc k) alike = get_or-alike R none itself xs ys k alike.1
+get_or-alike R none itself [] (y ∷ ys) k alike = absurd alike
+get_or-alike R none itself (x ∷ xs) [] k alike = absurd alike
+
+first-alike : {X : Type 0} (R : X → X → Type 0) (p : X → Bool) → ((x y : X) → R x y → p x ≡ p y) → (xs ys : List X) → Alike R xs ys → position_or_len p xs ≡ position_or_len p ys
+first-alike R p same [] [] alike = refl
+first-alike R p same (x ∷ xs) (y ∷ ys) alike = ap₂ (λ b n. cond (not b) (1 + n) 0) (same x y alike.0) (first-alike R p same xs ys alike.1)
+first-alike R p same [] (y ∷ ys) alike = absurd alike
+first-alike R p same (x ∷ xs) [] alike = absurd alike
+
+pub position-alike : {X : Type 0} (R : X → X → Type 0) (p : X → Bool) → ((x y : X) → R x y → p x ≡ p y) → (xs ys : List X) → Alike R xs ys → position p xs ≡ position p ys
+position-alike R p same xs ys alike = ap₂ (λ k n. cond (nat_lt k n) (Some k) None) (first-alike R p same xs ys alike) (length-alike R xs ys alike)
+
 -- where nothing is made of the items of one, nothing is made of those of the other
 pub nothing-alike : {X Y : Type 0} (R : X → X → Type 0) (f : X → List Y) → ((x y : X) → R x y → f x ≡ [] → f y ≡ []) → (xs ys : List X) → Alike R xs ys → flat_map f xs ≡ [] → flat_map f ys ≡ []
 nothing-alike R f less [] [] alike none = refl
@@ -86,30 +110,10 @@ pub flat_map-same : {X Y : Type 0} (f g : X → List Y) → ((x : X) → f x ≡
 flat_map-same f g same [] = refl
 flat_map-same f g same (x ∷ xs) = ap₂ (λ a rest. a ++ rest) (same x) (flat_map-same f g same xs)
 
+pub list_any-same : {X : Type 0} (p q : X → Bool) → ((x : X) → p x ≡ q x) → (xs : List X) → list_any p xs ≡ list_any q xs
+list_any-same p q same [] = refl
+list_any-same p q same (x ∷ xs) = ap₂ (λ a b. a || b) (same x) (list_any-same p q same xs)
+
 pub filter-same : {X : Type 0} (p q : X → Bool) → ((x : X) → p x ≡ q x) → (xs : List X) → filter p xs ≡ filter q xs
 filter-same p q same [] = refl
 filter-same p q same (x ∷ xs) = ap₂ (λ b rest. cond b (x ∷ rest) rest) (same x) (filter-same p q same xs)
-
--- ---- one item less
-
-pub length-less : {X : Type 0} (xs : List X) (k : ℕ) → length (remove xs k) ≤ length xs
-length-less [] zero = omega arith
-length-less [] (suc k) = omega arith
-length-less (x ∷ xs) zero = omega arith
-length-less (x ∷ xs) (suc k) = let rest = length-less xs k in omega arith
-
-pub none-less : {X : Type 0} (p : X → Bool) (xs : List X) (k : ℕ) → list_any p xs ≡ false → list_any p (remove xs k) ≡ false
-none-less p [] zero none = refl
-none-less p [] (suc k) none = refl
-none-less p (x ∷ xs) zero none = let parts = or_parts (p x) (list_any p xs) none in parts.1
-none-less p (x ∷ xs) (suc k) none =
-    let parts = or_parts (p x) (list_any p xs) none in
-    or_from (p x) (list_any p (remove xs k)) parts.0 (none-less p xs k parts.1)
-
-pub nothing-less : {X Y : Type 0} (f : X → List Y) (xs : List X) (k : ℕ) → flat_map f xs ≡ [] → flat_map f (remove xs k) ≡ []
-nothing-less f [] zero none = refl
-nothing-less f [] (suc k) none = refl
-nothing-less f (x ∷ xs) zero none = let parts = append-nothing (f x) (flat_map f xs) none in parts.1
-nothing-less f (x ∷ xs) (suc k) none =
-    let parts = append-nothing (f x) (flat_map f xs) none in
-    ap₂ (λ a rest. a ++ rest) parts.0 (nothing-less f xs k parts.1)

@@ -1,9 +1,9 @@
 -- The tests of what stops requests decide whether it is one.
-use Rattle.std.proofs.Common.{◌≡◌, ◌==◌, ◌&&◌, Bool, None, Option, Some, ap, ap₂, false, refl, sym, subst, true, ℕ}
+use Rattle.std.proofs.Common.{◌≡◌, ◌==◌, ◌&&◌, None, Option, Some, ap, ap₂, refl, subst, true, ℕ}
 use Rattle.std.specs.Bool.{Decides}
-use Rattle.std.proofs.lemmas.Bool.{and_from, and_parts, eq-eqb, eqb-true, false≢true}
+use Rattle.std.proofs.lemmas.Bool.{and_from, and_parts, eqb-true, false≢true}
 use Rattle.vpc_laws.proofs.Same.{EniNo-same, NatNo-same, VpcNo-same, ends_are_told_apart, itself, same_place-refl, same_place-true}
-use Rattle.vpc_laws.specs.Types.{AclNo, AttNo, End, Foreign, IgwNo, PeerNo, Phase, Stop, TableNo, TgwTableNo}
+use Rattle.vpc_laws.specs.Types.{AclNo, AttNo, Foreign, IgwNo, PeerNo, Phase, Stop, TableNo, TgwTableNo}
 use Rattle.vpc_model.specs.declared.outcomes.Phase.TheVariants as phases
 use Rattle.vpc_model.specs.declared.stops.Foreign.TheVariants as foreign
 use Rattle.vpc_model.specs.declared.stops.Stop.TheVariants as stops

@@ -1,8 +1,15 @@
 pub mod Accepting
 pub mod Alike
+pub mod Allowing
 pub mod Apart
+pub mod Chunking
 pub mod Decided
+pub mod Fewer
 pub mod Needing
+pub mod NestedSteps
+pub mod NestedWalks
+pub mod Parts
+pub mod Refusing
 pub mod Removing
 pub mod Short
 pub mod Tallies

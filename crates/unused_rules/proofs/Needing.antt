@@ -1,12 +1,12 @@
 -- What a search of two networks says of a rule that one of them lacks.
-use Rattle.std.proofs.Common.{◌≡◌, ◌≢◌, ◌∙◌, ◌≤◌, Bool, Err, IfOk, None, Ok, Option, Result, Some, ap, ap₂, arith, false, if◌then◌else◌, inl, inr, refl, subst, sym, true, ℕ}
+use Rattle.std.proofs.Common.{◌≡◌, ◌≢◌, ◌∙◌, Bool, Err, IfOk, None, Ok, Option, Result, Some, ap, ap₂, arith, false, if◌then◌else◌, inl, inr, refl, subst, sym, true, ℕ}
 use Rattle.std.proofs.lemmas.Bool.{cases_Bool}
 use Rattle.box_walk.specs.Asking.{Asking, asked, stop_of, word_of}
 use Rattle.header_boxes.proofs.CellNumbers.{aligned_through, aligned_to_more}
 use Rattle.header_boxes.proofs.Held.{holds_whole}
 use Rattle.header_boxes.specs.Boxes.{IsRangeWithin, IsWithin, holds}
 use Rattle.header_boxes.specs.Cells.{IsAligned}
-use Rattle.header_boxes.specs.Rows.{IsFirst, IsFirstThrough, NoneThrough}
+use Rattle.header_boxes.specs.Rows.{IsFirst}
 use Rattle.cut_laws.proofs.Among.{left_among, right_among}
 use Rattle.query_words.specs.declared.queries.Query.{Query}
 use Rattle.vpc_base.specs.Cuts.{CutLists, joined_cuts}
@@ -17,10 +17,12 @@ use Rattle.vpc_model.specs.Verdict.{verdict_of}
 use Rattle.vpc_model.specs.declared.outcomes.Verdict.{Verdict}
 use Rattle.vpc_model.specs.declared.outcomes.Verdict.TheVariants as verdicts
 use Rattle.unused_rules.proofs.Apart.{told_apart}
-use Rattle.unused_rules.specs.Needed.{IsFirstAnother, IsNeed, StaysTheSame}
+use Rattle.unused_rules.specs.Chunks.{ChunkDecidesNothing, without_chunk}
+use Rattle.unused_rules.specs.Needed.{IsNeed, StaysTheSame}
 use Rattle.unused_rules.specs.Probe.{agreement_of}
 use Rattle.unused_rules.specs.Same.{same_told, unless_apart}
 use Rattle.unused_rules.specs.Without.{without}
+use Rattle.unused_rules.specs.declared.chunks.Chunk.{Chunk}
 use Rattle.unused_rules.specs.declared.rules.RuleName.{RuleName}
 use Rattle.unused_rules.specs.declared.rules.RuleName.TheVariants as rules
 
@@ -142,3 +144,37 @@ need_of d e rule query a b (Ok found) less first second is =
     (subst (λ (y : Asking). IsFirst (agreement_of (asked d query.start query.goal) y) query.sides found) (second ∙ ap (λ (x : Description). asked x query.start query.goal) less)
     (subst (λ (x : Asking). IsFirst (agreement_of x b) query.sides found) first is))
 need_of d e rule query a b (Err no_memory) less first second is = tt
+
+-- ---- a description without a chunk
+
+chunk-verdict : (d : Description) (c : Chunk) (start goal : End) (h : Header)
+    → word_of (asked (without_chunk d c) start goal) h ≡ stop_of (verdict_of (without_chunk d c) (appliances_of d) start goal h)
+chunk-verdict d c start goal h = refl
+
+moved-first : (d e : Description) (c : Chunk) (query : Query) (a b : Asking) (found : Option Header)
+    → e ≡ without_chunk d c → a ≡ asked d query.start query.goal → b ≡ asked e query.start query.goal → IsFirst (agreement_of a b) query.sides found
+    → IsFirst (agreement_of (asked d query.start query.goal) (asked (without_chunk d c) query.start query.goal)) query.sides found
+moved-first d e c query a b found less first second is =
+    subst (λ (y : Asking). IsFirst (agreement_of (asked d query.start query.goal) y) query.sides found) (second ∙ ap (λ (x : Description). asked x query.start query.goal) less)
+    (subst (λ (x : Asking). IsFirst (agreement_of x b) query.sides found) first is)
+
+-- none is found
+pub none_needs : (d e : Description) (c : Chunk) (query : Query) (a b : Asking) (found : Option Header)
+    → e ≡ without_chunk d c → a ≡ asked d query.start query.goal → b ≡ asked e query.start query.goal → IsFirst (agreement_of a b) query.sides found
+    → found ≡ None → ChunkDecidesNothing d c query
+none_needs d e c query a b found less first second is none h held =
+    let all : IsFirst (agreement_of (asked d query.start query.goal) (asked (without_chunk d c) query.start query.goal)) query.sides None =
+    subst (λ (o : Option Header). IsFirst (agreement_of (asked d query.start query.goal) (asked (without_chunk d c) query.start query.goal)) query.sides o) none
+    (moved-first d e c query a b found less first second is) in
+    stop_of-same (verdict_of (without_chunk d c) (appliances_of d) query.start query.goal h) (verdict_of d (appliances_of d) query.start query.goal h)
+    (sym (chunk-verdict d c query.start query.goal h) ∙ sym (same-unless _ _ (all h held)))
+
+-- one is
+pub one_needs : (d e : Description) (c : Chunk) (query : Query) (a b : Asking) (found : Option Header) (h : Header)
+    → e ≡ without_chunk d c → a ≡ asked d query.start query.goal → b ≡ asked e query.start query.goal → IsFirst (agreement_of a b) query.sides found
+    → found ≡ Some h → ChunkDecidesNothing d c query → ⊥
+one_needs d e c query a b found h less first second is some idle =
+    let one : IsFirst (agreement_of (asked d query.start query.goal) (asked (without_chunk d c) query.start query.goal)) query.sides (Some h) =
+    subst (λ (o : Option Header). IsFirst (agreement_of (asked d query.start query.goal) (asked (without_chunk d c) query.start query.goal)) query.sides o) some
+    (moved-first d e c query a b found less first second is) in
+    other-if _ _ one.through (sym (chunk-verdict d c query.start query.goal h ∙ ap stop_of (idle h one.inside)))

@@ -1,5 +1,5 @@
 -- The rules of an accepted description can be counted.
-use Rattle.std.specs.List.{All, Contains}
+use Rattle.std.specs.List.{All}
 use Rattle.std.proofs.lemmas.List.Elements.{All-contains_itself}
 use Rattle.vpc_laws.specs.Types.{Description}
 use Rattle.vpc_laws.proofs.Lengths.{accepted_has_short_lists}

@@ -1,12 +1,14 @@
 -- Rules judged one after another.
-use Rattle.std.proofs.Common.{◌+◌, ◌≡◌, ◌<◌, ◌∙◌, ◌++◌, ◌∷◌, [], List, ap, append_assoc, get_or, length, refl, sym, take, ℕ}
+use Rattle.std.proofs.Common.{◌+◌, ◌≡◌, ◌<◌, ◌∙◌, ◌++◌, ◌∷◌, [], List, Option, ap, append_assoc, get_or, length, refl, sym, take, ℕ}
 use Rattle.std.specs.List.{flat_map}
 use Rattle.std.proofs.lemmas.Grind.{flat_map-append}
 use Rattle.std.proofs.lemmas.List.{append-nil, map-append, take_more}
 use Rattle.std.proofs.lemmas.List.Elements.{All-append, All-cons, All-nil}
 use Rattle.query_words.specs.declared.queries.Query.{Query}
 use Rattle.vpc_laws.specs.Types.{Description}
+use Rattle.unused_rules.specs.Chunks.{IsIdle}
 use Rattle.unused_rules.specs.Lines.{AddsLine, AddsLines, IsJudged, Judged, judged_line}
+use Rattle.unused_rules.specs.declared.chunks.Chunk.{Chunk}
 use Rattle.unused_rules.specs.declared.rules.RuleName.{RuleName}
 
 abbrev of_rule : Judged → RuleName
@@ -21,6 +23,11 @@ text_more : (d : Description) (judged : List Judged) (j : Judged) (old mid new :
 text_more d judged j old mid new before adds =
     adds ∙ (ap (λ (t : List ℕ). t ++ judged_line d j) before
     ∙ (append_assoc old (flat_map (judged_line d) judged) (judged_line d j) ∙ ap (λ (t : List ℕ). old ++ t) (sym (lines-one d judged j))))
+
+-- what holds while rules are judged: their lines were added, and the chunk that is kept decides nothing
+pub record AreUnderWay (d : Description) (query : Query) (rules : List RuleName) (chunk : Option Chunk) (old new : List ℕ) : Type 0 where
+  pub lines : AddsLines d query rules old new
+  pub idle : IsIdle d query chunk
 
 -- none was judged
 pub adds_none : (d : Description) (query : Query) (old : List ℕ) → AddsLines d query [] old old

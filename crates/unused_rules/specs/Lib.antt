@@ -1,4 +1,5 @@
 pub mod Answered
+pub mod Chunks
 pub mod Laws
 pub mod Lines
 pub mod Needed

@@ -3,11 +3,13 @@ ghost use Rattle.std.specs.Prelude.{◌≡◌, ◌≤◌, IfOk, OnOk, length, ma
 ghost use Rattle.box_walk.specs.Asking.{asked};
 ghost use Rattle.vpc_model.specs.Appliances.{appliances_of};
 ghost use Rattle.unused_rules.specs.Answered.{AreJudgedFor, IsUnusedAnswered, IsUnusedFor};
+ghost use Rattle.unused_rules.specs.Chunks.{IsIdle};
 ghost use Rattle.unused_rules.specs.Lines.{AddsLine, AddsLines, IsRulesText};
 ghost use Rattle.unused_rules.specs.Needed.{IsAskedIn};
 ghost use Rattle.unused_rules.specs.Rules.{rules_of};
 
-use crate::judging::needed_by;
+use crate::chunks::Chunk;
+use crate::judging::{idle_at, needed_at};
 use crate::lines::put_rule_line;
 use crate::rules::{RuleName, rules_of};
 use appliances::Deciders;
@@ -24,7 +26,7 @@ use vpc_base::NoMemory;
 // How many rules are judged at most.
 const MOST_RULES: usize = 2000;
 
-// Judges a rule, and appends its line.
+// Judges a rule, by a chunk that decides nothing, and appends its line.
 fn put_judged(
     out: &mut Vec<u8>,
     f: &Fabric,
@@ -32,14 +34,16 @@ fn put_judged(
     before: &RoundProbe,
     query: &Query,
     rule: &RuleName,
+    idle: &Option<Chunk>,
 ) -> Result<(), NoMemory>
     requires appliances { deciders.now.appliances ≡ appliances_of f.now }
     requires query { IsAskedIn f.now query.now }
     requires before { asked before.now.fabric.now before.now.start before.now.goal
         ≡ asked f.now query.now.start query.now.goal }
+    requires idle { IsIdle f.now query.now idle.now }
     ensures { OnOk result (AddsLine f.now query.now rule.now out.old.items out.new.items) }
 {
-    let need = needed_by(*out.allocator(), f, deciders, before, query, rule)?;
+    let need = needed_at(*out.allocator(), f, deciders, before, query, rule, idle)?;
     put_rule_line(out, f.network().description(), rule, &need)
 }
 
@@ -55,8 +59,10 @@ fn put_all_judged(
     ensures { OnOk result (AddsLines f.now query.now rules.now out.old.items out.new.items) }
 {
     let before = RoundProbe::of(f, deciders, query.start, query.goal);
+    let mut idle = None;
     for rule in rules {
-        put_judged(out, f, deciders, &before, query, rule)?;
+        idle = idle_at(*out.allocator(), f, deciders, &before, query, rule, idle)?;
+        put_judged(out, f, deciders, &before, query, rule, &idle)?;
     }
     Ok(())
 }

@@ -1,15 +1,17 @@
 // Which request of a query needs a rule.
-ghost use Rattle.std.specs.Prelude.{◌≡◌, IfOk};
+ghost use Rattle.std.specs.Prelude.{◌≡◌, ◌↔◌, IfOk, IsTrue};
 ghost use Rattle.box_walk.specs.Asking.{asked};
 ghost use Rattle.header_boxes.specs.Boxes.{IsValid};
 ghost use Rattle.header_boxes.specs.Rows.{IsFirst};
 ghost use Rattle.vpc_model.specs.Appliances.{appliances_of};
+ghost use Rattle.unused_rules.specs.Chunks.{ChunkDecidesNothing, IsIdle, without_chunk};
 ghost use Rattle.unused_rules.specs.Needed.{IsAskedIn, IsNeed};
 ghost use Rattle.unused_rules.specs.Probe.{agreement_of};
 ghost use Rattle.unused_rules.specs.Without.{without};
 
+use crate::chunks::{Chunk, chunk_from, is_of};
 use crate::probe::AgreementProbe;
-use crate::removal::network_without;
+use crate::removal::{network_without, network_without_chunk};
 use crate::rules::RuleName;
 use appliances::Deciders;
 use box_walk::RoundProbe;
@@ -25,6 +27,12 @@ fn fabric_without(alloc: Global, n: &Network, rule: &RuleName) -> Result<Fabric,
     ensures { IfOk result (λ f. f ≡ without n.now rule.now) }
 {
     Fabric::of(alloc, network_without(alloc, n, rule)?)
+}
+
+fn fabric_without_chunk(alloc: Global, n: &Network, c: &Chunk) -> Result<Fabric, NoMemory>
+    ensures { IfOk result (λ f. f ≡ without_chunk n.now c.now) }
+{
+    Fabric::of(alloc, network_without_chunk(alloc, n, c)?)
 }
 
 // The first request of which something else becomes in the second network.
@@ -60,6 +68,106 @@ pub(crate) fn needed_by(
     let fabric = fabric_without(alloc, f.network(), rule)?;
     let after = RoundProbe::of(&fabric, deciders, query.start, query.goal);
     first_apart(alloc, before, &after, query.sides)
+}
+
+// Whether no request of the query has another verdict without the chunk.
+fn decides_nothing(
+    alloc: Global,
+    f: &Fabric,
+    deciders: &Deciders,
+    before: &RoundProbe,
+    query: &Query,
+    c: &Chunk,
+) -> Result<bool, NoMemory>
+    requires appliances { deciders.now.appliances ≡ appliances_of f.now }
+    requires query { IsAskedIn f.now query.now }
+    requires before { asked before.now.fabric.now before.now.start before.now.goal
+        ≡ asked f.now query.now.start query.now.goal }
+    ensures { IfOk result (λ idle. IsTrue idle ↔ ChunkDecidesNothing f.now c.now query.now) }
+{
+    let fabric = fabric_without_chunk(alloc, f.network(), c)?;
+    let after = RoundProbe::of(&fabric, deciders, query.start, query.goal);
+    match first_apart(alloc, before, &after, query.sides)? {
+        None => Ok(true),
+        Some(_) => Ok(false),
+    }
+}
+
+// The chunk, if there is one and it decides nothing.
+fn idle_only(
+    alloc: Global,
+    f: &Fabric,
+    deciders: &Deciders,
+    before: &RoundProbe,
+    query: &Query,
+    chunk: Option<Chunk>,
+) -> Result<Option<Chunk>, NoMemory>
+    requires appliances { deciders.now.appliances ≡ appliances_of f.now }
+    requires query { IsAskedIn f.now query.now }
+    requires before { asked before.now.fabric.now before.now.start before.now.goal
+        ≡ asked f.now query.now.start query.now.goal }
+    ensures { IfOk result (IsIdle f.now query.now) }
+{
+    match chunk {
+        None => Ok(None),
+        Some(c) => {
+            if decides_nothing(alloc, f, deciders, before, query, &c)? {
+                Ok(Some(c))
+            } else {
+                Ok(None)
+            }
+        }
+    }
+}
+
+/// The chunk that decides nothing where a rule's turn comes, if there is one: that of the rules before it while it lasts, and
+/// else the one that the rule begins.
+pub(crate) fn idle_at(
+    alloc: Global,
+    f: &Fabric,
+    deciders: &Deciders,
+    before: &RoundProbe,
+    query: &Query,
+    rule: &RuleName,
+    idle: Option<Chunk>,
+) -> Result<Option<Chunk>, NoMemory>
+    requires appliances { deciders.now.appliances ≡ appliances_of f.now }
+    requires query { IsAskedIn f.now query.now }
+    requires before { asked before.now.fabric.now before.now.start before.now.goal
+        ≡ asked f.now query.now.start query.now.goal }
+    requires idle { IsIdle f.now query.now idle }
+    ensures { IfOk result (IsIdle f.now query.now) }
+{
+    if is_of(&idle, rule) {
+        Ok(idle)
+    } else {
+        let chunk = chunk_from(f.network().description(), rule);
+        idle_only(alloc, f, deciders, before, query, chunk)
+    }
+}
+
+/// The same as `needed_by`, by a chunk that decides nothing: none of its rules does.
+pub(crate) fn needed_at(
+    alloc: Global,
+    f: &Fabric,
+    deciders: &Deciders,
+    before: &RoundProbe,
+    query: &Query,
+    rule: &RuleName,
+    idle: &Option<Chunk>,
+) -> Result<Option<Header>, NoMemory>
+    requires appliances { deciders.now.appliances ≡ appliances_of f.now }
+    requires query { IsAskedIn f.now query.now }
+    requires before { asked before.now.fabric.now before.now.start before.now.goal
+        ≡ asked f.now query.now.start query.now.goal }
+    requires idle { IsIdle f.now query.now idle.now }
+    ensures { IfOk result (IsNeed f.now rule.now query.now) }
+{
+    if is_of(idle, rule) {
+        Ok(None)
+    } else {
+        needed_by(alloc, f, deciders, before, query, rule)
+    }
 }
 
 /// The first request of the query whose verdict is another value without the rule, if there is one: something else stops

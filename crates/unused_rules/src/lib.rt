@@ -3,6 +3,7 @@
 #![tactic(auto)]
 
 mod answer;
+mod chunks;
 mod command;
 mod judging;
 mod laws;

@@ -38,7 +38,7 @@ fn group_id(d: &Description, g: GroupNo) -> &[u8]
     }
 }
 
-fn permissions_of(d: &Description, g: GroupNo, dir: Dir) -> &[Permission]
+pub(crate) fn permissions_of(d: &Description, g: GroupNo, dir: Dir) -> &[Permission]
     ensures { result.now ≡ permissions_of dir (group_at d.now g) }
 {
     match d.groups.as_slice().get(g.0 as usize) {

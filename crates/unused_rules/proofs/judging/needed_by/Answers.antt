@@ -1,4 +1,4 @@
-use Rattle.std.proofs.Common.{◌≡◌, ◌∙◌, ap, subst, sym, true}
+use Rattle.std.proofs.Common.{◌≡◌, ◌∙◌, ap, sym}
 use Rattle.vpc_laws.specs.Types.{Description}
 use Rattle.vpc_model.specs.Appliances.{appliances_of}
 use Rattle.vpc_model.specs.Sound.{is_end}

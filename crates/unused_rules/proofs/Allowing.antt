@@ -1,0 +1,136 @@
+-- Groups with fewer rules allow nothing that was not allowed.
+use Rattle.std.proofs.Common.{◌≡◌, ◌∙◌, ◌&&◌, ◌||◌, ◌∷◌, [], Bool, List, None, Option, Some, ap, ap₂, cond, false, inl, inr, length, refl, subst, sym, true, ℕ}
+use Rattle.std.specs.List.{list_any, position, position_or_len}
+use Rattle.std.specs.Prelude.{bytes_eq, nat_lt, option_and_then, option_map}
+use Rattle.std.proofs.lemmas.Bool.{both_ways, cases_Bool, ltb-true}
+use Rattle.std.proofs.lemmas.List.Folds.{list_any_at}
+use Rattle.std.proofs.lemmas.List.Sums.{passes_at_first}
+use Rattle.copied_rows.specs.Filters.{with_filters}
+use Rattle.vpc_laws.proofs.Numbering.{found-at}
+use Rattle.vpc_laws.specs.Types.{Description, Dir, Group, GroupNo, Header, Interface, Permission}
+use Rattle.vpc_model.specs.Choice.{or_else}
+use Rattle.vpc_model.specs.Filter.{far_address, is_between, matches_proto}
+use Rattle.vpc_model.specs.Groups.{are_peers, first_rule, first_rule_of, is_member, names_address, permission_allows, permissions_of, reference_counts, rule_of_group}
+use Rattle.vpc_model.specs.Lookup.{entries_of, group_at, group_of_id, no_group}
+use Rattle.prefix_text.specs.Block.{holds}
+use Rattle.unused_rules.proofs.Alike.{Alike, get_or-alike, list_any-alike, list_any-same, position-alike}
+use Rattle.unused_rules.proofs.Fewer.{FewerRules, rules-part, same-rules}
+use Rattle.unused_rules.proofs.Parts.{none-part}
+
+-- ---- searches that find nothing
+
+none-passes : {X : Type 0} (p : X → Bool) (none : X) (xs : List X) → position p xs ≡ None → list_any p xs ≡ false
+none-passes p none xs e =
+    elim (cases_Bool (list_any p xs)) [
+      | inl some ↦ let found = found-at p xs none some in absurd
+          (some-is-none (nat_lt (position_or_len p xs) (length xs)) (position_or_len p xs) found.0 e)
+      | inr fails ↦ fails
+    ]
+  where
+    some-is-none : (below : Bool) (k : ℕ) → below ≡ true → cond below (Some k) None ≡ None → ⊥
+    some-is-none true k is e = absurd (cc)
+    some-is-none false k is e = absurd (cc)
+
+none-found : {X : Type 0} (p : X → Bool) (none : X) (xs : List X) → list_any p xs ≡ false → position p xs ≡ None
+none-found p none xs e =
+    elim (cases_Bool (nat_lt (position_or_len p xs) (length xs))) [
+      | inl below ↦
+          let at = ltb-true (position_or_len p xs) (length xs) below in
+          absurd (both_ways (list_any p xs) e (list_any_at p xs (position_or_len p xs) none at (passes_at_first p xs none at)))
+      | inr past ↦ no-place (nat_lt (position_or_len p xs) (length xs)) (position_or_len p xs) past
+    ]
+  where
+    no-place : (below : Bool) (k : ℕ) → below ≡ false → cond below (Some k) None ≡ None
+    no-place true k is = absurd (cc)
+    no-place false k is = refl
+
+map-none : {X Y : Type 0} (f : X → Y) (o : Option X) → option_map f o ≡ None → o ≡ None
+map-none f None e = refl
+map-none f (Some x) e = absurd (cc)
+
+no-map : {X Y : Type 0} (f : X → Y) (o : Option X) → o ≡ None → option_map f o ≡ None
+no-map f None e = refl
+no-map f (Some x) e = absurd (cc)
+
+first-none : {X : Type 0} (a b : Option X) → or_else a b ≡ None → (a ≡ None) × (b ≡ None)
+first-none None b e = (refl, e)
+first-none (Some x) b e = absurd (cc)
+
+both-none : {X : Type 0} (a b : Option X) → a ≡ None → b ≡ None → or_else a b ≡ None
+both-none None b first second = second
+both-none (Some x) b first second = absurd (cc)
+
+-- ---- what a rule allows
+
+-- of two descriptions that differ in the rules of their groups alone, the second with fewer
+module _ (d : Description) (more less : List Group) (fewer : Alike FewerRules more less) where
+  abbrev one : Description
+  one = with_filters d d.acls more
+
+  abbrev other : Description
+  other = with_filters d d.acls less
+
+  counts-same : (vpc group : List ℕ) → reference_counts one vpc group ≡ reference_counts other vpc group
+  counts-same vpc group =
+      list_any-alike FewerRules (λ (g : Group). bytes_eq g.id group && (bytes_eq g.vpc vpc || are_peers d g.vpc vpc))
+      (λ a b r. ap₂ (λ (id v : List ℕ). bytes_eq id group && (bytes_eq v vpc || are_peers d v vpc)) r.id r.vpc) more less fewer
+
+  names-same : (vpc : List ℕ) (a : ℕ) (p : Permission) → names_address one vpc a p ≡ names_address other vpc a p
+  names-same vpc a p =
+      ap (λ (b : Bool). list_any (holds a) p.blocks || (list_any (λ l. list_any (holds a) (entries_of d l)) p.lists || b))
+      (list_any-same (λ g. reference_counts one vpc g && is_member d g a) (λ g. reference_counts other vpc g && is_member d g a)
+      (λ g. ap (λ (b : Bool). b && is_member d g a) (counts-same vpc g)) p.groups)
+
+  allows-same : (vpc : List ℕ) (dir : Dir) (h : Header) (p : Permission)
+      → permission_allows one vpc dir h p ≡ permission_allows other vpc dir h p
+  allows-same vpc dir h p =
+      ap (λ (b : Bool). matches_proto p.proto h.proto && (is_between p.q_from p.q_to h.q && b)) (names-same vpc (far_address dir h) p)
+
+  group-fewer : (n : GroupNo) → FewerRules (group_at one n) (group_at other n)
+  group-fewer n = get_or-alike FewerRules no_group (same-rules no_group) more less n.0 fewer
+
+  number-same : (id : List ℕ) → group_of_id one id ≡ group_of_id other id
+  number-same id =
+      ap (option_map (λ (k : ℕ). record {
+        0 =
+            k;
+      })) (position-alike FewerRules (λ (g : Group). bytes_eq g.id id) (λ a b r. ap (λ (i : List ℕ). bytes_eq i id) r.id)
+      more less fewer)
+
+  -- ---- the first rule that allows a header
+
+  none-of-group : (dir : Dir) (h : Header) (n : GroupNo) → rule_of_group one dir h n ≡ None → rule_of_group other dir h n ≡ None
+  none-of-group dir h n none =
+      let a = group_at one n in
+      let b = group_at other n in
+      let r = group-fewer n in
+      let no_permission : Permission = record { id = None; proto = None; q_from = 1; q_to = 0; blocks = []; lists = []; groups = [] } in
+      let before : list_any (permission_allows one a.vpc dir h) (permissions_of dir a) ≡ false = none-passes _ no_permission
+      (permissions_of dir a) (map-none _ _ none) in
+      let part : list_any (permission_allows one a.vpc dir h) (permissions_of dir b) ≡ false = none-part (permission_allows one a.vpc dir h)
+      (rules-part dir a b r) before in
+      let moved : list_any (permission_allows one b.vpc dir h) (permissions_of dir b) ≡ false = subst
+      (λ (v : List ℕ). list_any (permission_allows one v dir h) (permissions_of dir b) ≡ false) r.vpc part in
+      let after : list_any (permission_allows other b.vpc dir h) (permissions_of dir b) ≡ false =
+      sym (list_any-same (permission_allows one b.vpc dir h) (permission_allows other b.vpc dir h) (allows-same b.vpc dir h)
+      (permissions_of dir b)) ∙ moved in
+      no-map _ _ (none-found (permission_allows other b.vpc dir h) no_permission (permissions_of dir b) after)
+
+  none-of-number : (dir : Dir) (h : Header) (n : Option GroupNo) → option_and_then (rule_of_group one dir h) n ≡ None
+      → option_and_then (rule_of_group other dir h) n ≡ None
+  none-of-number dir h None none = refl
+  none-of-number dir h (Some n) none = none-of-group dir h n none
+
+  none-of-groups : (dir : Dir) (h : Header) (ids : List (List ℕ)) → first_rule_of one dir h ids ≡ None
+      → first_rule_of other dir h ids ≡ None
+  none-of-groups dir h [] none = refl
+  none-of-groups dir h (id ∷ ids) none =
+      let parts = first-none (option_and_then (rule_of_group one dir h) (group_of_id one id)) (first_rule_of one dir h ids) none in
+      both-none (option_and_then (rule_of_group other dir h) (group_of_id other id)) (first_rule_of other dir h ids)
+      (subst (λ (n : Option GroupNo). option_and_then (rule_of_group other dir h) n ≡ None) (number-same id)
+      (none-of-number dir h (group_of_id one id) parts.0))
+      (none-of-groups dir h ids parts.1)
+
+  -- where none allows it with more rules, none does with fewer
+  pub none_allows : (e : Interface) (dir : Dir) (h : Header) → first_rule one e dir h ≡ None → first_rule other e dir h ≡ None
+  none_allows e dir h none = none-of-groups dir h e.groups none

@@ -1,0 +1,25 @@
+use Rattle.std.proofs.Common.{◌≡◌, ◌∙◌, ap, refl}
+use Rattle.std.proofs.lemmas.Bool.{false≢true}
+use Rattle.vpc_laws.specs.Types.{Description}
+use Rattle.unused_rules.specs.Chunks.{without_chunk}
+use Rattle.unused_rules.proofs.Needing.{none_needs, one_needs}
+use Rattle.unused_rules.proofs.judging.decides_nothing.Goals as goal
+
+pub returns-in-None : goal.returns-in-None
+returns-in-None g c =
+    let less : c.in_ok-fabric.fabric ≡ without_chunk c.args.f.now c.args.c.now =
+    c.in_ok-fabric.ensures ∙ ap (λ (d : Description). without_chunk d c.args.c.now) c.network.ensures in (
+      λ _. none_needs c.args.f.now c.in_ok-fabric.fabric c.args.c.now c.args.query.now _ _ c.in_ok-first_apart.field-0
+          less c.requires.before c.of-after.ensures c.in_ok-first_apart.ensures c.in-None.is,
+      λ _. refl,
+    )
+
+pub returns : goal.returns
+returns g c =
+    let less : c.in_ok-fabric.fabric ≡ without_chunk c.args.f.now c.args.c.now =
+    c.in_ok-fabric.ensures ∙ ap (λ (d : Description). without_chunk d c.args.c.now) c.network.ensures in (
+      λ e. absurd (false≢true e),
+      λ idle. absurd
+          (one_needs c.args.f.now c.in_ok-fabric.fabric c.args.c.now c.args.query.now _ _ c.in_ok-first_apart.field-0 c.in-Some.field-0
+          less c.requires.before c.of-after.ensures c.in_ok-first_apart.ensures c.in-Some.is idle),
+    )
