@@ -1,5 +1,5 @@
 -- What is answered.
-use Rattle.std.proofs.Common.{◌≡◌, ◌∙◌, ◌++◌, ◌<◌, ◌≤◌, Err, IfOk, List, Ok, Result, arith, codes, get_or, length, map, refl, subst, sym, true, None, ℕ}
+use Rattle.std.proofs.Common.{◌≡◌, ◌∙◌, ◌++◌, ◌<◌, ◌≤◌, Err, IfOk, List, Ok, Result, arith, get_or, length, map, refl, subst, sym, true, None, ℕ}
 use Rattle.std.specs.Global.{Vec}
 use Rattle.std.specs.List.{All, range_with_len}
 use Rattle.std.proofs.lemmas.Bool.{lt-ltb}
@@ -22,9 +22,9 @@ use Rattle.vpc_model.specs.Verdict.{verdict_of}
 use Rattle.vpc_model.specs.declared.outcomes.Verdict.TheVariants as verdicts
 use Rattle.vpc_model.specs.declared.places.End.TheVariants as places
 use Rattle.network_reach.specs.Reached.{meaning_in}
-use Rattle.reach_matrix.specs.Answered.{IsMatrixAnswered, IsMatrixDecided, IsMatrixOf, host_limit}
+use Rattle.reach_matrix.specs.Answered.{IsMatrixAnswered, IsMatrixDecided, host_limit}
 use Rattle.reach_matrix.specs.Answered as matrix
-use Rattle.reach_matrix.specs.Hosts.{AreHostsById, host_count, hosts_of, is_host, numbered}
+use Rattle.described_hosts.specs.Hosts.{AreHostsById, host_count, hosts_of, is_host, numbered}
 use Rattle.reach_matrix.specs.Pairs.{address_of, query_between, requests_between}
 use Rattle.reach_matrix.specs.Ranges.{ArePairRanges}
 use Rattle.reach_matrix.specs.Words.{ports_asked}

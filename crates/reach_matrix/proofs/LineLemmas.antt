@@ -5,7 +5,7 @@ use Rattle.std.proofs.lemmas.Bool.Decides.{nat_tests}
 use Rattle.std.proofs.lemmas.Grind.{flat_map-append}
 use Rattle.std.proofs.lemmas.List.{map-append, take_more}
 use Rattle.std.proofs.lemmas.List.Elements.{filter-append}
-use Rattle.block_report.specs.Words.{line_end, word}
+use Rattle.block_report.specs.Words.{line_end}
 use Rattle.vpc_laws.specs.Types.{Description, EniNo}
 use Rattle.reach_matrix.specs.Matrix.{Adds, AreTexts, IsPairLine, IsTold, names_text, pairs_from, ranges_text}
 use Rattle.reach_matrix.specs.Matrix as matrix

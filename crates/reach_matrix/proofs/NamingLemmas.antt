@@ -1,7 +1,6 @@
 -- The words of `ask` about a pair give the query about it.
-use Rattle.std.proofs.Common.{◌≡◌, ◌∙◌, ◌<◌, ◌≤◌, ◌&&◌, ◌^◌, Bool, Err, List, None, Ok, Option, Result, Some, ap, arith, bytes_eq, codes, false, is_some, nat_le, not, refl, subst, sym, true, unwrap_or, ℕ}
+use Rattle.std.proofs.Common.{◌≡◌, ◌∙◌, ◌<◌, ◌≤◌, ◌&&◌, ◌^◌, Bool, Err, List, None, Ok, Option, Result, Some, ap, arith, bytes_eq, codes, false, is_some, nat_le, not, refl, sym, true, unwrap_or, ℕ}
 use Rattle.std.specs.Prelude.{if◌then◌else◌, ok_or}
-use Rattle.std.proofs.lemmas.Bool.{ltb-true, not-true}
 use Rattle.std.proofs.lemmas.Bool.Decides.{nat_tests}
 use Rattle.prefix_text.specs.Range.{range_of, range_text}
 use Rattle.prefix_text.proofs.RangeLaws.{range_of-range_text}
@@ -20,7 +19,7 @@ use Rattle.vpc_model.specs.Accepted.{IsAccepted}
 use Rattle.vpc_model.specs.Lookup.{eni_no, has_interface, interface_at, no_interface}
 use Rattle.vpc_model.specs.Step.Crossing.{is_gateway}
 use Rattle.vpc_model.specs.declared.places.End.TheVariants as places
-use Rattle.reach_matrix.specs.Hosts.{id_of}
+use Rattle.described_hosts.specs.Hosts.{id_of}
 use Rattle.reach_matrix.specs.Naming.{CanBeAsked, words_about}
 use Rattle.reach_matrix.specs.Pairs.{address_of, has_primary, query_between, requests_between}
 

@@ -5,7 +5,7 @@ use Rattle.command_job.specs.declared.status.Status.{Status}
 use Rattle.command_job.specs.declared.status.Status.TheVariants as ends
 use Rattle.query_words.specs.declared.refusal.QueryRefusal.{QueryRefusal}
 use Rattle.vpc_laws.specs.Types.{Description}
-use Rattle.reach_matrix.specs.Hosts.{host_count}
+use Rattle.described_hosts.specs.Hosts.{host_count}
 use Rattle.reach_matrix.specs.Matrix.{IsMatrix}
 use Rattle.reach_matrix.specs.Words.{ports_asked}
 

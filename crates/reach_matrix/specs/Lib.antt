@@ -1,5 +1,4 @@
 pub mod Answered
-pub mod Hosts
 pub mod Laws
 pub mod Matrix
 pub mod Naming

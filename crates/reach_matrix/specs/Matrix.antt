@@ -5,7 +5,7 @@ use Rattle.block_report.specs.Words.{line_end, word}
 use Rattle.command_job.specs.Lines.{line}
 use Rattle.prefix_text.specs.Range.{range_text}
 use Rattle.vpc_laws.specs.Types.{Description, EniNo}
-use Rattle.reach_matrix.specs.Hosts.{AreHostsById, id_of}
+use Rattle.described_hosts.specs.Hosts.{AreHostsById, id_of}
 use Rattle.reach_matrix.specs.Pairs.{have_addresses}
 use Rattle.reach_matrix.specs.Ranges.{ArePairRanges}
 

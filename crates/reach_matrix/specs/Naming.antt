@@ -5,7 +5,7 @@ use Rattle.query_words.specs.Query.{query_of}
 use Rattle.vpc_laws.specs.Types.{Description, EniNo}
 use Rattle.vpc_model.specs.Accepted.{IsAccepted}
 use Rattle.vpc_model.specs.Lookup.{interface_at}
-use Rattle.reach_matrix.specs.Hosts.{id_of, is_host}
+use Rattle.described_hosts.specs.Hosts.{id_of, is_host}
 use Rattle.reach_matrix.specs.Pairs.{IsAddressed, query_between}
 
 -- a host with an address that the words of `ask` can name: the word `internet` means the internet

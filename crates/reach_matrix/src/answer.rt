@@ -4,13 +4,13 @@ ghost use Rattle.query_words.specs.Pairs.{IsSide};
 ghost use Rattle.reach_matrix.specs.Answered.{IsMatrixAnswered, IsMatrixOf};
 ghost use Rattle.reach_matrix.specs.Words.{IsMatrixCount};
 
-use crate::hosts::{host_count, hosts_by_id};
 use crate::lines::put_rows;
 use crate::pairs::probe_of;
 use crate::words::ports_asked;
 use appliances::Deciders;
 use block_report::put_line;
 use command_job::{Answer, Job, Status, answer_job, answer_line, refuse_query};
+use described_hosts::{host_count, hosts_by_id};
 use fabric::Fabric;
 use reference_check::Network;
 use std::alloc::Global;

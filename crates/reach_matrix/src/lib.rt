@@ -3,7 +3,6 @@
 
 mod answer;
 mod command;
-mod hosts;
 mod laws;
 mod lines;
 mod pairs;

@@ -1,6 +1,5 @@
-use Rattle.std.proofs.Common.{map, string_bytes, sym}
+use Rattle.std.proofs.Common.{map, sym}
 use Rattle.command_job.proofs.Answers.{if_ok, if_ok_two}
-use Rattle.query_words.proofs.EventLemmas.{refused_if_told}
 use Rattle.reach_matrix.specs.Answered as matrix
 use Rattle.reach_matrix.proofs.answer.matrix.Goals as goal
 

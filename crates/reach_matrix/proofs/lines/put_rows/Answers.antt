@@ -2,7 +2,7 @@ use Rattle.std.proofs.Common.{List, get_or, subst}
 use Rattle.std.specs.List.{flat_map}
 use Rattle.std.proofs.lemmas.List.{get_or_default, take_all}
 use Rattle.vpc_laws.specs.Types.{EniNo}
-use Rattle.reach_matrix.specs.Hosts.{numbered}
+use Rattle.described_hosts.specs.Hosts.{numbered}
 use Rattle.reach_matrix.specs.Matrix.{Adds, AreTexts, IsPairLine, pairs_from}
 use Rattle.reach_matrix.proofs.LineLemmas.{adds_none, rows_more}
 use Rattle.reach_matrix.proofs.lines.put_rows.Goals as goal

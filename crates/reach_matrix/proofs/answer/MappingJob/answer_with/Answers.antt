@@ -2,7 +2,7 @@ use Rattle.std.proofs.Common.{◌≡◌, List, subst, sym, true}
 use Rattle.std.specs.List.{All}
 use Rattle.vpc_laws.specs.Types.{Description, EniNo}
 use Rattle.vpc_model.specs.Sound.{is_eni}
-use Rattle.reach_matrix.specs.Hosts.{AreHostsById}
+use Rattle.described_hosts.specs.Hosts.{AreHostsById}
 use Rattle.reach_matrix.proofs.AnswerLemmas.{hosts_are_described}
 use Rattle.reach_matrix.proofs.answer.MappingJob.answer_with.Goals as goal
 
