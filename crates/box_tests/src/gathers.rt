@@ -79,23 +79,6 @@ const LOW: (u16, u16) = (0, 1023);
 
 const HIGH: (u16, u16) = (1024, 65535);
 
-fn row(p: (u16, u16), q: (u16, u16), word: Change) -> Row<Change> {
-    Row {
-        part: Box5 { p, q, ..PAIR },
-        word,
-    }
-}
-
-fn at(p: u16, q: u16) -> Header {
-    Header {
-        proto: 6,
-        src: 0x0a00_010a,
-        dst: 0x0a00_0214,
-        p,
-        q,
-    }
-}
-
 fn with_words(low: Change, rest: Change) -> Changes {
     Changes {
         high: 1024,
@@ -107,74 +90,88 @@ fn with_words(low: Change, rest: Change) -> Changes {
     }
 }
 
+// The sides p and q of a row, and what changed there.
+type Told = ((u16, u16), (u16, u16), Change);
+
+fn is_row(row: &Row<Change>, told: &Told) -> bool {
+    let (p, q, word) = *told;
+    row.part == Box5 { p, q, ..PAIR } && row.word == word
+}
+
+fn are_rows(rows: &[Row<Change>], told: &[Told]) -> bool {
+    for i in 0..rows.len() {
+        if i >= told.len() || !is_row(&rows[i], &told[i]) {
+            return false;
+        }
+    }
+    rows.len() == told.len()
+}
+
+// Whether these rows are found, and then a header with these ports that changed and is in none of them.
+fn is_found(found: Gathered<Change>, told: &[Told], next: Option<(u16, u16)>) -> bool {
+    let (rows, after) = match found {
+        Gathered::All(rows) => (rows, None),
+        Gathered::More(rows, after) => (rows, Some(after)),
+    };
+    let next = next.map(|(p, q)| Header {
+        proto: 6,
+        src: 0x0a00_010a,
+        dst: 0x0a00_0214,
+        p,
+        q,
+    });
+    after == next && are_rows(rows.as_slice(), told)
+}
+
+// Rows of low source ports come first. None of them goes on from the one before it with its word.
+const CHANGED: [Told; 4] = [
+    (LOW, (80, 89), Change::Opened),
+    (LOW, (90, 99), Change::Closed),
+    (HIGH, (80, 89), Change::Opened),
+    (HIGH, (90, 99), Change::Closed),
+];
+
+// The room, how many of them are found, and the ports that are next.
+const ROOMS: [(u32, usize, Option<(u16, u16)>); 6] = [
+    (0, 0, Some((0, 80))),
+    (1, 1, Some((0, 90))),
+    (2, 2, Some((1024, 80))),
+    (3, 3, Some((1024, 90))),
+    (4, 4, None),
+    (20000, 4, None),
+];
+
 #[test]
 fn gathers_what_changed(rt: HostRuntime) -> Result<(), Fail> {
     let both = with_words(Change::Opened, Change::Closed);
-    // Rows of low source ports come first. None of them goes on from the one before it with its word.
-    let rows = [
-        row(LOW, (80, 89), Change::Opened),
-        row(LOW, (90, 99), Change::Closed),
-        row(HIGH, (80, 89), Change::Opened),
-        row(HIGH, (90, 99), Change::Closed),
-    ];
-    for (room, count, next) in [
-        (0, 0, Some(at(0, 80))),
-        (1, 1, Some(at(0, 90))),
-        (2, 2, Some(at(1024, 80))),
-        (3, 3, Some(at(1024, 90))),
-        (4, 4, None),
-        (20000, 4, None),
-    ] {
-        let (found, after) = match gather(rt.alloc(), &both, PAIR, room)? {
-            Gathered::All(found) => (found, None),
-            Gathered::More(found, after) => (found, Some(after)),
-        };
-        assert_eq!(rt; found.as_slice(), &rows[..count], "in {room}");
-        assert_eq!(rt; after, next, "in {room}");
+    for (room, count, next) in ROOMS {
+        let found = gather(rt.alloc(), &both, PAIR, room)?;
+        assert!(rt; is_found(found, &CHANGED[..count], next), "in {room}");
     }
     Ok(())
 }
 
+// The ports asked for, and what is found there where all that changed was opened.
+const JOINED: [((u16, u16), (u16, u16), &[Told]); 5] = [
+    // By q, and then by p what was joined by q.
+    (ALL, ALL, &[(ALL, (80, 99), Change::Opened)]),
+    (LOW, ALL, &[(LOW, (80, 99), Change::Opened)]),
+    (
+        (1000, 1100),
+        (85, 89),
+        &[((1000, 1100), (85, 89), Change::Opened)],
+    ),
+    (ALL, (99, 120), &[(ALL, (99, 99), Change::Opened)]),
+    // Nothing changed there.
+    (ALL, (100, 65535), &[]),
+];
+
 #[test]
 fn gathers_rows_of_one_word_as_one(rt: HostRuntime) -> Result<(), Fail> {
     let opened = with_words(Change::Opened, Change::Opened);
-    let cases: [(Box5, &[Row<Change>]); 5] = [
-        // By q, and then by p what was joined by q.
-        (PAIR, &[row(ALL, (80, 99), Change::Opened)]),
-        (
-            Box5 { p: LOW, ..PAIR },
-            &[row(LOW, (80, 99), Change::Opened)],
-        ),
-        (
-            Box5 {
-                p: (1000, 1100),
-                q: (85, 89),
-                ..PAIR
-            },
-            &[row((1000, 1100), (85, 89), Change::Opened)],
-        ),
-        (
-            Box5 {
-                q: (99, 120),
-                ..PAIR
-            },
-            &[row(ALL, (99, 99), Change::Opened)],
-        ),
-        // Nothing changed there.
-        (
-            Box5 {
-                q: (100, 65535),
-                ..PAIR
-            },
-            &[],
-        ),
-    ];
-    for (sides, rows) in cases {
-        let found = match gather(rt.alloc(), &opened, sides, 2)? {
-            Gathered::All(found) => found,
-            Gathered::More(_found, after) => panic!(rt; "more from {after:?}"),
-        };
-        assert_eq!(rt; found.as_slice(), rows);
+    for (p, q, rows) in JOINED {
+        let found = gather(rt.alloc(), &opened, Box5 { p, q, ..PAIR }, 2)?;
+        assert!(rt; is_found(found, rows, None), "{p:?} {q:?}");
     }
     Ok(())
 }

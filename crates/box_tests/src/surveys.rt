@@ -2,7 +2,7 @@
 ghost use Rattle.std.specs.Prelude.{◌↔◌, All, IsTrue};
 ghost use Rattle.header_boxes.specs.Boxes.{IsValid};
 
-use box_survey::{Survey, surveyed};
+use box_survey::{Survey, WholeBox, surveyed};
 use header_boxes::Box5;
 use std::alloc::Global;
 use std::test::Fail;
@@ -38,7 +38,7 @@ fn survey_of(alloc: Global, boxes: &[Box5]) -> Result<Option<Survey>, NoMemory> 
     if !are_valid(boxes) || boxes.len() > 9 {
         return Ok(None);
     }
-    Ok(Some(surveyed(alloc, &WHOLE, boxes)?))
+    Ok(Some(surveyed(alloc, &WholeBox::of(WHOLE), boxes)?))
 }
 
 // All of the whole whose last port lies between two numbers.

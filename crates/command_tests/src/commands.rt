@@ -21,6 +21,8 @@ pub const REPLAY: &str = "replay o.json second.txt";
 
 pub const DIFF: &str = "diff o.json second.txt from eni-a to eni-b";
 
+pub const CHECK_DIFF: &str = "check o.json o.json second.txt";
+
 pub const ARRIVING: &str = "\
 hop 1 out eni-a tcp 10.0.1.10 10.0.1.20 5000 443 by sg-a out 1
 hop 2 router subnet-a tcp 10.0.1.10 10.0.1.20 5000 443
@@ -43,7 +45,7 @@ pair eni-1 eni-3 reachable tcp 10.1.1.10 10.3.1.10 0 3
 pair eni-1 internet blocked
 ";
 
-pub const COMMANDS: [Command; 6] = [
+pub const COMMANDS: [Command; 8] = [
     Command {
         words: TRACE,
         second: "",
@@ -67,6 +69,28 @@ end 1
 ",
         code: 1,
         text: "no untrue 1 tcp 10.0.1.10 10.0.1.20 0 80 request GroupsIn eni-b -\n",
+    },
+    Command {
+        words: CHECK,
+        second: "\
+vpc-reach 1
+query from eni-a to eni-b
+row 1 eni-a eni-b 6-6 10.0.1.10-10.0.1.10 10.0.1.20-10.0.1.20 0-65535 443-443
+end 1
+",
+        code: 0,
+        text: "yes\n",
+    },
+    Command {
+        words: CHECK_DIFF,
+        second: "\
+vpc-diff 1
+query from eni-a to eni-b
+row 1 eni-a moved eni-b eni-a 6-6 10.0.1.10-10.0.1.10 10.0.1.20-10.0.1.20 0-65535 443-443
+end 1
+",
+        code: 1,
+        text: "no untrue 1 tcp 10.0.1.10 10.0.1.20 0 443 same\n",
     },
     Command {
         words: REPLAY,

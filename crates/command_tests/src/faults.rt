@@ -2,7 +2,7 @@
 ghost use Rattle.std.specs.Prelude.{◌≢◌};
 
 use crate::commands::{
-    ARRIVING, BLOCKED, CHECK, COMMANDS, Command, DIFF, REPLAY, THREE, TRACE, all_answer,
+    ARRIVING, BLOCKED, CHECK, CHECK_DIFF, COMMANDS, Command, DIFF, REPLAY, THREE, TRACE, all_answer,
 };
 use crate::devices::{answers, shelf_of, sink_of, two_files, words_of};
 use crate::networks::{BEHIND_NAT, ONE_SUBNET};
@@ -15,7 +15,7 @@ use vpc_io::{CountSink, SafeShelf, Shelf, ShelfFault};
 // ---- shelves
 
 // The words, the call of the shelf that fails, the status and the text.
-const AT_A_CALL: [(&str, u64, u8, &str); 14] = [
+const AT_A_CALL: [(&str, u64, u8, &str); 18] = [
     (TRACE, 1, 6, "read fault 1\n"),
     ("ask o.json from eni-a to eni-b", 1, 6, "read fault 1\n"),
     (CHECK, 1, 6, "read fault 1\n"),
@@ -25,6 +25,9 @@ const AT_A_CALL: [(&str, u64, u8, &str); 14] = [
     (DIFF, 1, 6, "read fault 1\n"),
     (DIFF, 2, 6, "read fault 2\n"),
     (DIFF, 3, 3, "refused description after NotJson\n"),
+    (CHECK_DIFF, 1, 6, "read fault 1\n"),
+    (CHECK_DIFF, 2, 6, "read fault 2\n"),
+    (CHECK_DIFF, 3, 6, "read fault 3\n"),
     // A second file is taken only once the bundle is accepted, and only where the words name one.
     (
         "check second.txt o.json",
@@ -43,6 +46,12 @@ const AT_A_CALL: [(&str, u64, u8, &str); 14] = [
         2,
         3,
         "refused description NotJson\n",
+    ),
+    (
+        "check o.json second.txt second.txt",
+        3,
+        3,
+        "refused description after NotJson\n",
     ),
     (TRACE, 2, 0, ARRIVING),
     ("make 3", 1, 0, THREE),
@@ -172,7 +181,7 @@ impl Shelf for LongShelf {
     }
 }
 
-const TOO_LONG: [(&str, u8, &str); 7] = [
+const TOO_LONG: [(&str, u8, &str); 9] = [
     (
         "trace long open from eni-a tcp 10.0.1.10 10.0.1.20 5000 443",
         3,
@@ -187,6 +196,12 @@ const TOO_LONG: [(&str, u8, &str); 7] = [
     ("replay long o.json", 3, "refused description TooBig\n"),
     ("check o.json long", 4, "refused report TooBig\n"),
     ("replay o.json long", 4, "refused events TooBig\n"),
+    (
+        "check o.json long o.json",
+        3,
+        "refused description after TooBig\n",
+    ),
+    ("check o.json o.json long", 4, "refused report TooBig\n"),
     // the network's own file is not too long
     (TRACE, 0, ARRIVING),
 ];

@@ -17,4 +17,6 @@ mod many_rules;
 #[cfg(test)]
 mod networks;
 #[cfg(test)]
+mod outside;
+#[cfg(test)]
 mod printed_reports;

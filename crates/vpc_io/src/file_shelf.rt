@@ -45,12 +45,9 @@ fn read_more<F: Read>(
     }
 }
 
-// The bytes that the reader has left, if they are at most `max`. Each turn takes at least one byte.
-pub(crate) fn read_up_to<F: Read>(
-    alloc: Global,
-    reader: &mut F,
-    max: usize,
-) -> Result<Vec<u8>, ShelfFault>
+/// The bytes that a reader has left: `TooLong` where they are more than `max`, also of a reader that would fail after these;
+/// else `Failed` where a read fails.
+pub fn read_up_to<F: Read>(alloc: Global, reader: &mut F, max: usize) -> Result<Vec<u8>, ShelfFault>
     ensures whole { IfOk result
         (λ v. IfTold (F.remaining reader.old) (λ bytes. v.items ≡ bytes)) }
     ensures within { IfOk result (λ v. length v.items ≤ max) }

@@ -11,12 +11,9 @@ mod sink;
 mod write_sink;
 
 pub use command_line::words_of;
-pub use file_shelf::FileShelf;
+pub use file_shelf::{FileShelf, read_up_to};
 pub use memory_shelf::{MemoryShelf, SafeShelf};
 pub use memory_sink::{CountSink, MemorySink};
 pub use shelf::{Shelf, ShelfFault};
 pub use sink::{Sink, WriteFailed, put_all};
 pub use write_sink::WriteSink;
-
-#[cfg(test)]
-mod tests;

@@ -3,16 +3,15 @@
 ghost use Rattle.std.specs.Prelude.{◌≡◌, IsOk};
 ghost use Rattle.vpc_io.specs.Rose.{Rose};
 
-use crate::file_shelf::read_up_to;
-use crate::{
-    CountSink, FileShelf, MemoryShelf, MemorySink, SafeShelf, Shelf, ShelfFault, WriteFailed,
-    WriteSink, put_all, words_of,
-};
 use std::alloc::{AllocError, Global};
 use std::env::{Env, FillError};
 use std::io::Read;
 use std::test::Fail;
 use std::{fs, io};
+use vpc_io::{
+    CountSink, FileShelf, MemoryShelf, MemorySink, SafeShelf, Shelf, ShelfFault, WriteFailed,
+    WriteSink, put_all, read_up_to, words_of,
+};
 
 const FAILED: Result<&str, ShelfFault> = Err(ShelfFault::Failed);
 
