@@ -31,6 +31,8 @@ CAUSE = (
     rf"(?:TooBig|NotJson|WrongShape {PATH}|BadText {PATH}|DuplicateId {ID}|MissingReference {ID} {ID}|DuplicateAddress {ID} {ADDRESS}|DuplicatePublic {ADDRESS}"
     rf"|NoRouteTable {ID}|NoAcl {ID}|TwoInternetGateways {ID}|TwoTables {ID}|TwoAcls {ID}|TooManyRows {LIST})"
 )
+BARRIER = rf"(?:request|reply) (?:{STOP}|Absent {ID} -)"
+FARE = rf"(?:reached {ID}|(?:opened|closed) {ID} {BARRIER}|moved {ID} {ID}|{BARRIER})"
 WORD = rf"(?:BadWord {COUNT}|UnknownId {COUNT}|NotAnEnd {ID}"
 
 FOR_ALL = {2: rf"refused words {COUNT}\n", 6: r"read fault [12]\n", 8: r"(?:want of memory\n)?"}
@@ -45,8 +47,10 @@ TEXTS = {
         5: rf"more boxes\n{QUERY}next {HEADER}\ncells {COUNT}\n",
     },
     "check": {
-        **WITH_FILE, 0: "yes\n",
-        1: rf"no (?:overlap {COUNT} {COUNT}|uncovered {HEADER}|untrue {COUNT} {HEADER} (?:through|(?:request|reply) {STOP}))\n",
+        **FOR_ALL, 0: "yes\n",
+        1: rf"no (?:overlap {COUNT} {COUNT}|uncovered {HEADER}|untrue {COUNT} {HEADER} (?:through|same|{FARE})|unlisted {ID} {HEADER} {FARE})\n",
+        3: rf"refused description (?:after )?{CAUSE}\n",
+        6: r"read fault [123]\n",
         4: rf"refused report (?:{COUNT}|TooManyBoxes {COUNT}|TooBig)\n",
     },
     "replay": {**WITH_FILE, 0: rf"(?:event {COUNT} (?:arrived {ID} {HEADER}|stopped {STOP})\n)*", 4: rf"refused events (?:{COUNT}|TooBig)\n"},

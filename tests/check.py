@@ -6,6 +6,7 @@ GATE is another clone of this repository in which `rt ci` runs or ran; what it b
 Only what changed in CRATE since the last call is checked: a change costs seconds where `rt ci CRATE` takes minutes. A library that is
 proved is kept in bench/out/check, and the crates above take it from there in place of the gate's. FLAGs are those of `rattle check`:
 `--allow-holes` tells of every open goal, `--fix-imports` drops unused imports, `--test` checks the tests too. It gives no verdict for the gate.
+Two functions are checked at a time, or JOBS of the environment: with JOBS=1 the times of the kept files, one after the other, tell what each takes.
 """
 
 import os
@@ -53,7 +54,7 @@ def command(gate, name, flags):
     built = [] if checks else ["-o", f"{KEPT}/{name}/{name}.rlib"]
     logic = ["--antt-project", f"{KIT}/rattle/logic/antt-project.json", "--logic-built", f"{KIT}/logic_built"]
     return [f"{KIT}/bin/rattle", "check" if checks else "build", "--crate-name", name, "src/main.rt" if is_program else "src/lib.rt",
-            *words, *logic, "--links", f"{name}=", "--jobs", "2", "--incremental", store, *built, *flags]
+            *words, *logic, "--links", f"{name}=", "--jobs", os.environ.get("JOBS", "2"), "--incremental", store, *built, *flags]
 
 
 def main():

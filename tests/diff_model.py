@@ -17,9 +17,9 @@ import sys
 import model
 import networks
 import rows_model
-from answers import ID, STOP
+from answers import BARRIER, ID
 
-CHANGED = rf"(?:(?:opened|closed) {ID} (?:request|reply) (?:{STOP}|Absent {ID} -)|moved {ID} {ID})"
+CHANGED = rf"(?:(?:opened|closed) {ID} {BARRIER}|moved {ID} {ID})"
 
 
 def many_hosts(rng):

@@ -141,7 +141,7 @@ def refusals():
 def expected(words):
     """The number of the first wrong word, by the table of commands in README; 0 where the count is right."""
     count = len(words)
-    least, most = {"trace": (10, 10), "ask": (6, 18), "check": (3, 3), "replay": (3, 3), "make": (2, 2)}.get(words[0] if words else "", (0, 0))
+    least, most = {"trace": (10, 10), "ask": (6, 18), "check": (3, 4), "replay": (3, 3), "make": (2, 2)}.get(words[0] if words else "", (0, 0))
     if not most:
         return 1
     if count > most:
@@ -155,6 +155,8 @@ WHOLE = {
     "check": "check o.json r.txt".split(), "replay": "replay o.json e.txt".split(), "make": "make 3".split(), "walk": ["walk"],
 }
 ANSWER = {"trace": HOPS, "ask": REACHABLE, "check": "yes\n", "replay": PLAYED, "make": MADE}
+# With a third file the second is a bundle.
+OTHERWISE = {("check", 4): (3, "refused description after NotJson\n")}
 
 
 def counts():
@@ -163,7 +165,8 @@ def counts():
         for count in range(0 if name == "trace" else 1, 21):
             words = (whole + ["443"] * 20)[:count]
             number = expected(words)
-            yield (f"{name} with {count} words", words, 2 if number else 0, f"refused words {number}\n" if number else ANSWER[name], {})
+            status, text = (2, f"refused words {number}\n") if number else OTHERWISE.get((name, count), (0, ANSWER.get(name)))
+            yield (f"{name} with {count} words", words, status, text, {})
 
 
 def bad_words():

@@ -556,6 +556,12 @@ def run_others(results, asked):
             results.add("check: why", "no outbound row of acl-b allows tcp 0 to 10.0.1.10 on its way out of subnet-b; its last row, 32767, refuses the rest." in out, True)
     for text, told in (("no overlap 1 2\n", "rows 1 and 2 share a packet"), ("no untrue 3 tcp 10.0.1.10 10.0.1.20 0 443 through\n", "tcp from 10.0.1.10 port 0 to 10.0.1.20 port 443 gets through"),
                        ("no untrue 1 icmp 9.9.9.9 10.0.1.20 7 8 request WrongPlace eni-b -\n", "in this bundle it arrives elsewhere, at eni-b (WrongPlace)"),
+                       ("no untrue 2 tcp 10.0.1.10 10.0.1.20 0 443 same\n", "which row 2 holds: nothing changes for it."),
+                       ("no untrue 2 tcp 10.0.1.10 10.0.1.20 0 443 reached eni-b\n", "which row 2 holds: it reaches eni-b, and its reply comes back."),
+                       ("no unlisted eni-a tcp 10.0.1.10 10.0.1.20 0 443 reached eni-b\n", "from eni-a, which is in no row: it reaches eni-b, and its reply comes back."),
+                       ("no unlisted eni-a tcp 10.0.1.10 10.0.1.20 0 443 closed eni-b reply AclIn acl-1 90\n", "it reached eni-b before the change, and after it its reply is stopped by AclIn of acl-1, rule 90."),
+                       ("no unlisted internet tcp 9.9.9.9 10.0.1.20 0 443 opened eni-b request Absent internet -\n", "it reaches eni-b after the change, and before it there is no such start."),
+                       ("no untrue 1 tcp 10.0.1.10 10.0.1.20 0 443 moved eni-b eni-c\n", "it reaches eni-c after the change, in place of eni-b."),
                        ("event 1 arrived eni-b tcp 10.0.1.10 10.0.1.20 5000 443\nevent 2 stopped GroupsOut eni-b -\n", "no outbound rule of sg-b allows the packet")):
         status, out, err = explain(text, small)
         results.add(f"told: {told}", (status, err, told in out), (0, "", True))

@@ -287,7 +287,7 @@ def want(holds, why):
         raise Untrue(why)
 
 
-LEAST_AND_MOST = {b"trace": (10, 10), b"ask": (6, 18), b"check": (3, 3), b"replay": (3, 3), b"make": (2, 2)}
+LEAST_AND_MOST = {b"trace": (10, 10), b"ask": (6, 18), b"check": (3, 4), b"replay": (3, 3), b"make": (2, 2)}
 
 
 def wrong_word(words):
@@ -325,7 +325,7 @@ def judge(machine, case):
         return status, text
     # The words may name no file that is there.
     named = case.words[1:2] if case.words[0] != b"make" else []
-    named += case.words[2:3] if case.words[0] in (b"check", b"replay") else []
+    named += case.words[2:4] if case.words[0] in (b"check", b"replay") else []
     missing = [k + 1 for k, name in enumerate(named) if not os.path.isfile(name)]
     want(status != 6 or missing and text == b"read fault %d\n" % missing[0], f"{text!r}")
     want(status not in (7, 8), f"status {status}")
