@@ -17,8 +17,11 @@ from measuring import OUT, measured, program, written
 
 
 def asked(command):
-    """The lines that a command prints, or None where they are not all."""
-    done = subprocess.run(command, capture_output=True, check=False, timeout=120)
+    """The lines that a command prints, or None where they are not all, or not there within two minutes."""
+    try:
+        done = subprocess.run(command, capture_output=True, check=False, timeout=120)
+    except subprocess.TimeoutExpired:
+        return None
     return done.stdout.decode().splitlines() if done.returncode in (0, 1) else None
 
 

@@ -91,7 +91,7 @@ _vpc() {
     begun=${words[at]%x}
     list=$(_vpc_commands "$1")
     if ((at < 2)); then
-        kind="$(cut -d ' ' -f 1 <<<"$list") help"
+        kind="$(cut -d ' ' -f 1 <<<"$list" | uniq) help"
     else
         while IFS= read -r line; do
             [[ $line != "${words[1]} "* ]] || _vpc_place "$line" "${words[@]:1:at - 1}"

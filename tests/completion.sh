@@ -29,7 +29,7 @@ behind() {
 }
 
 first='trace|ask|check|replay|make'
-commands=$(sed -n "/^commands='\$/,/^'\$/s/^\([a-z]*\) .*/\1/p" "$top/vpc" | paste -sd '|')
+commands=$(sed -n "/^commands='\$/,/^'\$/s/^\([a-z]*\) .*/\1/p" "$top/vpc" | uniq | paste -sd '|')
 mkdir "$room/work" && cd "$room/work" || exit
 ln -s "$top/vpc" vpc
 cp "$top/examples/one-subnet.json" "$top/examples/shop.json" .
@@ -50,7 +50,9 @@ is 'a file' "$(behind './vpc ask one')" one-subnet.json
 is 'a file in a folder' "$(behind "./vpc ask $top/examples/hub.j")" "$top/examples/hub.json"
 is 'no file' "$(behind './vpc ask none')" ''
 is 'a second file' "$(behind './vpc check shop.json one')" one-subnet.json
-is 'a third file' "$(behind './vpc check shop.json one-subnet.json one')" ''
+is 'a third file' "$(behind './vpc check shop.json one-subnet.json one')" one-subnet.json
+is 'a fourth file' "$(behind './vpc check shop.json one-subnet.json approved.txt one')" ''
+is 'a third file where two are wanted' "$(behind './vpc replay shop.json one-subnet.json one')" ''
 is 'events' "$(behind './vpc replay shop.json one')" one-subnet.json
 is 'a number' "$(behind './vpc make ')" ''
 
