@@ -9,7 +9,7 @@ use Rattle.vpc_model.specs.Lookup.{group_at}
 use Rattle.unused_rules.proofs.Accepting.{accepted_with_fewer}
 use Rattle.unused_rules.proofs.Alike.{Alike, alike_both_set, alike_itself, alike_set}
 use Rattle.unused_rules.proofs.Fewer.{FewerRows, FewerRules, same-rows, same-rules}
-use Rattle.unused_rules.proofs.NestedWalks.{nested_verdicts}
+use Rattle.unused_rules.proofs.NestedVerdicts.{nested_verdicts}
 use Rattle.unused_rules.proofs.Parts.{one-part, part-itself, range-part, range-part_of_one}
 use Rattle.unused_rules.specs.Chunks.{ChunkDecidesNothing, IsIdle, IsIn, IsOf, groups_without_chunk, without_chunk, without_permissions}
 use Rattle.unused_rules.specs.Needed.{DecidesNothing}

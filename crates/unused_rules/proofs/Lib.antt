@@ -7,6 +7,7 @@ pub mod Decided
 pub mod Fewer
 pub mod Needing
 pub mod NestedSteps
+pub mod NestedVerdicts
 pub mod NestedWalks
 pub mod Parts
 pub mod Refusing
