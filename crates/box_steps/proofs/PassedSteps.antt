@@ -10,7 +10,7 @@ use Rattle.vpc_base.specs.Cuts.{CutLists}
 use Rattle.vpc_base.specs.Dir.{same_dir}
 use Rattle.vpc_base.specs.declared.headers.Dir.TheVariants as dirs
 use Rattle.vpc_base.specs.declared.headers.Label.TheVariants as labels
-use Rattle.header_boxes.proofs.Held.{holds_low, valid_if_within}
+use Rattle.header_boxes.proofs.Held.{holds_low, valid_if_within, within_itself}
 use Rattle.header_boxes.proofs.BoxLaws.{within_holds}
 use Rattle.header_boxes.specs.Boxes.{IsValid, IsWithin, holds, low_of}
 use Rattle.header_boxes.specs.Cells.{IsAligned}
@@ -25,7 +25,7 @@ use Rattle.header_boxes.proofs.CellNumbers.{aligned_through}
 use Rattle.conn_tracking.specs.OnImages.{connection_at, connections_at}
 use Rattle.conn_tracking.specs.declared.on_images.ImageEntry.{ImageEntry}
 use Rattle.image_tests.proofs.Answering.{answers_all}
-use Rattle.vpc_laws.specs.Types.{By, Description, Dir, EniNo, Header, Label, Place, Stop, SubnetNo}
+use Rattle.vpc_laws.specs.Types.{By, Description, Dir, End, EniNo, Header, Label, Place, Stop, SubnetNo}
 use Rattle.vpc_model.specs.Accepted.{IsAccepted}
 use Rattle.vpc_model.specs.Appliances.{Appliances}
 use Rattle.vpc_model.specs.Connections.{Connection, Passing, added, answer_passing, is_tracked, open_passing, passing_groups, passing_of, same_connection, same_header}
@@ -34,7 +34,7 @@ use Rattle.vpc_model.specs.Lookup.{addresses_in, interface_at, subnet_of}
 use Rattle.vpc_model.specs.Sound.{is_sound}
 use Rattle.vpc_model.specs.Step.{step_at, step_of}
 use Rattle.vpc_model.specs.Step.Interface.{taken_in}
-use Rattle.vpc_model.specs.Step.Words.{Moment, Next, Step, go, plain, stop}
+use Rattle.vpc_model.specs.Step.Words.{Moment, Next, Step, arrive, go, plain, stop}
 use Rattle.vpc_model.specs.Walk.{same_place}
 use Rattle.vpc_model.specs.declared.outcomes.RuleRef.{RuleRef}
 use Rattle.vpc_model.specs.declared.places.Came.TheVariants as from
@@ -44,7 +44,7 @@ use Rattle.box_steps.proofs.Narrowing.{IsKept, connections_at-kept, connections_
 use Rattle.box_steps.proofs.Staying.{Stays, next_of_onward, taken_in-stays}
 use Rattle.box_steps.proofs.Turning.{next_at-turned, place-sound, standing_at_place}
 use Rattle.box_steps.specs.Cuts.{AtPlace, Standing}
-use Rattle.box_steps.specs.Moments.{CanRemember, IsBoxMoment, IsImageOf, IsNarrowed, IsOpenOver, IsStepOn, IsStepTo, RemembersMore, comes_to, entry_over, has_conn, moment_at, remembers, translations_at}
+use Rattle.box_steps.specs.Moments.{CanRemember, IsBoxMoment, IsImageOf, IsLetIn, IsNarrowed, IsOpenOver, IsStepOn, IsStepTo, RemembersMore, comes_to, entry_over, has_conn, moment_at, remembers, translations_at}
 use Rattle.box_steps.specs.Onward.{onward_of}
 use Rattle.box_steps.specs.Passing.{HasPassed, TellsOf, barrier, entries_left, is_passed, left_at, passed_at, past_interface}
 use Rattle.box_steps.specs.declared.moment.BoxMoment.{BoxMoment}
@@ -264,31 +264,43 @@ left-same labels.Answer groups i dir h a b e = refl
 left-same labels.Opening [] i dir h a b e = refl
 left-same labels.Opening (g ∷ gs) i dir h a b e = ap (λ (k : Header). let c : Connection = record { eni = i; dir = dir; header = k } in c ∷ []) e
 
+-- what the step leaves is what the new moment remembers
+passed_leaves : (d : Description) (label : Label) (i : EniNo) (dir : Dir) (s : Step) (h : Header) (body : Box5) (old mid new : BoxMoment) (x : Part Onward) (onward : Onward) (past : Next)
+    → (label ≡ labels.Opening → has_conn old.conns.items i dir ≡ false) → IsNarrowed body old mid → HasPassed d label i dir x mid new onward
+    → (let m = moment_at h old in GoesPast m (passing_of d label i dir m.header m.conns) past s)
+    → (s.conns ≡ connections_at h new.conns.items) × (s.nats ≡ translations_at h new.nats.items)
+passed_leaves d label i dir s h body old mid new x onward past fresh n p g =
+    let row = interface_at d i in
+    let kept = kept_if_narrowed body old mid n in
+    let header : header_at new.header h ≡ header_at old.header h = ap (λ (j : Image). header_at j h) p.header ∙ ap (λ (j : Image). header_at j h) n.header in
+    let left : List ImageEntry = left_at d label i dir new in (
+      g.conns
+          ∙ passing-leaves d label i dir h old.conns.items old.header row.groups fresh g.passed
+          ∙ ap (λ (cs : List Connection). connections_at h old.conns.items ++ cs) (left-same label row.groups i dir h old.header new.header (sym header))
+          ∙ ap (λ (cs : List Connection). cs ++ connections_at h left) (sym (connections_at-kept h body old mid kept))
+          ∙ ap (λ (cs : List Connection). cs ++ connections_at h left) (sym (connections_at-over h x.body mid.conns.items))
+          ∙ sym (map-append (connection_at h) (map (entry_over x.body) mid.conns.items) left)
+          ∙ sym (ap (connections_at h) p.conns),
+      g.nats ∙ sym (translations_at-kept h body old mid kept) ∙ sym (translations_at-over h x.body mid.nats.items) ∙ sym (ap (translations_at h) p.nats),
+    )
+
 -- at one header: the step from the old moment is the one to the new
 passed_to : (d : Description) (appliances : Appliances) (label : Label) (i : EniNo) (dir : Dir) (s : Step) (h : Header) (old mid new : BoxMoment) (x : Part Onward) (onward : Onward)
     → (label ≡ labels.Opening → has_conn old.conns.items i dir ≡ false) → IsNarrowed mid.header.part old mid → HasPassed d label i dir x mid new onward
     → (let m = moment_at h old in GoesPast m (passing_of d label i dir m.header m.conns) (past_interface d appliances i dir m.header) s)
     → x.told ≡ onward_of (past_interface d appliances i dir (header_at mid.header h)) → IsStepTo s h new onward
 passed_to d appliances label i dir s h old mid new x onward fresh n p g told =
-    let row = interface_at d i in
     let k = header_at old.header h in
-    let kept = kept_if_narrowed mid.header.part old mid n in
     let middle : header_at mid.header h ≡ k = ap (λ (j : Image). header_at j h) n.header in
     let header : header_at new.header h ≡ k = ap (λ (j : Image). header_at j h) p.header ∙ middle in
-    let left : List ImageEntry = left_at d label i dir new in
+    let leaves = passed_leaves d label i dir s h mid.header.part old mid new x onward (past_interface d appliances i dir k) fresh n p g in
     record {
       next = g.next
           ∙ next_of_onward k (past_interface d appliances i dir k) onward (stays-past d appliances i dir k)
           (ap (λ (j : Header). onward_of (past_interface d appliances i dir j)) (sym middle) ∙ sym told ∙ sym p.told)
           ∙ next_at-turned h k mid.place new onward (p.place ∙ ap (comes_to mid.place) (sym p.told)) header;
-      conns = g.conns
-          ∙ passing-leaves d label i dir h old.conns.items old.header row.groups fresh g.passed
-          ∙ ap (λ (cs : List Connection). connections_at h old.conns.items ++ cs) (left-same label row.groups i dir h old.header new.header (sym header))
-          ∙ ap (λ (cs : List Connection). cs ++ connections_at h left) (sym (connections_at-kept h mid.header.part old mid kept))
-          ∙ ap (λ (cs : List Connection). cs ++ connections_at h left) (sym (connections_at-over h x.body mid.conns.items))
-          ∙ sym (map-append (connection_at h) (map (entry_over x.body) mid.conns.items) left)
-          ∙ sym (ap (connections_at h) p.conns);
-      nats = g.nats ∙ sym (translations_at-kept h mid.header.part old mid kept) ∙ sym (translations_at-over h x.body mid.nats.items) ∙ sym (ap (translations_at h) p.nats);
+      conns = leaves.0;
+      nats = leaves.1;
     }
 
 -- the new moment without what is left
@@ -372,6 +384,46 @@ passed_step d appliances label i dir old mid new told x onward accepted at momen
       moment = moment-passed d label i dir mid new x onward middle l.body.within sound p;
       memory = memory-passed d label i dir old mid new x onward at k.narrowed p;
     }
+
+-- ---- taken to be let in
+
+-- what arrives isn't stopped
+goes_past_if_arrived : (m : Moment) (p : Passing) (past : Next) (o : Option Stop) (s : Step) (end : End) → StepsBy m p past o s → s.next ≡ arrive end → GoesPast m p past s
+goes_past_if_arrived m p past None s end k e = k
+goes_past_if_arrived m p past (Some x) s end k e = absurd (let no : stop x ≡ arrive end = sym (ap (λ (t : Step). t.next) k) ∙ e in cc)
+
+pub lets_in : (d : Description) (appliances : Appliances) (i : EniNo) (old mid new : BoxMoment) (x : Part Onward) (end : End) (onward : Onward)
+    → old.place ≡ places.Into i → IsBoxMoment d labels.Opening old → CanRemember labels.Opening old → x.body ≡ old.header.part → x.told ≡ onwards.Arrive end
+    → IsNarrowed old.header.part old mid → HasPassed d labels.Opening i dirs.Inward x mid new onward → IsLetIn d appliances old new
+lets_in d appliances i old mid new x end onward at moment room whole told n p = record {
+  header = p.header ∙ ap (λ (b : Box5). record mid.header { part = b }) whole ∙ ap (λ (j : Image). record j { part = old.header.part }) n.header;
+  conns = λ h ends e. (leaves h ends e).0;
+  nats = λ h ends e. (leaves h ends e).1;
+  moment = moment-passed d labels.Opening i dirs.Inward mid new x onward middle within sound p;
+}
+  where
+    leaves : (h : Header) (end : End) → (let s = step_of d appliances labels.Opening (moment_at h old) in s.next ≡ arrive end)
+        → (let s = step_of d appliances labels.Opening (moment_at h old) in (s.conns ≡ connections_at h new.conns.items) × (s.nats ≡ translations_at h new.nats.items))
+    leaves h end e =
+        let m = moment_at h old in
+        let s = step_of d appliances labels.Opening m in
+        let by = barrier d labels.Opening i dirs.Inward m in
+        let passing = passing_of d labels.Opening i dirs.Inward m.header m.conns in
+        let past = past_interface d appliances i dirs.Inward m.header in
+        passed_leaves d labels.Opening i dirs.Inward s h old.header.part old mid new x onward past (fresh_at labels.Opening old i dirs.Inward at room) n p
+        (goes_past_if_arrived m passing past by s end (step_told d appliances labels.Opening i dirs.Inward m by at refl) e)
+
+    itself : IsWithin old.header.part old.header.part
+    itself = within_itself old.header.part moment.valid.part
+
+    middle : IsBoxMoment d labels.Opening mid
+    middle = moment-narrowed d labels.Opening old.header.part old mid moment itself n
+
+    within : IsWithin x.body mid.header.part
+    within = subst (λ (b : Box5). IsWithin b mid.header.part) (sym whole) (subst (IsWithin old.header.part) (sym (ap (λ (j : Image). j.part) n.header)) itself)
+
+    sound : is_sound d new.place ≡ true
+    sound = ap (is_sound d) (p.place ∙ ap (comes_to mid.place) told ∙ n.place) ∙ moment.sound
 
 -- all packets go out to one router
 pub to_router : (d : Description) (appliances : Appliances) (i : EniNo) (s : SubnetNo) (m : BoxMoment) → IsValid m.header.part → s ≡ subnet_of d i

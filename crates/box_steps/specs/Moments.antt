@@ -17,7 +17,7 @@ use Rattle.box_images.specs.declared.images.Image.{Image}
 use Rattle.box_images.specs.declared.images.Part.{Part}
 use Rattle.conn_tracking.specs.OnImages.{connections_at}
 use Rattle.conn_tracking.specs.declared.on_images.ImageEntry.{ImageEntry}
-use Rattle.vpc_laws.specs.Types.{Description, EniNo, NatNo, Place, Stop}
+use Rattle.vpc_laws.specs.Types.{Description, End, EniNo, NatNo, Place, Stop}
 use Rattle.vpc_model.specs.Appliances.{Appliances}
 use Rattle.vpc_model.specs.Lookup.{addresses_in}
 use Rattle.vpc_model.specs.Nat.{Translation}
@@ -189,6 +189,13 @@ pub record IsStepOn (d : Description) (appliances : Appliances) (label : Label) 
   pub aligned : (cuts : CutLists) → AtPlace d old.place cuts → IsAligned cuts new.header.part old.header.part
   pub moment : IsBoxMoment d label new
   pub memory : RemembersMore old new
+
+-- opens before an interface, and as they are once they have arrived there: the step of each that is let in leads to the later moment
+pub record IsLetIn (d : Description) (appliances : Appliances) (old new : BoxMoment) : Type 0 where
+  pub header : new.header ≡ old.header
+  pub conns : (h : Header) (end : End) → (let s = step_of d appliances labels.Opening (moment_at h old) in (s.next ≡ arrive end) → s.conns ≡ connections_at h new.conns.items)
+  pub nats : (h : Header) (end : End) → (let s = step_of d appliances labels.Opening (moment_at h old) in (s.next ≡ arrive end) → s.nats ≡ translations_at h new.nats.items)
+  pub moment : IsBoxMoment d labels.Opening new
 
 -- ---- what a step tells
 

@@ -4,7 +4,7 @@ ghost use Rattle.box_images.specs.Answers.{Answers};
 ghost use Rattle.box_images.specs.Images.{IsImageOfWalk, IsValidImage, header_at};
 ghost use Rattle.header_boxes.specs.Boxes.{IsWithin};
 ghost use Rattle.box_steps.specs.Cuts.{AtPlace, Standing};
-ghost use Rattle.box_steps.specs.Moments.{CanRemember, IsBoxMoment, IsStepOn};
+ghost use Rattle.box_steps.specs.Moments.{CanRemember, IsBoxMoment, IsLetIn, IsStepOn};
 ghost use Rattle.box_steps.specs.Onward.{onward_of};
 ghost use Rattle.box_steps.specs.Passing as passing;
 ghost use Rattle.vpc_base.specs.declared.headers.Header.{Header};
@@ -186,4 +186,20 @@ pub fn into_on(f: &Fabric, deciders: &Deciders, label: Label, i: EniNo, m: &mut 
             pass(f, label, i, Dir::Inward, m, &taken)
         }
     }
+}
+
+/// Opens before an interface, as they are once they have arrived there: taken to be let in, whatever its groups allow.
+pub fn let_in(f: &Fabric, i: EniNo, m: &mut BoxMoment)
+    requires place { m.old.place ≡ places.Into i }
+    requires moment { IsBoxMoment f.now labels.Opening m.old }
+    requires room { CanRemember labels.Opening m.old }
+    ensures { IsLetIn f.now (appliances_of f.now) m.old m.new }
+{
+    let part = m.header.part;
+    m.narrow(&part);
+    let arrived = Part {
+        body: part,
+        told: Onward::Arrive(End::Interface(i)),
+    };
+    let _ = pass(f, Label::Opening, i, Dir::Inward, m, &arrived);
 }

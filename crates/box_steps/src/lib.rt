@@ -18,6 +18,7 @@ pub mod router;
 pub mod step;
 pub mod transit;
 
+pub use interface::let_in;
 pub use missing::misses_on;
 pub use moment::{BoxMoment, BoxNext, ImageNat};
 pub use onward::Onward;

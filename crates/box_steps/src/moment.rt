@@ -77,6 +77,22 @@ impl BoxMoment {
         copy
     }
 
+    /// Becomes another moment, of the packets of a body of its part alone. It takes no memory.
+    pub fn take_within(&mut self, other: &BoxMoment, body: &Box5)
+        requires valid { IsValidImage other.now.header }
+        requires within { IsWithin body.now other.now.header.part }
+        ensures { IsNarrowed body.now other.now self.new }
+    {
+        self.place = other.place;
+        self.header = other.header.within(body);
+        self.conns.clear();
+        copy_entries(other.conns.as_slice(), &mut self.conns);
+        narrow_entries(self.conns.as_mut_slice(), body);
+        self.nats.clear();
+        copy_nats(other.nats.as_slice(), &mut self.nats);
+        narrow_nats(self.nats.as_mut_slice(), body);
+    }
+
     /// Leaves the packets of a body of the part.
     pub fn narrow(&mut self, body: &Box5)
         requires valid { IsValidImage self.old.header }
