@@ -1,6 +1,5 @@
 -- Journeys of all packets of a moment.
-use Rattle.std.proofs.Common.{◌≡◌, ◌≢◌, ◌↔◌, ◌∙◌, Bool, None, Option, Some, ap, cond, false, refl, subst, sym, true}
-use Rattle.box_images.specs.Answers.{Answers}
+use Rattle.std.proofs.Common.{◌≡◌, ◌≢◌, ◌↔◌, ◌∙◌, Bool, None, Option, ap, cond, false, refl, subst, sym, true}
 use Rattle.box_steps.specs.Moments.{moment_at}
 use Rattle.box_steps.specs.declared.moment.BoxMoment.{BoxMoment}
 use Rattle.header_boxes.proofs.BoxLaws.{within_holds}
@@ -31,7 +30,6 @@ use Rattle.box_walk.specs.Told.{AreRequests, DivideArrival, Tells, word_of_arriv
 use Rattle.box_walk.specs.Walks.{IsWalkOn, IsWalkTo}
 use Rattle.box_walk.specs.declared.journeys.Journey.{Journey}
 use Rattle.box_walk.specs.declared.journeys.Journey.TheVariants as journeys
-use Rattle.box_walk.specs.declared.walks.Ending.{Ending}
 use Rattle.box_walk.specs.declared.walks.Ending.TheVariants as endings
 
 -- ---- ends
@@ -39,7 +37,7 @@ use Rattle.box_walk.specs.declared.walks.Ending.TheVariants as endings
 same-itself : (e : End) → same_end e e ≡ true
 same-itself e = let told = ends_are_told_apart e e in told.1 refl
 
-same-only : (a b : End) → same_end a b ≡ true → a ≡ b
+pub same-only : (a b : End) → same_end a b ≡ true → a ≡ b
 same-only a b is = let told = ends_are_told_apart a b in told.0 is
 
 -- ---- one request

@@ -3,3 +3,4 @@ pub mod Telling
 pub mod Texts
 pub mod Missed
 pub mod JourneyLemmas
+pub mod WayLemmas

@@ -7,3 +7,4 @@ pub mod Laws
 pub mod Journeys
 pub mod Open
 pub mod Goal
+pub mod Ways

@@ -11,6 +11,7 @@ mod seeking;
 mod through;
 mod verdict;
 mod walks;
+mod ways;
 
 pub use box_steps::{BoxMoment, BoxNext, ImageNat, step_on};
 pub use goal::GoalProbe;

@@ -11,7 +11,8 @@ ghost use Rattle.vpc_model.specs.Place.{start_of};
 ghost use Rattle.vpc_model.specs.Sound.{is_end};
 ghost use Rattle.box_walk.specs.Asking.{IsAsking, asked, stopped_of, word_of};
 
-use crate::verdict::{Word, is_stopped, word_of_request};
+use crate::verdict::{Word, is_stopped, whether, word_of_request};
+use crate::ways::Way;
 use appliances::Deciders;
 use box_images::{Image, Part};
 use box_steps::BoxMoment;
@@ -31,7 +32,9 @@ pub struct RoundProbe<'a> {
     goal: End,
     // What is followed: made once for all probes, since it has room for all that a walk may leave behind.
     followed: RefCell<BoxMoment>,
+    way: Way<'a>,
     ghost known: { IsAsking (asked fabric.now start goal) },
+    ghost same_way: { way ≡ asked fabric.now start goal },
     ghost described: { deciders.now.appliances ≡ appliances_of fabric.now },
 }
 
@@ -73,6 +76,7 @@ impl<'a> RoundProbe<'a> {
             start,
             goal,
             followed: RefCell::from(moment_at(start, &Box5::default())),
+            way: Way::unknown(f, start, goal),
         }
     }
 
@@ -86,6 +90,20 @@ impl<'a> RoundProbe<'a> {
     {
         self.start = start;
         self.goal = goal;
+        self.way.turn(start, goal);
+    }
+
+    /// Follows the requests of these sides, or a part of them, to the goal's interface, and the replies of those that are
+    /// let in back: what is asked of some of them from here on is asked of the interface's groups alone. It is worth
+    /// its two walks where more than two parts are asked.
+    pub fn look_ahead(&mut self, sides: &Box5)
+        requires { IsValid sides.now }
+        ensures { asked self.new.fabric.now self.new.start self.new.goal
+            ≡ asked self.old.fabric.now self.old.start self.old.goal }
+    {
+        if let Ok(mut m) = self.followed.try_borrow_mut() {
+            self.way.find(self.deciders, sides, &mut m);
+        }
     }
 
     /// Where the requests are to arrive.
@@ -95,15 +113,30 @@ impl<'a> RoundProbe<'a> {
         self.goal
     }
 
-    // What stops the requests of a part of the sides, or their replies, by the moment that follows them.
+    // What stops the requests of a part of the sides, or their replies, followed from the start.
+    fn follow_whole(&self, sides: &Box5, m: &mut BoxMoment) -> Word
+        requires { IsValid sides.now }
+        ensures { Answers
+            (AreAmong (near_cuts self.now.fabric.now (appliances_of self.now.fabric.now) self.now.start self.now.goal (low_of sides.now)))
+            (word_of (asked self.now.fabric.now self.now.start self.now.goal)) sides.now
+            (record { body = m.new.header.part; told = result }) }
+    {
+        begin(m, self.start, sides);
+        word_of_request(self.fabric, self.deciders, self.start, self.goal, m)
+    }
+
+    // The same by the known way, if they have come by it.
     fn follow(&self, sides: &Box5, m: &mut BoxMoment) -> Part<Word>
         requires { IsValid sides.now }
         ensures { Answers
             (AreAmong (near_cuts self.now.fabric.now (appliances_of self.now.fabric.now) self.now.start self.now.goal (low_of sides.now)))
             (word_of (asked self.now.fabric.now self.now.start self.now.goal)) sides.now result }
     {
-        begin(m, self.start, sides);
-        let told = word_of_request(self.fabric, self.deciders, self.start, self.goal, m);
+        if let Some(told) = self.way.word_on(self.deciders, sides, m) {
+            let body = m.header.part;
+            return Part { body, told };
+        }
+        let told = self.follow_whole(sides, m);
         Part {
             body: m.header.part,
             told,
@@ -120,15 +153,31 @@ impl<'a> RoundProbe<'a> {
         self.follow(sides, &mut moment_at(self.start, sides))
     }
 
-    // Whether something stops the requests of a part of the sides, or their replies.
+    // Whether something stops the requests of a part of the sides, or their replies, followed from the start.
+    fn ask_whole(&self, sides: &Box5, m: &mut BoxMoment) -> Option<()>
+        requires { IsValid sides.now }
+        ensures { Answers
+            (AreAmong (near_cuts self.now.fabric.now (appliances_of self.now.fabric.now) self.now.start self.now.goal (low_of sides.now)))
+            (stopped_of (asked self.now.fabric.now self.now.start self.now.goal)) sides.now
+            (record { body = m.new.header.part; told = result }) }
+    {
+        begin(m, self.start, sides);
+        is_stopped(self.fabric, self.deciders, self.start, self.goal, m)
+    }
+
+    // The same by the known way, if they have come by it.
     fn ask(&self, sides: &Box5, m: &mut BoxMoment) -> Part<Option<()>>
         requires { IsValid sides.now }
         ensures { Answers
             (AreAmong (near_cuts self.now.fabric.now (appliances_of self.now.fabric.now) self.now.start self.now.goal (low_of sides.now)))
             (stopped_of (asked self.now.fabric.now self.now.start self.now.goal)) sides.now result }
     {
-        begin(m, self.start, sides);
-        let told = is_stopped(self.fabric, self.deciders, self.start, self.goal, m);
+        if let Some(word) = self.way.word_on(self.deciders, sides, m) {
+            let body = m.header.part;
+            let told = whether(word);
+            return Part { body, told };
+        }
+        let told = self.ask_whole(sides, m);
         let body = m.header.part;
         Part { body, told }
     }

@@ -111,8 +111,8 @@ pub fn word_of_request(
     }
 }
 
-// Whether a word tells of a stop.
-fn whether(word: Word) -> Option<()>
+/// Whether a word tells of a stop.
+pub fn whether(word: Word) -> Option<()>
     ensures { result ≡ whether word }
 {
     match word {
