@@ -86,7 +86,8 @@ pub fn reach(
     requires query { IsQueryIn f.now query.now }
     ensures { IfOk result (IsReached f.now query.now) }
 {
-    let probe = RoundProbe::of(f, deciders, query.start, query.goal);
+    let mut probe = RoundProbe::of(f, deciders, query.start, query.goal);
+    probe.look_ahead(&query.sides);
     match first_by(alloc, f, &probe, query)? {
         Some(h) => Ok(Reached::Through(h)),
         None => blocked(alloc, f, &probe, query),

@@ -62,6 +62,7 @@ pub(crate) fn reach_by(
 {
     round.turn(End::Interface(from), End::Interface(to));
     let sides = requests_between(address_of(f, from), address_of(f, to), ports);
+    round.look_ahead(&sides);
     open_ports(alloc, &ThroughProbe::of(round), sides)
 }
 

@@ -58,7 +58,8 @@ fn put_all_judged(
     requires query { IsAskedIn f.now query.now }
     ensures { OnOk result (AddsLines f.now query.now rules.now out.old.items out.new.items) }
 {
-    let before = RoundProbe::of(f, deciders, query.start, query.goal);
+    let mut before = RoundProbe::of(f, deciders, query.start, query.goal);
+    before.look_ahead(&query.sides);
     let mut idle = None;
     for rule in rules {
         idle = idle_at(*out.allocator(), f, deciders, &before, query, rule, idle)?;

@@ -66,7 +66,8 @@ pub(crate) fn needed_by(
     ensures { IfOk result (IsNeed f.now rule.now query.now) }
 {
     let fabric = fabric_without(alloc, f.network(), rule)?;
-    let after = RoundProbe::of(&fabric, deciders, query.start, query.goal);
+    let mut after = RoundProbe::of(&fabric, deciders, query.start, query.goal);
+    after.look_ahead(&query.sides);
     first_apart(alloc, before, &after, query.sides)
 }
 
@@ -86,7 +87,8 @@ fn decides_nothing(
     ensures { IfOk result (λ idle. IsTrue idle ↔ ChunkDecidesNothing f.now c.now query.now) }
 {
     let fabric = fabric_without_chunk(alloc, f.network(), c)?;
-    let after = RoundProbe::of(&fabric, deciders, query.start, query.goal);
+    let mut after = RoundProbe::of(&fabric, deciders, query.start, query.goal);
+    after.look_ahead(&query.sides);
     match first_apart(alloc, before, &after, query.sides)? {
         None => Ok(true),
         Some(_) => Ok(false),

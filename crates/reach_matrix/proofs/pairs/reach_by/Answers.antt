@@ -15,9 +15,9 @@ returns-clause-ranges g c =
     let sides = c.requests_between-sides.ensures
     ∙ (ap (λ a. requests_between a c.address_of-2.result c.args.ports) c.address_of.ensures
     ∙ ap (λ a. requests_between (address_of c.args.f.now c.args.from) a c.args.ports) c.address_of-2.ensures) in
-    let turned = c.turn.ensures ∙ ap (λ (d : Description). asked d (places.Interface c.args.from) (places.Interface c.args.to)) c.requires.network in
+    let turned = c.look_ahead.ensures ∙ c.turn.ensures ∙ ap (λ (d : Description). asked d (places.Interface c.args.from) (places.Interface c.args.to)) c.requires.network in
     pair_ranges c.args.f.now c.args.ports (c.args.from, c.args.to) (asked p.fabric.now p.start p.goal) c.requests_between-sides.result c.open_ports.result
     (c.of.ensures ∙ turned) sides c.open_ports.ensures
 
 pub returns-clause-network : goal.returns-clause-network
-returns-clause-network g c = ap (λ (a : Asking). a.network) c.turn.ensures ∙ c.requires.network
+returns-clause-network g c = ap (λ (a : Asking). a.network) (c.look_ahead.ensures ∙ c.turn.ensures) ∙ c.requires.network

@@ -10,7 +10,7 @@ returns-in-None g c =
     let less : c.in_ok-fabric.fabric ≡ without_chunk c.args.f.now c.args.c.now =
     c.in_ok-fabric.ensures ∙ ap (λ (d : Description). without_chunk d c.args.c.now) c.network.ensures in (
       λ _. none_needs c.args.f.now c.in_ok-fabric.fabric c.args.c.now c.args.query.now _ _ c.in_ok-first_apart.field-0
-          less c.requires.before c.of-after.ensures c.in_ok-first_apart.ensures c.in-None.is,
+          less c.requires.before (c.look_ahead.ensures ∙ c.of-after.ensures) c.in_ok-first_apart.ensures c.in-None.is,
       λ _. refl,
     )
 
@@ -21,5 +21,5 @@ returns g c =
       λ e. absurd (false≢true e),
       λ idle. absurd
           (one_needs c.args.f.now c.in_ok-fabric.fabric c.args.c.now c.args.query.now _ _ c.in_ok-first_apart.field-0 c.in-Some.field-0
-          less c.requires.before c.of-after.ensures c.in_ok-first_apart.ensures c.in-Some.is idle),
+          less c.requires.before (c.look_ahead.ensures ∙ c.of-after.ensures) c.in_ok-first_apart.ensures c.in-Some.is idle),
     )

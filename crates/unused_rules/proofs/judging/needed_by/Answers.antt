@@ -24,4 +24,4 @@ of-after-requires-clause-goal g c =
 pub returns : goal.returns
 returns g c =
     let less : c.in_ok-fabric.fabric ≡ without c.args.f.now c.args.rule.now = c.in_ok-fabric.ensures ∙ ap (λ (d : Description). without d c.args.rule.now) c.network.ensures in
-    need_of c.args.f.now c.in_ok-fabric.fabric c.args.rule.now c.args.query.now _ _ c.first_apart.result less c.requires.before c.of-after.ensures c.first_apart.ensures
+    need_of c.args.f.now c.in_ok-fabric.fabric c.args.rule.now c.args.query.now _ _ c.first_apart.result less c.requires.before (c.look_ahead.ensures ∙ c.of-after.ensures) c.first_apart.ensures
