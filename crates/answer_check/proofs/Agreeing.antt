@@ -1,5 +1,5 @@
 -- What an agreement tells.
-use Rattle.std.proofs.Common.{◌≡◌, ◌≢◌, ◌∙◌, Bool, Err, IfOk, List, None, Ok, Option, Result, Some, ap, false, if◌then◌else◌, refl, subst, sym, true, ℕ}
+use Rattle.std.proofs.Common.{◌≡◌, ◌≢◌, ◌∙◌, Bool, List, None, Option, Some, ap, false, if◌then◌else◌, refl, sym, true, ℕ}
 use Rattle.std.specs.Prelude.{bytes_eq, option_map}
 use Rattle.std.proofs.lemmas.Slice.Eq.{bytes_eq-Decides}
 use Rattle.header_boxes.specs.Rows.{IsFirst}
@@ -40,23 +40,18 @@ agreed-none (Some one) (Some other) none = λ is.
 
 -- by the end that all requests of a part reach
 pub agreement_of-part : (s : Sent) (d : Description) (wanted : Option (List ℕ)) (told : Option End) (h : Header) → s.network ≡ d → told ≡ reached s h
-    → agreement_of s wanted h ≡ agreed wanted (option_map (end_id d) told)
+    → agreement_of (end_told s) wanted h ≡ agreed wanted (option_map (end_id d) told)
 unfolding agreement_of
 agreement_of-part s d wanted told h same is =
     ap (λ (o : Option End). agreed wanted (option_map (end_id s.network) o)) (sym is)
     ∙ ap (λ (x : Description). agreed wanted (option_map (end_id x) told)) same
 
-other_if_first : (s : Sent) (wanted : Option (List ℕ)) (part : Box5) (o : Option Header) → IsFirst (agreement_of s wanted) part o → IsOther (end_told s) wanted part o
-unfolding agreement_of
-other_if_first s wanted part None none = λ h held. agreed-some wanted (end_told s h) (none h held)
-other_if_first s wanted part (Some h) found = record {
-  inside = found.inside;
-  other = agreed-none wanted (end_told s h) found.through;
-  first = λ k held before. agreed-some wanted (end_told s k) (found.first k held before);
-}
-
 -- the first header that isn't agreed on is the first of which something else is told
-pub other_if_found : {E : Type 0} (meaning : Header → Option (Unit {0})) (s : Sent) (wanted : Option (List ℕ)) (part : Box5) (r : Result (Option Header) E) → meaning ≡ agreement_of s wanted
-    → IfOk r (IsFirst meaning part) → IfOk r (IsOther (end_told s) wanted part)
-other_if_found meaning s wanted part (Ok o) same found = other_if_first s wanted part o (subst (λ (m : Header → Option (Unit {0})). IsFirst m part o) same found)
-other_if_found meaning s wanted part (Err e) same found = tt
+pub other_if_first : (told : Header → Option (List ℕ)) (wanted : Option (List ℕ)) (part : Box5) (o : Option Header) → IsFirst (agreement_of told wanted) part o → IsOther told wanted part o
+unfolding agreement_of
+other_if_first told wanted part None none = λ h held. agreed-some wanted (told h) (none h held)
+other_if_first told wanted part (Some h) found = record {
+  inside = found.inside;
+  other = agreed-none wanted (told h) found.through;
+  first = λ k held before. agreed-some wanted (told k) (found.first k held before);
+}

@@ -2,7 +2,6 @@
 use Rattle.std.proofs.Common.{◌≡◌, ◌∙◌, List, None, Option, Some, ap, codes, subst, sym, true, ℕ}
 use Rattle.header_boxes.proofs.Held.{holds_low, valid_if_within}
 use Rattle.header_boxes.specs.Boxes.{IsWithin, holds, low_of}
-use Rattle.header_boxes.specs.Rows.{IsFirst}
 use Rattle.change_report.specs.Asked.{Comparison}
 use Rattle.change_report.specs.Texts.{change_text, start_id}
 use Rattle.change_report.specs.Told.{sent_after, sent_before}
@@ -12,14 +11,12 @@ use Rattle.journey_changes.specs.Changes.{change_of}
 use Rattle.journey_changes.specs.Sent.{Sent}
 use Rattle.journey_changes.specs.Telling.{IsTellable}
 use Rattle.journey_changes.specs.declared.changes.Change.{Change}
-use Rattle.listing_check.specs.Looks.{IsOther}
 use Rattle.query_words.specs.ChangeQuery.{AreChangedEnds, IsChangedEnd}
 use Rattle.query_words.specs.declared.changes.ChangedEnd.{ChangedEnd}
 use Rattle.vpc_laws.specs.Types.{Box5, Description, Header}
 use Rattle.vpc_model.specs.Accepted.{IsAccepted}
-use Rattle.answer_check.proofs.Agreeing.{agreed-none, agreed-some}
-use Rattle.answer_check.specs.Agreement.{agreed}
-use Rattle.answer_check.specs.DiffTold.{AreTellable, change_agreement_of, change_told, told_of}
+use Rattle.answer_check.specs.Agreement.{agreed, agreement_of}
+use Rattle.answer_check.specs.DiffTold.{AreTellable, change_told, told_of}
 use Rattle.answer_check.specs.Diffs.{told_in, told_or_same}
 
 -- the least header of the sides is in the part
@@ -52,10 +49,10 @@ module _ (x y : Sent) (n m : Description) (one : x.network ≡ n) (other : y.net
     tellable-part sides within tellable change some =
         tellable-at (low_of part) word change tellable (sym (means (low_of part) (holds_low part (valid_if_within part sides within)))) some
 
-    pub change_agreement_of-part : (id : List ℕ) (wanted : Option (List ℕ)) (h : Header) → holds h part ≡ true
-        → change_agreement_of id x y wanted h ≡ agreed wanted (change_told n m id word)
-    unfolding change_agreement_of
-    change_agreement_of-part id wanted h held =
+    pub change_agreed-part : (id : List ℕ) (wanted : Option (List ℕ)) (h : Header) → holds h part ≡ true
+        → agreement_of (told_of id x y) wanted h ≡ agreed wanted (change_told n m id word)
+    unfolding agreement_of
+    change_agreed-part id wanted h held =
         ap (λ (o : Option Change). agreed wanted (change_told x.network y.network id o)) (means h held)
         ∙ (ap (λ (d : Description). agreed wanted (change_told d y.network id word)) one ∙ ap (λ (d : Description). agreed wanted (change_told n d id word)) other)
 
@@ -69,14 +66,3 @@ pub told_of-start : (c : Comparison) (start : ChangedEnd) (x y : Sent) (id : Lis
 told_of-start c start x y id h one other same =
     sym (ap (λ (z : Sent). told_of id z y h) one
     ∙ (ap (λ (z : Sent). told_of id (sent_before c start) z h) other ∙ ap (λ (l : List ℕ). told_of l (sent_before c start) (sent_after c start) h) same))
-
--- ---- the first header of which something else is told
-
-pub other_if_differs : (id : List ℕ) (x y : Sent) (wanted : Option (List ℕ)) (part : Box5) (o : Option Header) → IsFirst (change_agreement_of id x y wanted) part o → IsOther (told_of id x y) wanted part o
-unfolding change_agreement_of
-other_if_differs id x y wanted part None none = λ h held. agreed-some wanted (told_of id x y h) (none h held)
-other_if_differs id x y wanted part (Some h) found = record {
-  inside = found.inside;
-  other = agreed-none wanted (told_of id x y h) found.through;
-  first = λ k held before. agreed-some wanted (told_of id x y k) (found.first k held before);
-}

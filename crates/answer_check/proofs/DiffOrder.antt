@@ -15,7 +15,8 @@ use Rattle.std.proofs.lemmas.List.Kept.{AllPairs-filter}
 use Rattle.std.proofs.lemmas.List.Sorted.{Contains-permutation, IsPermutation-sym, ranks_by, sorted_far}
 use Rattle.std.proofs.lemmas.Map.Keys.{IsDistinct-IsPermutation, IsDistinct-from_apart, apart_from_distinct}
 use Rattle.std.proofs.lemmas.Map.Text.{is_eq-slice_cmp}
-use Rattle.change_report.proofs.BoxLemmas.{AllPairs-joined, AllPairs-map}
+use Rattle.change_report.proofs.BoxLemmas.{AllPairs-joined}
+use Rattle.listing_text.proofs.SideLemmas.{AllPairs-map}
 use Rattle.change_report.proofs.StartLemmas.{hosts_are_described}
 use Rattle.change_report.specs.Asked.{AreStarts, Comparison, StartAt, changed_id, from_after, from_before, host_with_id, hosts_of_either, is_host_at, is_new, starts_among}
 use Rattle.described_hosts.specs.Hosts.{hosts_of, id_of, is_host, numbered}
@@ -85,10 +86,11 @@ is_no_other before after i j accepted there host new =
     let wrong : false ≡ true = sym (ap not found) ∙ new in
     absurd (cc))
 
-abbrev AreApartIn : Description → Description → ChangedEnd → ChangedEnd → Type 0
+-- two have other ids
+abbrev pub AreApartIn : Description → Description → ChangedEnd → ChangedEnd → Type 0
 AreApartIn before after a b = bytes_eq (changed_id before after a) (changed_id before after b) ≡ false
 
-either_differ : (before after : Description) → IsAccepted before → IsAccepted after → AllPairs (AreApartIn before after) (hosts_of_either before after)
+pub either_differ : (before after : Description) → IsAccepted before → IsAccepted after → AllPairs (AreApartIn before after) (hosts_of_either before after)
 either_differ before after first second =
     let new = filter (is_new before after) (hosts_of after) in
     let are_new = filter_passes (is_new before after) (hosts_of after) in

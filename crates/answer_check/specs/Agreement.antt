@@ -11,10 +11,10 @@ agreed None (Some told) = None
 agreed (Some wanted) None = None
 agreed (Some wanted) (Some told) = if bytes_eq wanted told then Some tt else None
 
+-- a word for a request of which is told what is wanted; where nothing is wanted, for one of which nothing is
+unfoldable pub agreement_of : (Header → Option (List ℕ)) → Option (List ℕ) → Header → Option (Unit {0})
+agreement_of told wanted h = agreed wanted (told h)
+
 -- the id of the end that a request reaches
 abbrev pub end_told : Sent → Header → Option (List ℕ)
 end_told s h = option_map (end_id s.network) (reached s h)
-
--- a word for a request that reaches the end with this id; where none is wanted, for one that reaches no end
-unfoldable pub agreement_of : Sent → Option (List ℕ) → Header → Option (Unit {0})
-agreement_of s wanted h = agreed wanted (end_told s h)

@@ -6,11 +6,18 @@ use Rattle.change_report.specs.Texts.{start_id}
 use Rattle.command_job.specs.declared.status.Status.{Status}
 use Rattle.command_job.specs.declared.status.Status.TheVariants as ends
 use Rattle.listing_reader.specs.declared.origins.Origin.{Origin}
+use Rattle.query_words.specs.ChangeQuery.{AreChangedEnds}
+use Rattle.query_words.specs.ReachQuery.{AreReachPairs}
 use Rattle.query_words.specs.declared.changes.ChangeQuery.{ChangeQuery}
 use Rattle.query_words.specs.declared.changes.ChangedEnd.{ChangedEnd}
 use Rattle.report_check.specs.Certified.{report_refusal_line}
 use Rattle.vpc_laws.specs.Types.{Description}
 use Rattle.answer_check.specs.Diffs.{IsCheckedFor, diff_question}
+
+-- the ends of the question are described, and its sides are not empty
+pub record CanBeCompared (c : Comparison) : Type 0 where
+  pub ends_are : AreChangedEnds c.before c.after c.query
+  pub pairs_are : AreReachPairs c.query.pairs
 
 -- what the rows of a start are read by
 abbrev pub origin_from : Comparison → List (ℕ × ℕ) → ChangedEnd → Origin

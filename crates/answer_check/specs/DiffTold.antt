@@ -10,7 +10,6 @@ use Rattle.journey_changes.specs.declared.changes.Change.TheVariants as changes
 use Rattle.journey_changes.specs.declared.fates.Barrier.{Barrier}
 use Rattle.journey_changes.specs.declared.fates.Barrier.TheVariants as barriers
 use Rattle.vpc_laws.specs.Types.{Description, Header}
-use Rattle.answer_check.specs.Agreement.{agreed}
 
 -- a change, as it is printed for the start with this id
 abbrev pub change_told : Description → Description → List ℕ → Option Change → Option (List ℕ)
@@ -19,10 +18,6 @@ change_told before after id change = option_map (change_text before after id) ch
 -- that of a request with this header
 abbrev pub told_of : List ℕ → Sent → Sent → Header → Option (List ℕ)
 told_of id before after h = change_told before.network after.network id (change_of before after h)
-
--- a word for a request of which is told what is wanted; where nothing is wanted, for one of which nothing is
-unfoldable pub change_agreement_of : List ℕ → Sent → Sent → Option (List ℕ) → Header → Option (Unit {0})
-change_agreement_of id before after wanted h = agreed wanted (told_of id before after h)
 
 -- ---- changes that can be told
 

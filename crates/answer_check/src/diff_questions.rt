@@ -14,10 +14,11 @@ ghost use Rattle.answer_check.specs.DiffStarts.{origin_from};
 ghost use Rattle.std.proofs.Props.{props};
 
 use crate::diff_starts::StartChanges;
+use crate::telling::look_once;
 use change_report::{Asked, Compared, boxes_at, changed_id};
 use command_job::Answer;
 use header_boxes::{Box5, Row};
-use listing_check::{Look, Question, answer_lines, look_at};
+use listing_check::{Look, Question, answer_lines};
 use listing_reader::Origin;
 use query_words::ChangedEnd;
 use std::alloc::Global;
@@ -81,7 +82,7 @@ fn look_from(
         asked.now.compared start.now h)
         → IfOk result (IsLook (record { asked = a; rows = rows.now })) }
 {
-    look_at(alloc, &StartChanges::of(asked, start), boxes, rows)
+    look_once(alloc, StartChanges::of(asked, start), boxes, rows)
 }
 
 // Appends what changes for a request from a start, or that it is the same.

@@ -1,27 +1,24 @@
-// What changes for the requests of one start, and the first of them of which something else is told than a text says.
-ghost use Rattle.std.specs.Prelude.{◌≡◌, ◌↔◌, ◌++◌, IfOk, IsTrue, None, OnOk, Some, bytes_eq, if◌then◌else◌, option_map};
+// What changes for the requests of one start, and whether it is what a text says.
+ghost use Rattle.std.specs.Prelude.{◌≡◌, ◌++◌, None, OnOk, Some, bytes_eq, if◌then◌else◌, option_map};
 ghost use Rattle.change_report.specs.Texts.{change_text, start_id};
 ghost use Rattle.change_report.specs.Told.{sent_after, sent_before};
-ghost use Rattle.header_boxes.specs.Boxes.{IsValid, low_of};
 ghost use Rattle.journey_changes.specs.Changes.{change_of};
 ghost use Rattle.journey_changes.specs.Telling.{IsTellable};
 ghost use Rattle.journey_changes.specs.declared.changes.Change.{Change as Told};
 ghost use Rattle.query_words.specs.ChangeQuery.{AreChangedEnds, IsChangedEnd};
 ghost use Rattle.answer_check.specs.Diffs.{told_or_same};
 ghost use Rattle.answer_check.specs.Agreement.{agreed};
-ghost use Rattle.answer_check.specs.DiffTold.{AreTellable, AreTellable-prop, change_agreement_of, change_told, told_of};
+ghost use Rattle.answer_check.specs.DiffTold.{AreTellable, AreTellable-prop, change_told, told_of};
 
 use crate::diff_texts::is_change;
+use crate::telling::{Telling, only};
 use block_report::put;
 use change_report::{Asked, changed_id, put_change, toward_after, toward_before};
 use header_boxes::Box5;
 use journey_changes::{Change, ChangeProbe, FateProbe};
-use listing_check::Listing;
 use ordered_cover::Probe;
-use ordered_cover::search::first;
 use query_words::ChangedEnd;
 use reference_check::Network;
-use std::alloc::Global;
 use vpc_base::{Header, NoMemory};
 
 // ---- walks
@@ -56,7 +53,6 @@ fn walks_after<'a>(asked: &Asked<'a>, start: &ChangedEnd) -> FateProbe<'a>
 
 /// What changes for the requests of a start: their walks in both networks, and the id that changes are printed with. The walks
 /// are made once for all rows of the start, since they have room for all that a walk may leave behind.
-#[derive(Drop)]
 pub struct StartChanges<'a> {
     walks: ChangeProbe<'a>,
     network_before: &'a Network,
@@ -67,17 +63,15 @@ pub struct StartChanges<'a> {
     ghost tellable: { AreTellable walks.before.sent walks.after.sent } by { AreTellable-prop walks.before.sent walks.after.sent },
 }
 
-// The box of this header alone.
-fn only(h: &Header) -> Box5
-    ensures valid { IsValid result }
-    ensures low { low_of result ≡ h.now }
-{
-    Box5 {
-        proto: (h.proto, h.proto),
-        src: (h.src, h.src),
-        dst: (h.dst, h.dst),
-        p: (h.p, h.p),
-        q: (h.q, h.q),
+impl<'a> Drop for StartChanges<'a> {
+    fn drop(self) {
+        let StartChanges {
+            walks,
+            network_before: _,
+            network_after: _,
+            id: _,
+        } = self;
+        drop(walks);
     }
 }
 
@@ -168,64 +162,29 @@ fn agreed(
     }
 }
 
-/// Whether of requests is told what is wanted. What gets through here is what something else is told of, or nothing, so that a
-/// search finds the first such request.
-#[derive(Drop)]
-struct ToldProbe<'a, 'b> {
-    changes: &'a StartChanges<'b>,
-    wanted: Option<&'a [u8]>,
-}
-
-impl<'a, 'b> Probe for ToldProbe<'a, 'b> {
+impl<'a> Telling for StartChanges<'a> {
     ghost use Rattle.journey_changes.specs.Changes.{change_cuts, cuts_of_both};
     ghost use Rattle.journey_changes.specs.Cuts.{change_cuts_are_among_all};
 
-    type Word = ();
+    ghost told = { λ l. told_of l.id.now l.walks.before.sent l.walks.after.sent };
 
-    ghost meaning = { λ p. change_agreement_of p.changes.now.id.now
-        p.changes.now.walks.before.sent p.changes.now.walks.after.sent (option_map (λ w. w.now) p.wanted) };
+    ghost cuts = { λ l. cuts_of_both l.walks.before.sent.network l.walks.after.sent.network };
 
-    ghost cuts = { λ p. cuts_of_both p.changes.now.walks.before.sent.network p.changes.now.walks.after.sent.network };
+    ghost near = { λ l. change_cuts l.walks.before.sent l.walks.after.sent };
 
-    ghost near = { λ p h. change_cuts p.changes.now.walks.before.sent p.changes.now.walks.after.sent h };
+    ghost near_among = { λ l. change_cuts_are_among_all l.walks.before.sent l.walks.after.sent };
 
-    ghost near_among = { λ p h. change_cuts_are_among_all p.changes.now.walks.before.sent p.changes.now.walks.after.sent h };
-
-    fn is_same(one: (), other: ()) -> bool
-        ensures { IsTrue result ↔ (one ≡ other) }
-    {
-        true
-    }
-
-    fn probe(&self, sides: &Box5) -> (Box5, Option<()>) {
-        let changes = self.changes;
-        let (part, change) = changes.walks.probe(sides);
+    fn agrees_on(&self, sides: &Box5, wanted: Option<&[u8]>) -> (Box5, Option<()>) {
+        let (part, change) = self.walks.probe(sides);
         (
             part,
             agreed(
-                changes.network_before,
-                changes.network_after,
-                changes.id,
-                self.wanted,
+                self.network_before,
+                self.network_after,
+                self.id,
+                wanted,
                 change,
             ),
         )
-    }
-}
-
-impl<'a> Listing for StartChanges<'a> {
-    ghost told = { λ l. told_of l.id.now l.walks.before.sent l.walks.after.sent };
-
-    fn first_other(
-        &self,
-        alloc: Global,
-        part: &Box5,
-        wanted: Option<&[u8]>,
-    ) -> Result<Option<Header>, NoMemory> {
-        let probe = ToldProbe {
-            changes: self,
-            wanted,
-        };
-        first(alloc, &probe, *part)
     }
 }

@@ -1,35 +1,36 @@
 // What `check` answers to what `diff` prints.
 ghost use Rattle.std.specs.Prelude.{◌≡◌, ◌≤◌, ◌∷◌, [], Bool, IfOk, IfSome, codes, length, map};
 ghost use Rattle.std.specs.Result.{result_ok};
-ghost use Rattle.appliances.specs.Passing.{kind_passes_at};
 ghost use Rattle.change_report.specs.Asked.{comparison};
 ghost use Rattle.query_words.specs.ChangeQuery.{AreChangedEnds, change_query_of};
 ghost use Rattle.query_words.specs.ReachQuery.{AreReachPairs};
 ghost use Rattle.report_reader.specs.Reports.{is_ended, pieces_of};
 ghost use Rattle.answer_check.specs.Diffs.{IsCheckedFor, IsDiffChecked, diff_question};
-ghost use Rattle.answer_check.specs.DiffStarts.{IsAskedChecked, IsQueryChecked};
+ghost use Rattle.answer_check.specs.DiffStarts.{CanBeCompared, IsAskedChecked, IsQueryChecked};
 ghost use Rattle.answer_check.specs.Lines.{all_lines};
 
 use crate::diff_questions::check_starts;
 use crate::lines::{begins_with, later_lines, question_words, refuse_line, unless_memory};
-use appliances::Kinds;
-use change_report::{Asked, Compared, is_too_many, starts_of, targets_of};
-use command_job::{Answer, deciders_of};
-use fabric::Fabric;
+use change_report::{Asked, Comparing, answer_between, is_too_many, starts_of, targets_of};
+use command_job::Answer;
 use listing_reader::{Lines, split_lines};
 use query_words::{ChangeQuery, read_line_change_query};
 use reference_check::Network;
 use std::alloc::Global;
 use std::mem;
-use vpc_base::{Header, NoMemory};
+use vpc_base::NoMemory;
 
 // ---- two networks
 
-fn check_asked(alloc: Global, asked: &Asked, lines: &Lines) -> Result<Answer, NoMemory>
-    requires ends { AreChangedEnds asked.now.compared.before asked.now.compared.after asked.now.compared.query }
-    requires pairs { AreReachPairs asked.now.compared.query.pairs }
+fn check_asked(
+    alloc: Global,
+    asked: &Asked,
+    ended: bool,
+    lines: &[&[u8]],
+) -> Result<Answer, NoMemory>
+    requires { CanBeCompared asked.now.compared }
     ensures { IfOk result (λ a. IsCheckedFor asked.now.compared
-        (map (λ l. l.now) lines.now.lines.items) lines.now.ended a.status a.text.items) }
+        (map (λ l. l.now) lines.now) ended a.status a.text.items) }
 {
     let query = asked.compared.query();
     let before = asked.compared.before();
@@ -44,72 +45,29 @@ fn check_asked(alloc: Global, asked: &Asked, lines: &Lines) -> Result<Answer, No
         asked,
         targets.as_slice(),
         starts.as_slice(),
-        lines.ended,
-        later_lines(lines.lines.as_slice()),
+        ended,
+        later_lines(lines),
     )
 }
 
-// By the look-ups of both networks, with the appliances that each describes.
-fn check_between(
-    alloc: Global,
-    before: &Fabric,
-    after: &Fabric,
-    query: &ChangeQuery,
-    lines: &Lines,
-) -> Result<Answer, NoMemory>
-    requires ends { AreChangedEnds before.now after.now query.now }
-    requires pairs { AreReachPairs query.now.pairs }
-    ensures { IfOk result (λ a. IsCheckedFor (comparison before.now after.now query.now)
-        (map (λ l. l.now) lines.now.lines.items) lines.now.ended a.status a.text.items) }
-{
-    let kinds = Kinds::of(alloc, before.network())?;
-    let decide = Box::new(
-        alloc,
-        move |k: u32, h: &Header| -> bool
-            ensures { result ≡ kind_passes_at kinds k h.now }
-        { kinds.passes(k, h) },
-    )?;
-    let before_deciders = deciders_of(alloc, before.network(), decide)?;
-    let later_kinds = Kinds::of(alloc, after.network())?;
-    let later_decide = Box::new(
-        alloc,
-        move |k: u32, h: &Header| -> bool
-            ensures { result ≡ kind_passes_at later_kinds k h.now }
-        { later_kinds.passes(k, h) },
-    )?;
-    let after_deciders = deciders_of(alloc, after.network(), later_decide)?;
-    let asked = Asked {
-        compared: Compared {
-            before,
-            after,
-            query,
-        },
-        before_deciders: &before_deciders,
-        after_deciders: &after_deciders,
-    };
-    check_asked(alloc, &asked, lines)
+// The lines of a listing.
+#[derive(Drop)]
+struct Checking<'a> {
+    ended: bool,
+    lines: &'a [&'a [u8]],
 }
 
-fn check_after(
-    alloc: Global,
-    before: &Fabric,
-    after: Network,
-    query: &ChangeQuery,
-    lines: &Lines,
-) -> Result<Answer, NoMemory>
-    requires ends { AreChangedEnds before.now after query.now }
-    requires pairs { AreReachPairs query.now.pairs }
-    ensures { IfOk result (λ a. IsCheckedFor (comparison before.now after query.now)
-        (map (λ l. l.now) lines.now.lines.items) lines.now.ended a.status a.text.items) }
-{
-    match Fabric::of(alloc, after) {
-        Ok(fabric) => {
-            let answer = check_between(alloc, before, &fabric, query, lines);
-            // As a network's look-ups are left where a process ends with its answer.
-            mem::forget(fabric);
-            answer
-        }
-        Err(no_memory) => Err(no_memory),
+impl<'a> Comparing for Checking<'a> {
+    ghost use Rattle.std.specs.Prelude.{map};
+    ghost use Rattle.answer_check.specs.DiffStarts.{CanBeCompared};
+    ghost use Rattle.answer_check.specs.Diffs.{IsCheckedFor};
+
+    ghost fits = { λ j c. CanBeCompared c };
+
+    ghost answers = { λ j c. IsCheckedFor c (map (λ l. l.now) j.lines.now) j.ended };
+
+    fn answer_asked(&self, alloc: Global, asked: &Asked) -> Result<Answer, NoMemory> {
+        check_asked(alloc, asked, self.ended, self.lines)
     }
 }
 
@@ -125,17 +83,11 @@ fn check_networks(
     ensures { IfOk result (λ a. IsCheckedFor (comparison before after query.now)
         (map (λ l. l.now) lines.now.lines.items) lines.now.ended a.status a.text.items) }
 {
-    match Fabric::of(alloc, before) {
-        Ok(fabric) => {
-            let answer = check_after(alloc, &fabric, after, query, lines);
-            mem::forget(fabric);
-            answer
-        }
-        Err(no_memory) => {
-            mem::forget(after);
-            Err(no_memory)
-        }
-    }
+    let job = Checking {
+        ended: lines.ended,
+        lines: lines.lines.as_slice(),
+    };
+    answer_between(alloc, before, after, query, &job)
 }
 
 // ---- the question

@@ -8,6 +8,7 @@ mod diff_texts;
 mod diffs;
 mod lines;
 mod reaches;
+mod telling;
 
 pub use command::CheckCommand;
 pub use diffs::check_diff;

@@ -1,33 +1,28 @@
 -- What is answered, by the lines of the rows.
-use Rattle.std.proofs.Common.{◌≡◌, ◌∙◌, ◌==◌, Bool, List, Option, ap, arith, cond, false, length, nat_lt, refl, subst, sym, true, ℕ}
-use Rattle.std.proofs.lemmas.Bool.{eqb-true}
+use Rattle.std.proofs.Common.{◌≡◌, ◌∙◌, List, Option, ap, length, nat_lt, subst, sym, ℕ}
 use Rattle.std.proofs.lemmas.List.Sorted.{length_permutation}
-use Rattle.std.proofs.lemmas.Bool.Decides.{nat_tests}
 use Rattle.query_words.specs.declared.changes.ChangeQuery.{ChangeQuery}
 use Rattle.query_words.specs.declared.changes.ChangedEnd.{ChangedEnd}
 use Rattle.vpc_laws.specs.Types.{Description, Header}
 use Rattle.command_job.specs.declared.status.Status.{Status}
 use Rattle.command_job.specs.declared.status.Status.TheVariants as ends
-use Rattle.change_report.specs.Answered.{IsAnswerTo, IsDiffTold, IsPrinted, host_limit, status_by}
-use Rattle.change_report.specs.Answered as answered
+use Rattle.listing_text.proofs.BodyLemmas.{told_whole}
+use Rattle.listing_text.specs.Answered.{host_limit, status_by}
+use Rattle.listing_text.specs.Answered as answered
+use Rattle.listing_text.specs.Bodies.{IsBody}
+use Rattle.listing_text.specs.Bodies as bodies
+use Rattle.listing_text.specs.Texts.{told_lines_from}
+use Rattle.change_report.specs.Answered.{IsAnswerTo, IsDiffTold, IsPrinted}
 use Rattle.change_report.specs.Asked.{AreHostsOfEither, AreStarts, AreTargets, Comparison, StartAt, TargetsAre, comparison, hosts_of_either}
-use Rattle.change_report.specs.Bodies.{IsBody}
-use Rattle.change_report.specs.Bodies as bodies
-use Rattle.change_report.specs.Texts.{part_of, start_id, told_lines_from, whole_of, whole_text}
-use Rattle.change_report.specs.Told.{AreToldAll, ChangeRows, row_count}
-
--- by whether there is a row
-by_count : (c : Comparison) (words : List (List ℕ)) (targets : List (ℕ × ℕ)) (starts : List ChangedEnd) (status : Status) (text : List ℕ) (told : List ChangeRows) (b : Bool)
-    → (row_count told == 0) ≡ b → AreToldAll c targets starts told → status ≡ cond b ends.Yes ends.No → text ≡ whole_text c words told → IsDiffTold c words targets starts status text
-by_count c words targets starts status text told true is are status_is text_is = answered.none told are (eqb-true (row_count told) 0 is) status_is text_is
-by_count c words targets starts status text told false is are status_is text_is = answered.some told are (grind (arith, nat_tests)) status_is text_is
+use Rattle.change_report.specs.Texts.{lines_at, part_of, part_text, start_id, whole_of, whole_text}
+use Rattle.change_report.specs.Told.{wanted}
 
 pub told_by : (c : Comparison) (words : List (List ℕ)) (targets : List (ℕ × ℕ)) (starts : List ChangedEnd) (lines : List ℕ) (count : ℕ) (next : Option (ChangedEnd × Header)) (status : Status) (text : List ℕ)
-    → IsBody c targets starts lines count next → IsPrinted c words lines count next status text → IsDiffTold c words targets starts status text
+    → IsBody (wanted c targets) (lines_at c) starts lines count next → IsPrinted c words lines count next status text → IsDiffTold c words targets starts status text
 told_by c words targets starts lines count next status text (bodies.body_all told are lines_are count_is next_is) printed =
     let p = subst (λ (o : Option (ChangedEnd × Header)). IsPrinted c words lines count o status text) next_is printed in
-    by_count c words targets starts status text told (row_count told == 0) refl are (p.0 ∙ ap status_by count_is)
-    (p.1 ∙ (ap (λ (l : List ℕ). whole_of words l count) lines_are ∙ ap (λ (n : ℕ). whole_of words (told_lines_from c 1 told) n) count_is))
+    told_whole ends.No ends.Yes (whole_text c words) (part_text c words) (wanted c targets) starts told status text are (p.0 ∙ ap (status_by ends.No ends.Yes) count_is)
+    (p.1 ∙ (ap (λ (l : List ℕ). whole_of words l count) lines_are ∙ ap (λ (n : ℕ). whole_of words (told_lines_from (lines_at c) 1 told) n) count_is))
 told_by c words targets starts lines count next status text (bodies.body_part told last h are lines_are next_is) printed =
     let p = subst (λ (o : Option (ChangedEnd × Header)). IsPrinted c words lines count o status text) next_is printed in
     answered.more told last h are p.0 (p.1 ∙ ap (λ (l : List ℕ). part_of words l (start_id c last.start) h) lines_are)
@@ -49,7 +44,7 @@ module _ (c : Comparison) (before after : Description) (query : ChangeQuery) (fi
 module _ (c : Comparison) (words : List (List ℕ)) (before after : Description) (query : ChangeQuery) (first : before ≡ c.before) (second : after ≡ c.after) (third : query ≡ c.query) where
   pub answered_by : (targets given_targets : List (ℕ × ℕ)) (starts given_starts : List ChangedEnd) (lines : List ℕ) (count : ℕ) (next : Option (ChangedEnd × Header)) (status : Status) (text : List ℕ)
       → given_targets ≡ targets → TargetsAre before after query.pairs.dst query.goal targets → given_starts ≡ starts → StartAt before after query.start query.goal starts
-      → IsBody c given_targets given_starts lines count next → IsPrinted c words lines count next status text → IsAnswerTo c words status text
+      → IsBody (wanted c given_targets) (lines_at c) given_starts lines count next → IsPrinted c words lines count next status text → IsAnswerTo c words status text
   answered_by targets given_targets starts given_starts lines count next status text targets_is targets_are starts_is starts_are body printed = record {
     targets = given_targets;
     targets_are = targets_as c before after query first second third targets given_targets targets_is targets_are;

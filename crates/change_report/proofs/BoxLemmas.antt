@@ -1,12 +1,13 @@
 -- The boxes that are asked for: none is empty, and no two share a header.
-use Rattle.std.proofs.Common.{◌≡◌, ◌==◌, ◌≤◌, ◌++◌, ◌∷◌, ◌∙◌, [], All, AllPairs, Bool, IfSome, List, None, Option, Some, ap, arith, cond, false, get_or, map, refl, subst, suc, sym, true, ℕ}
+use Rattle.std.proofs.Common.{◌≡◌, ◌==◌, ◌++◌, ◌∷◌, ◌∙◌, [], All, AllPairs, Bool, IfSome, List, None, Option, Some, ap, arith, cond, false, get_or, map, refl, subst, suc, sym, true, ℕ}
 use Rattle.std.proofs.lemmas.Bool.Decides.{nat_tests}
 use Rattle.std.proofs.lemmas.List.Elements.{All-append, All-cons, All-map, All-nil, All-head, All-tail}
-use Rattle.std.proofs.lemmas.List.Kept.{AllPairs-cons, AllPairs-from_increasing}
-use Rattle.std.specs.List.Sorted.{IsStrictlyIncreasing}
+use Rattle.std.proofs.lemmas.List.Kept.{AllPairs-cons}
 use Rattle.header_boxes.proofs.Held.{in_from_holds}
 use Rattle.header_boxes.specs.Boxes.{AreDisjoint, IsValid}
 use Rattle.header_boxes.specs.declared.boxes.Box5.{Box5}
+use Rattle.listing_text.proofs.SideLemmas.{AreApart, AreSides, all_side, ascending_sides, boxes_to-disjoint, boxes_to-valid, one_side}
+use Rattle.listing_text.specs.Sides.{alone, sides_between}
 use Rattle.query_words.specs.ChangeQuery.{primary_in}
 use Rattle.query_words.specs.Pairs.{IsSide}
 use Rattle.query_words.specs.ReachQuery.{AreReachPairs}
@@ -15,38 +16,7 @@ use Rattle.query_words.specs.declared.changes.ChangeQuery.{ChangeQuery}
 use Rattle.query_words.specs.declared.changes.ChangedEnd.{ChangedEnd}
 use Rattle.query_words.specs.declared.reaches.ReachPairs.{ReachPairs}
 use Rattle.vpc_laws.specs.Types.{Description}
-use Rattle.change_report.specs.Asked.{AreAllOrAlone, AreTargets, Comparison, TargetsAre, addresses_in_either, alone, boxes_at, boxes_between, each_once, is_internet, sides_between, sources_of}
-
-pub AllPairs-map : {X Y : Type 0} (R : Y → Y → Type 0) (f : X → Y) (xs : List X) → AllPairs (λ a b. R (f a) (f b)) xs → AllPairs R (map f xs)
-AllPairs-map R f [] h = λ i j d lt inside. absurd (omega arith)
-AllPairs-map R f (x ∷ xs) h =
-    AllPairs-cons R (f x) (map f xs) (All-map (R (f x)) f xs (λ k d lt. h 0 (suc k) d (omega arith) (omega arith)))
-    (AllPairs-map R f xs (λ i j d lt inside. h (suc i) (suc j) d (omega arith) (omega arith)))
-
--- no number is in both sides
-abbrev AreApart : ℕ × ℕ → ℕ × ℕ → Type 0
-AreApart s t = (x : ℕ) → s.0 ≤ x → x ≤ s.1 → t.0 ≤ x → x ≤ t.1 → ⊥
-
--- sides that aren't empty, no two of which share a number
-pub record AreSides (sides : List (ℕ × ℕ)) : Type 0 where
-  pub each : All IsSide sides
-  pub apart : AllPairs AreApart sides
-
-one_side : (s : ℕ × ℕ) → IsSide s → AreSides (s ∷ [])
-one_side s side = record {
-  each = All-cons IsSide s [] side (All-nil IsSide);
-  apart = λ i j d lt inside. absurd (omega (arith, lt, inside));
-}
-
-all_side : IsSide all_addresses
-all_side = omega arith
-
-alone_apart : (addresses : List ℕ) → AllPairs (λ a b. AreApart (alone a) (alone b)) addresses → AreSides (map alone addresses)
-alone_apart addresses apart = record { each = All-map IsSide alone addresses (λ k d lt. omega arith); apart = AllPairs-map AreApart alone addresses apart }
-
-ascending_sides : (addresses : List ℕ) → IsStrictlyIncreasing addresses → AreSides (map alone addresses)
-ascending_sides addresses up =
-    alone_apart addresses (λ i j d lt inside x s0 s1 t0 t1. let rise = AllPairs-from_increasing addresses up i j d lt inside in absurd (omega (arith, rise, s0, s1, t0, t1)))
+use Rattle.change_report.specs.Asked.{AreAllOrAlone, AreTargets, Comparison, TargetsAre, addresses_in_either, boxes_at, boxes_between, each_once, is_internet, sources_of}
 
 -- ---- sources
 
@@ -96,15 +66,11 @@ targets_are_sides before after None (Some goal) targets valid are = all_or_alone
 
 -- ---- boxes
 
-boxes_to : (pairs : ReachPairs) (targets : List (ℕ × ℕ)) (src : ℕ × ℕ) → AreReachPairs pairs → IsSide src → All IsSide targets → All IsValid (map (sides_between pairs src) targets)
-boxes_to pairs targets src given valid sides =
-    All-map IsValid (sides_between pairs src) targets (λ k d lt. record { proto = given.proto; src = valid; dst = sides k d lt; p = given.p; q = given.q })
-
 boxes_are_valid : (pairs : ReachPairs) (targets sources : List (ℕ × ℕ)) → AreReachPairs pairs → All IsSide sources → All IsSide targets → All IsValid (boxes_between pairs targets sources)
 boxes_are_valid pairs targets [] given from to = All-nil IsValid
 boxes_are_valid pairs targets (src ∷ sources) given from to =
     All-append IsValid (map (sides_between pairs src) targets) (boxes_between pairs targets sources)
-    (boxes_to pairs targets src given (All-head IsSide src sources from) to)
+    (boxes_to-valid pairs targets src given (All-head IsSide src sources from) to)
     (boxes_are_valid pairs targets sources given (All-tail IsSide src sources from) to)
 
 -- boxes between other sources share no header with these
@@ -127,14 +93,6 @@ disjoint_by_source pairs src dst b apart h one other =
     let c = in_from_holds h b other in
     apart h.src a.src.0 a.src.1 c.src.0 c.src.1
 
-boxes_apart : (pairs : ReachPairs) (targets : List (ℕ × ℕ)) (src : ℕ × ℕ) → AllPairs AreApart targets → AllPairs AreDisjoint (map (sides_between pairs src) targets)
-boxes_apart pairs targets src apart =
-    AllPairs-map AreDisjoint (sides_between pairs src) targets
-    (λ i j x lt inside h one other.
-    let a = in_from_holds h (sides_between pairs src (get_or targets i x)) one in
-    let b = in_from_holds h (sides_between pairs src (get_or targets j x)) other in
-    apart i j x lt inside h.dst a.dst.0 a.dst.1 b.dst.0 b.dst.1)
-
 -- two lists, each item of the one disjoint from each of the other
 pub AllPairs-joined : {X : Type 0} (R : X → X → Type 0) (xs ys : List X) → AllPairs R xs → AllPairs R ys → All (λ x. All (R x) ys) xs → AllPairs R (xs ++ ys)
 AllPairs-joined R [] ys one other across = other
@@ -153,7 +111,7 @@ boxes_are_disjoint : (pairs : ReachPairs) (targets sources : List (ℕ × ℕ)) 
 boxes_are_disjoint pairs targets [] to from = λ i j d lt inside. absurd (omega (arith, inside))
 boxes_are_disjoint pairs targets (src ∷ sources) to from =
     AllPairs-joined AreDisjoint (map (sides_between pairs src) targets) (boxes_between pairs targets sources)
-    (boxes_apart pairs targets src to)
+    (boxes_to-disjoint pairs targets src to)
     (boxes_are_disjoint pairs targets sources to (λ i j d lt inside. from (suc i) (suc j) d (omega arith) (omega arith)))
     (across_sources pairs targets src (boxes_between pairs targets sources)
     (others_from pairs targets sources src (λ k d lt. from 0 (suc k) d (omega arith) (omega arith))))

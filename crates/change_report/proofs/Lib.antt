@@ -4,5 +4,4 @@ pub mod GatherLemmas
 pub mod RowLemmas
 pub mod BodyLemmas
 pub mod AnswerLemmas
-pub mod WordLemmas
 pub mod Decided

@@ -1,25 +1,21 @@
 -- What `diff` answers about two described networks.
-use Rattle.std.specs.Prelude.{◌==◌, ◌≡◌, ◌≢◌, ◌<◌, ◌≤◌, ◌⊎◌, if◌then◌else◌, Contains, Err, List, None, Ok, Option, Some, codes, length, sum_by, true, ℕ}
-use Rattle.box_gather.specs.Over.{cells_over, is_in}
+use Rattle.std.specs.Prelude.{◌≡◌, ◌<◌, ◌≤◌, Err, List, None, Ok, Option, Some, codes, length, ℕ}
 use Rattle.command_job.specs.Lines.{line, query_refusal_line}
 use Rattle.command_job.specs.declared.status.Status.{Status}
 use Rattle.command_job.specs.declared.status.Status.TheVariants as ends
+use Rattle.listing_text.specs.Answered.{IsDecidedBy, IsTold, host_limit, status_by}
+use Rattle.listing_text.specs.Told.{FewCells as FewCellsOf, SomeTold}
 use Rattle.query_words.specs.ChangeQuery.{AreChangedEnds, change_query_of}
 use Rattle.query_words.specs.ReachQuery.{AreReachPairs}
 use Rattle.query_words.specs.declared.changes.ChangeQuery.{ChangeQuery}
 use Rattle.query_words.specs.declared.changes.ChangedEnd.{ChangedEnd}
 use Rattle.query_words.specs.declared.refusal.QueryRefusal.{QueryRefusal}
-use Rattle.vpc_base.specs.Cuts.{AreAmong, CutLists}
 use Rattle.vpc_laws.specs.Types.{Description, Header}
-use Rattle.change_report.specs.Asked.{AreStarts, AreTargets, Comparison, boxes_at, comparison, hosts_of_either}
-use Rattle.change_report.specs.Told.{AreToldAll, AreToldInPart, ChangeRows, change_in, cuts_in, row_count}
+use Rattle.change_report.specs.Asked.{AreStarts, AreTargets, Comparison, comparison, hosts_of_either}
+use Rattle.change_report.specs.Told.{wanted}
 use Rattle.change_report.specs.Texts.{part_of, part_text, start_id, whole_of, whole_text}
 
 -- ---- refusals
-
--- from how many hosts it is asked at most where no end is given
-abbrev pub host_limit : ℕ
-host_limit = 500
 
 -- no end is given, and the two networks have more, by their ids
 pub record IsTooMany (c : Comparison) : Type 0 where
@@ -32,18 +28,9 @@ too_many_line = line (codes "refused diff TooManyInterfaces")
 
 -- ---- answers
 
--- yes where nothing changed
-abbrev pub status_by : ℕ → Status
-status_by count = if count == 0 then ends.Yes else ends.No
-
 -- what is told of the requests of a query: something changed, or nothing, or more than is asked for
-pub data IsDiffTold (c : Comparison) (words : List (List ℕ)) (targets : List (ℕ × ℕ)) (starts : List ChangedEnd) (status : Status) (text : List ℕ) : Type 0 where
-  some : (told : List ChangeRows) → AreToldAll c targets starts told → 0 < row_count told → status ≡ ends.No → text ≡ whole_text c words told
-      → IsDiffTold c words targets starts status text
-  none : (told : List ChangeRows) → AreToldAll c targets starts told → row_count told ≡ 0 → status ≡ ends.Yes → text ≡ whole_text c words told
-      → IsDiffTold c words targets starts status text
-  more : (told : List ChangeRows) (last : ChangeRows) (next : Header) → AreToldInPart c targets starts told last next → status ≡ ends.More → text ≡ part_text c words told last next
-      → IsDiffTold c words targets starts status text
+abbrev pub IsDiffTold : Comparison → List (List ℕ) → List (ℕ × ℕ) → List ChangedEnd → Status → List ℕ → Type 0
+IsDiffTold c words targets starts status text = IsTold ends.No ends.Yes (whole_text c words) (part_text c words) (wanted c targets) starts status text
 
 -- the same, with the destinations and the starts that the query is about
 pub record IsAnswerTo (c : Comparison) (words : List (List ℕ)) (status : Status) (text : List ℕ) : Type 0 where
@@ -61,7 +48,7 @@ pub record CanBeTold {T : Type 0} (c : Comparison) (words : List T) : Type 0 whe
 
 -- the lines of rows, printed as an answer: all, or those with a header that is left out
 abbrev pub IsPrinted : Comparison → List (List ℕ) → List ℕ → ℕ → Option (ChangedEnd × Header) → Status → List ℕ → Type 0
-IsPrinted c words lines count None status text = (status ≡ status_by count) × (text ≡ whole_of words lines count)
+IsPrinted c words lines count None status text = (status ≡ status_by ends.No ends.Yes count) × (text ≡ whole_of words lines count)
 IsPrinted c words lines count (Some next) status text = (status ≡ ends.More) × (text ≡ part_of words lines (start_id c next.0) next.1)
 
 -- that it is about too many interfaces, or what is told
@@ -79,32 +66,16 @@ pub data IsDiffAnswered (before after : Description) (words : List (List ℕ)) (
 -- ---- completeness
 
 -- for some request that is asked for something changes
-pub record SomeChanges (c : Comparison) : Type 0 where
-  pub targets : List (ℕ × ℕ)
-  pub targets_are : AreTargets c targets
-  pub starts : List ChangedEnd
-  pub starts_are : AreStarts c starts
-  pub start : ChangedEnd
-  pub among : Contains starts start
-  pub header : Header
-  pub inside : is_in (boxes_at c targets start) header ≡ true
-  pub changed : change_in c start header ≢ None
+abbrev pub SomeChanges : Comparison → Type 0
+SomeChanges c = SomeTold (AreTargets c) (AreStarts c) (wanted c)
 
 -- cuts that have all of both descriptions make no more cells of the boxes than rows are asked for
-pub record FewCells (c : Comparison) : Type 0 where
-  pub targets : List (ℕ × ℕ)
-  pub targets_are : AreTargets c targets
-  pub starts : List ChangedEnd
-  pub starts_are : AreStarts c starts
-  pub cuts : CutLists
-  pub all : AreAmong (cuts_in c) cuts
-  pub few : sum_by (λ start. cells_over cuts (boxes_at c targets start)) starts ≤ c.query.pairs.max
+abbrev pub FewCells : Comparison → Type 0
+FewCells c = FewCellsOf (AreTargets c) (AreStarts c) (wanted c)
 
 -- no or more where something changes, and no where the cells are few; yes where nothing does
-pub record IsDecided (c : Comparison) (status : Status) : Type 0 where
-  pub some : SomeChanges c → (status ≡ ends.No) ⊎ (status ≡ ends.More)
-  pub few : SomeChanges c → FewCells c → status ≡ ends.No
-  pub none : (SomeChanges c → ⊥) → status ≡ ends.Yes
+abbrev pub IsDecided : Comparison → Status → Type 0
+IsDecided c status = IsDecidedBy ends.No ends.Yes (SomeChanges c) (FewCells c) status
 
 -- where the words give a query that isn't about too many interfaces, it is decided
 abbrev pub IsDiffDecided : Description → Description → List (List ℕ) → Status → Type 0

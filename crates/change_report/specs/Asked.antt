@@ -1,11 +1,12 @@
 -- Which requests a question for what changes is about: those of either network.
 use Rattle.std.specs.List.{flat_map}
-use Rattle.std.specs.List.Sorted.{IsPermutation, IsSortedByKey, IsStrictlyIncreasing}
+use Rattle.std.specs.List.Sorted.{IsPermutation, IsSortedByKey}
 use Rattle.std.specs.Cmp.Lexicographic.{slice_cmp}
 use Rattle.std.specs.Ordering.{nat_cmp}
-use Rattle.std.specs.Prelude.{◌≡◌, ◌↔◌, ◌==◌, ◌&&◌, ◌++◌, ◌∷◌, [], if◌then◌else◌, Bool, Contains, List, None, Option, Some, false, filter, is_some, map, not, true, ℕ}
+use Rattle.std.specs.Prelude.{◌≡◌, ◌==◌, ◌&&◌, ◌++◌, ◌∷◌, [], if◌then◌else◌, Bool, List, None, Option, Some, false, filter, is_some, map, not, true, ℕ}
 use Rattle.described_hosts.specs.Hosts.{hosts_of, id_of, is_host}
 use Rattle.header_boxes.specs.declared.boxes.Box5.{Box5}
+use Rattle.listing_text.specs.Sides.{AreEachAlone, alone, sides_between}
 use Rattle.query_words.specs.ChangeQuery.{has_source, internet_in_both, primary_in}
 use Rattle.query_words.specs.Sides.{all_addresses}
 use Rattle.query_words.specs.declared.changes.ChangeQuery.{ChangeQuery}
@@ -103,10 +104,6 @@ AreStarts c starts = StartAt c.before c.after c.query.start c.query.goal starts
 
 -- ---- sources
 
--- one address
-abbrev pub alone : ℕ → ℕ × ℕ
-alone a = (a, a)
-
 -- two addresses where they differ, else the one that there is
 abbrev pub each_once : Option ℕ → Option ℕ → List ℕ
 each_once None None = []
@@ -142,13 +139,6 @@ addresses_of d (Some (ends.Interface i)) = let e = interface_at d i in flat_map 
 abbrev pub addresses_in_either : Description → Description → ChangedEnd → List ℕ
 addresses_in_either before after e = addresses_of before e.before ++ addresses_of after e.after
 
--- each of some addresses, alone, in ascending order
-pub record AreEachAlone (addresses : List ℕ) (sides : List (ℕ × ℕ)) : Type 0 where
-  pub order : List ℕ
-  pub ascending : IsStrictlyIncreasing order
-  pub members : (a : ℕ) → Contains order a ↔ Contains addresses a
-  pub are : sides ≡ map alone order
-
 -- all of the internet, else each of some addresses
 abbrev pub AreAllOrAlone : Bool → List ℕ → List (ℕ × ℕ) → Type 0
 AreAllOrAlone true addresses sides = sides ≡ all_addresses ∷ []
@@ -168,10 +158,6 @@ abbrev pub AreTargets : Comparison → List (ℕ × ℕ) → Type 0
 AreTargets c targets = TargetsAre c.before c.after c.query.pairs.dst c.query.goal targets
 
 -- ---- boxes
-
--- the headers between two sides of addresses
-abbrev pub sides_between : ReachPairs → ℕ × ℕ → ℕ × ℕ → Box5
-sides_between pairs src dst = record { proto = pairs.proto; src = src; dst = dst; p = pairs.p; q = pairs.q }
 
 -- one box for each source and destination
 abbrev pub boxes_between : ReachPairs → List (ℕ × ℕ) → List (ℕ × ℕ) → List Box5

@@ -2,5 +2,4 @@ pub mod Asked
 pub mod Told
 pub mod Texts
 pub mod Walked
-pub mod Bodies
 pub mod Answered

@@ -1,93 +1,25 @@
 // What `diff` answers.
-ghost use Rattle.std.specs.Prelude.{◌≡◌, ◌↔◌, ◌++◌, ◌≤◌, IfOk, IsTrue, OnOk, length, map, nat_lt, string_bytes};
-ghost use Rattle.appliances.specs.Passing.{kind_passes_at};
-ghost use Rattle.change_report.specs.Answered.{CanBeTold, IsAnswerTo, IsDiffAnswered, IsPrinted, IsToldUnlessTooMany, IsTooMany, host_limit, status_by};
+ghost use Rattle.std.specs.Prelude.{◌≡◌, ◌↔◌, ◌≤◌, IfOk, IsTrue, length, map, nat_lt, string_bytes};
+ghost use Rattle.listing_text.specs.Answered.{host_limit};
+ghost use Rattle.change_report.specs.Answered.{CanBeTold, IsAnswerTo, IsDiffAnswered, IsPrinted, IsToldUnlessTooMany, IsTooMany};
 ghost use Rattle.change_report.specs.Asked.{comparison, hosts_of_either};
-ghost use Rattle.change_report.specs.Texts.{next_line, part_of, whole_of};
 
+use crate::between::{Comparing, answer_between};
 use crate::bodies::{Body, body_of};
 use crate::compared::Compared;
 use crate::gathered::Asked;
 use crate::hosts::{changed_id, hosts_of_either};
 use crate::starts::starts_of;
 use crate::targets::targets_of;
-use crate::words::put_query;
-use appliances::Kinds;
-use block_report::{put, put_end, put_header_word, put_line, put_number_line, put_word};
-use command_job::{Answer, Status, answer_line, deciders_of, refuse_query};
-use fabric::Fabric;
+use command_job::{Answer, Status, answer_line, refuse_query};
+use listing_text::{answer_part, answer_whole, is_many, status_by};
 use query_words::{ChangeQuery, read_change_query};
 use reference_check::Network;
 use std::alloc::Global;
 use std::mem;
-use vpc_base::{Header, NoMemory};
-
-// From how many hosts it is asked at most where no end is given.
-const MOST_HOSTS: usize = 500;
+use vpc_base::NoMemory;
 
 // ---- texts
-
-fn put_next(out: &mut Vec<u8>, id: &[u8], next: &Header) -> Result<(), NoMemory>
-    ensures { OnOk result (out.new.items ≡ out.old.items ++ next_line id.now next.now) }
-{
-    put(out, b"next")?;
-    put_word(out, id)?;
-    put_header_word(out, next)?;
-    put_end(out)
-}
-
-fn status_by(count: u32) -> Status
-    ensures { result ≡ status_by count }
-{
-    if count == 0 { Status::Yes } else { Status::No }
-}
-
-// All rows.
-fn answer_whole(
-    alloc: Global,
-    words: &[String],
-    lines: &[u8],
-    count: u32,
-) -> Result<Answer, NoMemory>
-    requires { 3 ≤ length words.now }
-    ensures status { IfOk result (λ a. a.status ≡ status_by count) }
-    ensures text { IfOk result (λ a.
-        a.text.items ≡ whole_of (map string_bytes words.now) lines.now count) }
-{
-    let mut text = Vec::new(alloc);
-    put_line(&mut text, b"vpc-diff 1")?;
-    put_query(&mut text, words)?;
-    put(&mut text, lines)?;
-    put_number_line(&mut text, b"end", u128::from(count))?;
-    Ok(Answer {
-        status: status_by(count),
-        text,
-    })
-}
-
-// Rows that leave headers out.
-fn answer_part(
-    alloc: Global,
-    words: &[String],
-    lines: &[u8],
-    id: &[u8],
-    next: &Header,
-) -> Result<Answer, NoMemory>
-    requires { 3 ≤ length words.now }
-    ensures status { IfOk result (λ a. a.status ≡ Status.More) }
-    ensures text { IfOk result (λ a.
-        a.text.items ≡ part_of (map string_bytes words.now) lines.now id.now next.now) }
-{
-    let mut text = Vec::new(alloc);
-    put_line(&mut text, b"more changes")?;
-    put_query(&mut text, words)?;
-    put(&mut text, lines)?;
-    put_next(&mut text, id, next)?;
-    Ok(Answer {
-        status: Status::More,
-        text,
-    })
-}
 
 // The answer with these lines.
 fn answer_body(
@@ -100,11 +32,15 @@ fn answer_body(
     ensures { IfOk result (λ a. IsPrinted compared.now (map string_bytes words.now)
         body.now.text.items body.now.count body.now.next a.status a.text.items) }
 {
+    let lines = body.text.as_slice();
     match body.next {
-        None => answer_whole(alloc, words, body.text.as_slice(), body.count),
+        None => {
+            let status = status_by(Status::No, Status::Yes, body.count);
+            answer_whole(alloc, b"vpc-diff 1", 3, words, lines, body.count, status)
+        }
         Some((start, next)) => {
             let id = changed_id(compared.before(), compared.after(), &start);
-            answer_part(alloc, words, body.text.as_slice(), id, &next)
+            answer_part(alloc, b"more changes", 3, words, lines, id, &next)
         }
     }
 }
@@ -126,90 +62,22 @@ fn answer_asked(alloc: Global, asked: &Asked, words: &[String]) -> Result<Answer
     answer_body(alloc, compared, words, &body)
 }
 
-// What is told by the look-ups of both networks, with the appliances that each describes.
-fn answer_between(
-    alloc: Global,
-    before: &Fabric,
-    after: &Fabric,
-    query: &ChangeQuery,
-    words: &[String],
-) -> Result<Answer, NoMemory>
-    requires { CanBeTold (comparison before.now after.now query.now) words.now }
-    ensures { IfOk result (λ a. IsAnswerTo
-        (comparison before.now after.now query.now) (map string_bytes words.now) a.status a.text.items) }
-{
-    let kinds = Kinds::of(alloc, before.network())?;
-    let decide = Box::new(
-        alloc,
-        move |k: u32, h: &Header| -> bool
-            ensures { result ≡ kind_passes_at kinds k h.now }
-        { kinds.passes(k, h) },
-    )?;
-    let before_deciders = deciders_of(alloc, before.network(), decide)?;
-    let later_kinds = Kinds::of(alloc, after.network())?;
-    let later_decide = Box::new(
-        alloc,
-        move |k: u32, h: &Header| -> bool
-            ensures { result ≡ kind_passes_at later_kinds k h.now }
-        { later_kinds.passes(k, h) },
-    )?;
-    let after_deciders = deciders_of(alloc, after.network(), later_decide)?;
-    let asked = Asked {
-        compared: Compared {
-            before,
-            after,
-            query,
-        },
-        before_deciders: &before_deciders,
-        after_deciders: &after_deciders,
-    };
-    answer_asked(alloc, &asked, words)
+// The words that gave a query.
+#[derive(Drop)]
+struct Printing<'a> {
+    words: &'a [String],
 }
 
-fn compare_with(
-    alloc: Global,
-    before: &Fabric,
-    after: Network,
-    query: &ChangeQuery,
-    words: &[String],
-) -> Result<Answer, NoMemory>
-    requires { CanBeTold (comparison before.now after query.now) words.now }
-    ensures { IfOk result (λ a. IsAnswerTo
-        (comparison before.now after query.now) (map string_bytes words.now) a.status a.text.items) }
-{
-    match Fabric::of(alloc, after) {
-        Ok(fabric) => {
-            let answer = answer_between(alloc, before, &fabric, query, words);
-            // As a network's look-ups are left where a process ends with its answer.
-            mem::forget(fabric);
-            answer
-        }
-        Err(no_memory) => Err(no_memory),
-    }
-}
+impl<'a> Comparing for Printing<'a> {
+    ghost use Rattle.std.specs.Prelude.{map, string_bytes};
+    ghost use Rattle.change_report.specs.Answered.{CanBeTold, IsAnswerTo};
 
-// What is told of the query, by the look-ups of both networks.
-fn compare(
-    alloc: Global,
-    before: Network,
-    after: Network,
-    query: &ChangeQuery,
-    words: &[String],
-) -> Result<Answer, NoMemory>
-    requires { CanBeTold (comparison before after query.now) words.now }
-    ensures { IfOk result (λ a.
-        IsAnswerTo (comparison before after query.now) (map string_bytes words.now) a.status a.text.items) }
-{
-    match Fabric::of(alloc, before) {
-        Ok(fabric) => {
-            let answer = compare_with(alloc, &fabric, after, query, words);
-            mem::forget(fabric);
-            answer
-        }
-        Err(no_memory) => {
-            mem::forget(after);
-            Err(no_memory)
-        }
+    ghost fits = { λ j c. CanBeTold c j.words.now };
+
+    ghost answers = { λ j c. IsAnswerTo c (map string_bytes j.words.now) };
+
+    fn answer_asked(&self, alloc: Global, asked: &Asked) -> Result<Answer, NoMemory> {
+        answer_asked(alloc, asked, self.words)
     }
 }
 
@@ -221,7 +89,7 @@ fn have_many_hosts(alloc: Global, before: &Network, after: &Network) -> Result<b
         many ≡ nat_lt host_limit (length (hosts_of_either before.now after.now))) }
 {
     let hosts = hosts_of_either(alloc, before, after)?;
-    Ok(MOST_HOSTS < hosts.len())
+    Ok(is_many(hosts.len()))
 }
 
 /// Whether no end is given and the two networks have more than 500 hosts.
@@ -253,7 +121,7 @@ fn tell(
         (comparison before after query.now) (map string_bytes words.now) a.status a.text.items) }
 {
     match is_too_many(alloc, &before, &after, query) {
-        Ok(false) => compare(alloc, before, after, query, words),
+        Ok(false) => answer_between(alloc, before, after, query, &Printing { words }),
         Ok(true) => {
             mem::forget(before);
             mem::forget(after);

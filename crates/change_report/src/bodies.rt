@@ -1,10 +1,12 @@
 // The rows of all starts.
 ghost use Rattle.std.specs.Prelude.{◌≡◌, ◌≤◌, ◌+◌, ◌-◌, ◌++◌, All, IfOk, OnOk, length};
 ghost use Rattle.journey_changes.specs.Telling.{IsTellable};
+ghost use Rattle.listing_text.specs.Bodies.{IsAdded, IsBody};
 ghost use Rattle.query_words.specs.ChangeQuery.{AreChangedEnds, IsChangedEnd};
 ghost use Rattle.query_words.specs.ReachQuery.{AreReachPairs};
 ghost use Rattle.change_report.specs.Asked.{AreTargets};
-ghost use Rattle.change_report.specs.Bodies.{IsAdded, IsBody, lines_at};
+ghost use Rattle.change_report.specs.Texts.{lines_at};
+ghost use Rattle.change_report.specs.Told.{wanted};
 ghost use Rattle.change_report.specs.Walked.{AreWalksOf};
 
 use crate::compared::Compared;
@@ -71,7 +73,7 @@ fn add_start(
     requires targets { AreTargets compared.now targets.now }
     requires start { IsChangedEnd compared.now.before compared.now.after start }
     requires few { body.old.count ≤ compared.now.query.pairs.max }
-    ensures added { OnOk result (IsAdded compared.now targets.now start
+    ensures added { OnOk result (IsAdded (wanted compared.now targets.now) (lines_at compared.now) start
         body.old.text.items body.old.count body.old.next body.new.text.items body.new.count body.new.next) }
     ensures walks { AreWalksOf compared.now walks.new.before.sent walks.new.after.sent }
 {
@@ -102,7 +104,8 @@ fn body_by(
     requires pairs { AreReachPairs compared.now.query.pairs }
     requires targets { AreTargets compared.now targets.now }
     requires starts { All (IsChangedEnd compared.now.before compared.now.after) starts.now }
-    ensures { IfOk result (λ b. IsBody compared.now targets.now starts.now b.text.items b.count b.next) }
+    ensures { IfOk result (λ b. IsBody (wanted compared.now targets.now) (lines_at compared.now) starts.now
+        b.text.items b.count b.next) }
 {
     let mut body = Body {
         text: Vec::new(alloc),
@@ -130,7 +133,8 @@ pub fn body_of(
     requires targets { AreTargets asked.now.compared targets.now }
     requires starts { All (IsChangedEnd asked.now.compared.before asked.now.compared.after) starts.now }
     ensures { IfOk result (λ b.
-        IsBody asked.now.compared targets.now starts.now b.text.items b.count b.next) }
+        IsBody (wanted asked.now.compared targets.now) (lines_at asked.now.compared) starts.now
+        b.text.items b.count b.next) }
 {
     let mut walks = walks_of(asked);
     body_by(alloc, &asked.compared, &mut walks, targets, starts)

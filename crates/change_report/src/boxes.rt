@@ -1,14 +1,14 @@
 // The boxes of requests that are asked for.
-ghost use Rattle.std.specs.Prelude.{◌≡◌, ◌++◌, All, AllPairs, IfOk, IfSome, OnOk, map};
+ghost use Rattle.std.specs.Prelude.{◌≡◌, All, AllPairs, IfOk};
 ghost use Rattle.header_boxes.specs.Boxes.{AreDisjoint, IsValid};
-ghost use Rattle.query_words.specs.Pairs.{IsSide};
 ghost use Rattle.query_words.specs.ReachQuery.{AreReachPairs};
-ghost use Rattle.change_report.specs.Asked.{AreTargets, boxes_at, boxes_between, each_once, own_sources, sides_between, sources_of};
+ghost use Rattle.change_report.specs.Asked.{AreTargets, boxes_at, boxes_between, each_once, own_sources, sources_of};
 
 use crate::compared::Compared;
 use crate::starts::primary_in;
-use crate::targets::{ALL, each_alone, is_internet, only};
+use crate::targets::is_internet;
 use header_boxes::Box5;
+use listing_text::{ALL, add_boxes, each_alone, only};
 use query_words::{ChangedEnd, ReachPairs};
 use reference_check::Network;
 use std::alloc::Global;
@@ -69,33 +69,6 @@ fn sources_of(
 }
 
 // ---- boxes
-
-fn sides_between(pairs: &ReachPairs, src: (u32, u32), dst: (u32, u32)) -> Box5
-    ensures { result ≡ sides_between pairs.now src dst }
-{
-    Box5 {
-        proto: pairs.proto,
-        src,
-        dst,
-        p: pairs.p,
-        q: pairs.q,
-    }
-}
-
-fn add_boxes(
-    boxes: &mut Vec<Box5>,
-    pairs: &ReachPairs,
-    targets: &[(u32, u32)],
-    src: (u32, u32),
-) -> Result<(), NoMemory>
-    ensures { OnOk result (boxes.new.items
-        ≡ boxes.old.items ++ map (sides_between pairs.now src) targets.now) }
-{
-    for dst in targets {
-        boxes.push(sides_between(pairs, src, *dst))?;
-    }
-    Ok(())
-}
 
 fn boxes_between(
     alloc: Global,

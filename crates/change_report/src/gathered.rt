@@ -2,12 +2,12 @@
 ghost use Rattle.std.specs.Prelude.{◌≡◌, All, AllPairs, IfOk, Some, option_map};
 ghost use Rattle.box_gather.specs.Over.{IsGatheredOver};
 ghost use Rattle.header_boxes.specs.Boxes.{AreDisjoint, IsValid};
+ghost use Rattle.listing_text.specs.Bodies.{IsGatheredFrom};
 ghost use Rattle.query_words.specs.ChangeQuery.{AreChangedEnds, IsChangedEnd};
 ghost use Rattle.query_words.specs.ReachQuery.{AreReachPairs};
 ghost use Rattle.vpc_model.specs.Appliances.{appliances_of};
 ghost use Rattle.change_report.specs.Asked.{AreTargets};
-ghost use Rattle.change_report.specs.Bodies.{IsGatheredFrom};
-ghost use Rattle.change_report.specs.Told.{change_in, cuts_in, sent_after, sent_before, toward_of};
+ghost use Rattle.change_report.specs.Told.{change_in, cuts_in, sent_after, sent_before, toward_of, wanted};
 ghost use Rattle.change_report.specs.Walked.{AreWalksOf, nowhere};
 
 use crate::boxes::boxes_at;
@@ -133,7 +133,7 @@ pub fn gather_at(
     requires pairs { AreReachPairs compared.now.query.pairs }
     requires start { IsChangedEnd compared.now.before compared.now.after start }
     requires targets { AreTargets compared.now targets.now }
-    ensures gathered { IfOk result (IsGatheredFrom compared.now targets.now start room) }
+    ensures gathered { IfOk result (IsGatheredFrom (wanted compared.now targets.now) start room) }
     ensures walks { AreWalksOf compared.now walks.new.before.sent walks.new.after.sent }
 {
     let boxes = boxes_at(alloc, compared, targets, start)?;

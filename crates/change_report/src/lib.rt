@@ -2,6 +2,7 @@
 #![tactic(auto)]
 
 mod answers;
+mod between;
 mod bodies;
 mod boxes;
 mod command;
@@ -11,9 +12,9 @@ mod hosts;
 mod rows;
 mod starts;
 mod targets;
-mod words;
 
 pub use answers::is_too_many;
+pub use between::{Comparing, answer_between};
 pub use boxes::boxes_at;
 pub use command::DiffCommand;
 pub use compared::Compared;

@@ -1,40 +1,14 @@
 // The destinations that are asked for.
-ghost use Rattle.std.specs.Prelude.{◌≡◌, ◌↔◌, ◌++◌, ◌∷◌, [], Contains, IfOk, IfSome, OnOk, map, ℕ};
-ghost use Rattle.std.specs.List.{flat_map};
-ghost use Rattle.std.specs.List.Sorted.{IsStrictlyIncreasing};
-ghost use Rattle.query_words.specs.ChangeQuery.{IsChangedEnd};
-ghost use Rattle.vpc_model.specs.Lookup.{both_addresses, interface_at};
-ghost use Rattle.vpc_model.specs.Sound.{is_eni};
-ghost use Rattle.change_report.specs.Asked.{AreEachAlone, AreOwnTargets, TargetsAre, addresses_in_either, addresses_of, alone, is_internet};
+ghost use Rattle.std.specs.Prelude.{◌≡◌, ◌++◌, IfOk, OnOk};
+ghost use Rattle.listing_text.specs.Sides.{AreEachAlone};
+ghost use Rattle.change_report.specs.Asked.{AreOwnTargets, TargetsAre, addresses_in_either, addresses_of, is_internet};
 
+use listing_text::{ALL, add_pairs, ascending_alone, only};
 use query_words::ChangedEnd;
 use reference_check::Network;
 use std::alloc::Global;
 use vpc_base::NoMemory;
 use vpc_model::End;
-
-/// Every address.
-pub const ALL: (u32, u32) = (0, u32::MAX);
-
-fn add_both(addresses: &mut Vec<u32>, both: &(u32, Option<u32>)) -> Result<(), NoMemory>
-    ensures { OnOk result (addresses.new.items ≡ addresses.old.items ++ both_addresses both.now) }
-{
-    addresses.push(both.0)?;
-    if let Some(public) = both.1 {
-        addresses.push(public)?;
-    }
-    Ok(())
-}
-
-fn add_pairs(addresses: &mut Vec<u32>, pairs: &[(u32, Option<u32>)]) -> Result<(), NoMemory>
-    ensures { OnOk result (addresses.new.items
-        ≡ addresses.old.items ++ flat_map both_addresses pairs.now) }
-{
-    for pair in pairs {
-        add_both(addresses, pair)?;
-    }
-    Ok(())
-}
 
 // Adds the private and public addresses that an end has in a network.
 fn add_addresses(addresses: &mut Vec<u32>, n: &Network, end: Option<End>) -> Result<(), NoMemory>
@@ -65,36 +39,6 @@ fn addresses_in_either(
     Ok(addresses)
 }
 
-// The same addresses in ascending order, each once.
-fn ascending(mut addresses: Vec<u32>) -> Vec<u32>
-    ensures order { IsStrictlyIncreasing result.items }
-    ensures members { (a : ℕ) → Contains result.items a ↔ Contains addresses.items a }
-{
-    addresses.sort_unstable();
-    addresses.dedup();
-    addresses
-}
-
-/// Each of these addresses, alone.
-pub fn each_alone(alloc: Global, addresses: &[u32]) -> Result<Vec<(u32, u32)>, NoMemory>
-    ensures { IfOk result (λ v. v.items ≡ map alone addresses.now) }
-{
-    let mut sides = Vec::new(alloc);
-    for address in addresses {
-        sides.push((*address, *address))?;
-    }
-    Ok(sides)
-}
-
-/// This side, and no other.
-pub fn only(alloc: Global, side: (u32, u32)) -> Result<Vec<(u32, u32)>, NoMemory>
-    ensures { IfOk result (λ v. v.items ≡ side ∷ []) }
-{
-    let mut sides = Vec::new(alloc);
-    sides.push(side)?;
-    Ok(sides)
-}
-
 /// An end that is the internet.
 pub fn is_internet(end: Option<End>) -> bool
     ensures { result ≡ is_internet end }
@@ -113,8 +57,7 @@ fn addresses_alone(
 ) -> Result<Vec<(u32, u32)>, NoMemory>
     ensures { IfOk result (λ v. AreEachAlone (addresses_in_either before.now after.now goal) v.items) }
 {
-    let addresses = ascending(addresses_in_either(alloc, before, after, goal)?);
-    each_alone(alloc, addresses.as_slice())
+    ascending_alone(alloc, addresses_in_either(alloc, before, after, goal)?)
 }
 
 fn own_targets(

@@ -1,4 +1,3 @@
-pub mod WordLemmas
 pub mod SideLemmas
 pub mod StartLemmas
 pub mod RowLemmas

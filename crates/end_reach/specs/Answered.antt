@@ -1,25 +1,20 @@
 -- What `reach` answers in a described network.
-use Rattle.std.specs.Prelude.{◌==◌, ◌≡◌, ◌≢◌, ◌<◌, ◌≤◌, ◌⊎◌, if◌then◌else◌, Contains, Err, List, None, Ok, Option, Some, codes, length, sum_by, true, ℕ}
-use Rattle.box_gather.specs.Over.{cells_over, is_in}
+use Rattle.std.specs.Prelude.{◌≡◌, ◌<◌, ◌≤◌, Err, List, None, Ok, Option, Some, codes, length, ℕ}
 use Rattle.command_job.specs.Lines.{line, query_refusal_line}
 use Rattle.command_job.specs.declared.status.Status.{Status}
 use Rattle.command_job.specs.declared.status.Status.TheVariants as ends
+use Rattle.described_hosts.specs.Hosts.{host_count}
+use Rattle.listing_text.specs.Answered.{IsDecidedBy, IsTold, host_limit, status_by}
+use Rattle.listing_text.specs.Told.{FewCells as FewCellsOf, SomeTold}
 use Rattle.query_words.specs.ReachQuery.{AreGivenEnds, AreReachPairs, reach_query_of}
 use Rattle.query_words.specs.declared.reaches.ReachQuery.{ReachQuery}
 use Rattle.query_words.specs.declared.refusal.QueryRefusal.{QueryRefusal}
-use Rattle.vpc_base.specs.Cuts.{AreAmong, CutLists}
 use Rattle.vpc_laws.specs.Types.{Description, End, Header}
-use Rattle.vpc_model.specs.Cuts.{cuts_of}
-use Rattle.described_hosts.specs.Hosts.{host_count}
-use Rattle.end_reach.specs.Asked.{AreStarts, AreTargets, boxes_at}
-use Rattle.end_reach.specs.Told.{AreToldAll, AreToldInPart, StartRows, reached_in, row_count}
+use Rattle.end_reach.specs.Asked.{AreStarts, AreTargets}
+use Rattle.end_reach.specs.Told.{wanted}
 use Rattle.end_reach.specs.Texts.{part_of, part_text, whole_of, whole_text}
 
 -- ---- refusals
-
--- from how many hosts it is asked at most where no end is given
-abbrev pub host_limit : ℕ
-host_limit = 500
 
 -- no end is given, and there are more
 pub record IsTooMany (d : Description) (query : ReachQuery) : Type 0 where
@@ -32,18 +27,9 @@ too_many_line = line (codes "refused reach TooManyInterfaces")
 
 -- ---- answers
 
--- yes where there is a row
-abbrev pub status_by : ℕ → Status
-status_by count = if count == 0 then ends.No else ends.Yes
-
 -- what is told of the requests of a query: some get through, or none, or more than are asked for
-pub data IsReachTold (d : Description) (query : ReachQuery) (words : List (List ℕ)) (targets : List (ℕ × ℕ)) (starts : List End) (status : Status) (text : List ℕ) : Type 0 where
-  some : (told : List StartRows) → AreToldAll d query targets starts told → 0 < row_count told → status ≡ ends.Yes → text ≡ whole_text d words told
-      → IsReachTold d query words targets starts status text
-  none : (told : List StartRows) → AreToldAll d query targets starts told → row_count told ≡ 0 → status ≡ ends.No → text ≡ whole_text d words told
-      → IsReachTold d query words targets starts status text
-  more : (told : List StartRows) (last : StartRows) (next : Header) → AreToldInPart d query targets starts told last next → status ≡ ends.More → text ≡ part_text d words told last next
-      → IsReachTold d query words targets starts status text
+abbrev pub IsReachTold : Description → ReachQuery → List (List ℕ) → List (ℕ × ℕ) → List End → Status → List ℕ → Type 0
+IsReachTold d query words targets starts status text = IsTold ends.Yes ends.No (whole_text d words) (part_text d words) (wanted d query targets) starts status text
 
 -- the same, with the destinations and the starts that the query is about
 pub record IsAnswerTo (d : Description) (query : ReachQuery) (words : List (List ℕ)) (status : Status) (text : List ℕ) : Type 0 where
@@ -61,7 +47,7 @@ pub record CanBeTold {T : Type 0} (d : Description) (query : ReachQuery) (words 
 
 -- the lines of rows, printed as an answer: all, or those with a header that is left out
 abbrev pub IsPrinted : Description → List (List ℕ) → List ℕ → ℕ → Option (End × Header) → Status → List ℕ → Type 0
-IsPrinted d words lines count None status text = (status ≡ status_by count) × (text ≡ whole_of words lines count)
+IsPrinted d words lines count None status text = (status ≡ status_by ends.Yes ends.No count) × (text ≡ whole_of words lines count)
 IsPrinted d words lines count (Some next) status text = (status ≡ ends.More) × (text ≡ part_of d words lines next.0 next.1)
 
 -- that it is about too many interfaces, or what is told
@@ -77,32 +63,16 @@ pub data IsReachAnswered (d : Description) (words : List (List ℕ)) (status : S
 -- ---- completeness
 
 -- some request that is asked for reaches an end
-pub record SomeReaches (d : Description) (query : ReachQuery) : Type 0 where
-  pub targets : List (ℕ × ℕ)
-  pub targets_are : AreTargets d query.pairs.dst query.goal targets
-  pub starts : List End
-  pub starts_are : AreStarts d query.start query.goal starts
-  pub start : End
-  pub among : Contains starts start
-  pub header : Header
-  pub inside : is_in (boxes_at d query targets start) header ≡ true
-  pub reached : reached_in d query start header ≢ None
+abbrev pub SomeReaches : Description → ReachQuery → Type 0
+SomeReaches d query = SomeTold (AreTargets d query.pairs.dst query.goal) (AreStarts d query.start query.goal) (wanted d query)
 
 -- cuts that have all of the description make no more cells of the boxes than rows are asked for
-pub record FewCells (d : Description) (query : ReachQuery) : Type 0 where
-  pub targets : List (ℕ × ℕ)
-  pub targets_are : AreTargets d query.pairs.dst query.goal targets
-  pub starts : List End
-  pub starts_are : AreStarts d query.start query.goal starts
-  pub cuts : CutLists
-  pub all : AreAmong (cuts_of d) cuts
-  pub few : sum_by (λ start. cells_over cuts (boxes_at d query targets start)) starts ≤ query.pairs.max
+abbrev pub FewCells : Description → ReachQuery → Type 0
+FewCells d query = FewCellsOf (AreTargets d query.pairs.dst query.goal) (AreStarts d query.start query.goal) (wanted d query)
 
 -- yes or more where some request reaches an end, and yes where the cells are few; no where none does
-pub record IsDecided (d : Description) (query : ReachQuery) (status : Status) : Type 0 where
-  pub some : SomeReaches d query → (status ≡ ends.Yes) ⊎ (status ≡ ends.More)
-  pub few : SomeReaches d query → FewCells d query → status ≡ ends.Yes
-  pub none : (SomeReaches d query → ⊥) → status ≡ ends.No
+abbrev pub IsDecided : Description → ReachQuery → Status → Type 0
+IsDecided d query status = IsDecidedBy ends.Yes ends.No (SomeReaches d query) (FewCells d query) status
 
 -- where the words give a query that isn't about too many interfaces, it is decided
 abbrev pub IsReachDecided : Description → List (List ℕ) → Status → Type 0

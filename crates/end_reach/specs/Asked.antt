@@ -1,8 +1,8 @@
 -- Which requests a question for all that gets through is about.
 use Rattle.std.specs.List.{flat_map}
-use Rattle.std.specs.List.Sorted.{IsStrictlyIncreasing}
-use Rattle.std.specs.Prelude.{◌≡◌, ◌↔◌, ◌&&◌, ◌++◌, ◌∷◌, [], if◌then◌else◌, Bool, Contains, List, None, Option, Some, false, filter, is_some, map, not, option_map, ℕ}
+use Rattle.std.specs.Prelude.{◌≡◌, ◌&&◌, ◌++◌, ◌∷◌, [], if◌then◌else◌, Bool, List, None, Option, Some, false, filter, is_some, map, not, option_map, ℕ}
 use Rattle.header_boxes.specs.declared.boxes.Box5.{Box5}
+use Rattle.listing_text.specs.Sides.{AreEachAlone, alone, sides_between}
 use Rattle.query_words.specs.Sides.{all_addresses}
 use Rattle.query_words.specs.declared.reaches.ReachPairs.{ReachPairs}
 use Rattle.query_words.specs.declared.reaches.ReachQuery.{ReachQuery}
@@ -13,10 +13,6 @@ use Rattle.vpc_model.specs.declared.places.End.TheVariants as ends
 use Rattle.described_hosts.specs.Hosts.{AreHostsById}
 
 -- ---- sources
-
--- one address
-abbrev pub alone : ℕ → ℕ × ℕ
-alone a = (a, a)
 
 -- those of a start: its primary address, if it has one; all, of the internet
 abbrev pub own_sources : Description → End → Option (ℕ × ℕ)
@@ -34,13 +30,6 @@ sources_of d None start = own_sources d start
 abbrev pub own_addresses : Interface → List ℕ
 own_addresses e = flat_map both_addresses e.addresses
 
--- each of some addresses, alone, in ascending order
-pub record AreEachAlone (addresses : List ℕ) (sides : List (ℕ × ℕ)) : Type 0 where
-  pub order : List ℕ
-  pub ascending : IsStrictlyIncreasing order
-  pub members : (a : ℕ) → Contains order a ↔ Contains addresses a
-  pub are : sides ≡ map alone order
-
 -- those that are asked for: those that are given; else each address of an interface that is the goal, and all where none is
 abbrev pub AreTargets : Description → Option (ℕ × ℕ) → Option End → List (ℕ × ℕ) → Type 0
 AreTargets d (Some side) goal targets = targets ≡ side ∷ []
@@ -49,10 +38,6 @@ AreTargets d None (Some ends.Internet) targets = targets ≡ all_addresses ∷ [
 AreTargets d None (Some (ends.Interface i)) targets = AreEachAlone (own_addresses (interface_at d i)) targets
 
 -- ---- boxes
-
--- the headers between two sides of addresses
-abbrev pub sides_between : ReachPairs → ℕ × ℕ → ℕ × ℕ → Box5
-sides_between pairs src dst = record { proto = pairs.proto; src = src; dst = dst; p = pairs.p; q = pairs.q }
 
 -- one box for each destination; none where there is no source
 abbrev pub boxes_by : ReachPairs → List (ℕ × ℕ) → Option (ℕ × ℕ) → List Box5

@@ -1,95 +1,24 @@
 // What `reach` answers.
-ghost use Rattle.std.specs.Prelude.{◌≡◌, ◌↔◌, ◌++◌, ◌≤◌, IfOk, IfSome, IsTrue, OnOk, length, map, string_bytes};
+ghost use Rattle.std.specs.Prelude.{◌≡◌, ◌↔◌, ◌≤◌, IfOk, IfSome, IsTrue, length, map, string_bytes};
 ghost use Rattle.vpc_model.specs.Sound.{is_end};
-ghost use Rattle.end_reach.specs.Answered.{CanBeTold, IsPrinted, IsReachAnswered, IsToldUnlessTooMany, IsTooMany, status_by};
-ghost use Rattle.end_reach.specs.Texts.{next_line, part_of, whole_of};
+ghost use Rattle.end_reach.specs.Answered.{CanBeTold, IsPrinted, IsReachAnswered, IsToldUnlessTooMany, IsTooMany};
 
 use crate::bodies::{Body, body_of};
-use crate::rows::put_end_word;
 use crate::sides::targets_of;
 use crate::starts::starts_of;
-use crate::words::put_query;
 use appliances::Deciders;
-use block_report::{put, put_end, put_header_word, put_line, put_number_line};
+use block_report::end_id;
 use command_job::{Answer, Job, Status, answer_job, answer_line, refuse_query};
 use described_hosts::host_count;
 use fabric::Fabric;
+use listing_text::{answer_part, answer_whole, is_many, status_by};
 use query_words::{ReachQuery, read_reach_query};
 use reference_check::Network;
 use std::alloc::Global;
 use std::mem;
-use vpc_base::{Header, NoMemory};
-use vpc_model::End;
-
-// From how many hosts it is asked at most where no end is given.
-const MOST_HOSTS: usize = 500;
+use vpc_base::NoMemory;
 
 // ---- texts
-
-fn put_next(out: &mut Vec<u8>, n: &Network, start: End, next: &Header) -> Result<(), NoMemory>
-    requires { IsTrue (is_end n.now start) }
-    ensures { OnOk result (out.new.items ≡ out.old.items ++ next_line n.now start next.now) }
-{
-    put(out, b"next")?;
-    put_end_word(out, n, start)?;
-    put_header_word(out, next)?;
-    put_end(out)
-}
-
-fn status_by(count: u32) -> Status
-    ensures { result ≡ status_by count }
-{
-    if count == 0 { Status::No } else { Status::Yes }
-}
-
-// All rows.
-fn answer_whole(
-    alloc: Global,
-    words: &[String],
-    lines: &[u8],
-    count: u32,
-) -> Result<Answer, NoMemory>
-    requires { 2 ≤ length words.now }
-    ensures status { IfOk result (λ a. a.status ≡ status_by count) }
-    ensures text { IfOk result (λ a.
-        a.text.items ≡ whole_of (map string_bytes words.now) lines.now count) }
-{
-    let mut text = Vec::new(alloc);
-    put_line(&mut text, b"vpc-reach 1")?;
-    put_query(&mut text, words)?;
-    put(&mut text, lines)?;
-    put_number_line(&mut text, b"end", u128::from(count))?;
-    Ok(Answer {
-        status: status_by(count),
-        text,
-    })
-}
-
-// Rows that leave headers out.
-fn answer_part(
-    alloc: Global,
-    n: &Network,
-    words: &[String],
-    lines: &[u8],
-    start: End,
-    next: &Header,
-) -> Result<Answer, NoMemory>
-    requires words { 2 ≤ length words.now }
-    requires start { IsTrue (is_end n.now start) }
-    ensures status { IfOk result (λ a. a.status ≡ Status.More) }
-    ensures text { IfOk result (λ a.
-        a.text.items ≡ part_of n.now (map string_bytes words.now) lines.now start next.now) }
-{
-    let mut text = Vec::new(alloc);
-    put_line(&mut text, b"more reach")?;
-    put_query(&mut text, words)?;
-    put(&mut text, lines)?;
-    put_next(&mut text, n, start, next)?;
-    Ok(Answer {
-        status: Status::More,
-        text,
-    })
-}
 
 // The answer with these lines.
 fn answer_body(
@@ -103,9 +32,16 @@ fn answer_body(
     ensures { IfOk result (λ a. IsPrinted n.now (map string_bytes words.now)
         body.now.text.items body.now.count body.now.next a.status a.text.items) }
 {
+    let lines = body.text.as_slice();
     match body.next {
-        None => answer_whole(alloc, words, body.text.as_slice(), body.count),
-        Some((start, next)) => { answer_part(alloc, n, words, body.text.as_slice(), start, &next) }
+        None => {
+            let status = status_by(Status::Yes, Status::No, body.count);
+            answer_whole(alloc, b"vpc-reach 1", 2, words, lines, body.count, status)
+        }
+        Some((start, next)) => {
+            let id = end_id(n, &start);
+            answer_part(alloc, b"more reach", 2, words, lines, id, &next)
+        }
     }
 }
 
@@ -153,7 +89,7 @@ pub fn is_too_many(n: &Network, query: &ReachQuery) -> bool
     ensures { IsTrue result ↔ IsTooMany n.now query.now }
 {
     match (query.start, query.goal) {
-        (None, None) => MOST_HOSTS < host_count(n),
+        (None, None) => is_many(host_count(n)),
         (Some(_), _) => false,
         (None, Some(_)) => false,
     }

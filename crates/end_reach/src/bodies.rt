@@ -1,11 +1,12 @@
 // The rows of all starts.
 ghost use Rattle.std.specs.Prelude.{◌≡◌, ◌≤◌, ◌+◌, ◌++◌, All, IfOk, IsTrue, OnOk, length};
+ghost use Rattle.listing_text.specs.Bodies.{IsAdded, IsBody, IsGatheredFrom};
 ghost use Rattle.query_words.specs.ReachQuery.{AreGivenEnds, AreReachPairs};
 ghost use Rattle.vpc_model.specs.Appliances.{appliances_of};
 ghost use Rattle.vpc_model.specs.Sound.{is_end};
 ghost use Rattle.end_reach.specs.Asked.{AreTargets};
-ghost use Rattle.end_reach.specs.Bodies.{IsAdded, IsBody, IsGatheredFrom};
 ghost use Rattle.end_reach.specs.Texts.{row_lines_from};
+ghost use Rattle.end_reach.specs.Told.{wanted};
 ghost use Rattle.end_reach.specs.Walked.{AreOf};
 
 use crate::rows::{Walks, gather_from, put_rows};
@@ -43,7 +44,7 @@ fn gather_at(
     requires pairs { AreReachPairs query.now.pairs }
     requires targets { AreTargets f.now query.now.pairs.dst query.now.goal targets.now }
     requires start { IsTrue (is_end f.now start) }
-    ensures gathered { IfOk result (IsGatheredFrom f.now query.now targets.now start room) }
+    ensures gathered { IfOk result (IsGatheredFrom (wanted f.now query.now targets.now) start room) }
     ensures walks { AreOf f.now walks.new.toward.fabric.now walks.new.to_any.fabric.now }
 {
     let boxes = boxes_at(alloc, f.network(), query, targets, start)?;
@@ -81,7 +82,7 @@ fn add_start(
     requires targets { AreTargets f.now query.now.pairs.dst query.now.goal targets.now }
     requires start { IsTrue (is_end f.now start) }
     requires few { body.old.count ≤ query.now.pairs.max }
-    ensures added { OnOk result (IsAdded f.now query.now targets.now start
+    ensures added { OnOk result (IsAdded (wanted f.now query.now targets.now) (row_lines_from f.now) start
         body.old.text.items body.old.count body.old.next body.new.text.items body.new.count body.new.next) }
     ensures walks { AreOf f.now walks.new.toward.fabric.now walks.new.to_any.fabric.now }
 {
@@ -112,7 +113,8 @@ pub fn body_of(
     requires pairs { AreReachPairs query.now.pairs }
     requires targets { AreTargets f.now query.now.pairs.dst query.now.goal targets.now }
     requires starts { All (λ e. IsTrue (is_end f.now e)) starts.now }
-    ensures { IfOk result (λ b. IsBody f.now query.now targets.now starts.now b.text.items b.count b.next) }
+    ensures { IfOk result (λ b. IsBody (wanted f.now query.now targets.now) (row_lines_from f.now) starts.now
+        b.text.items b.count b.next) }
 {
     let mut body = Body {
         text: Vec::new(alloc),

@@ -7,7 +7,6 @@ mod command;
 mod rows;
 mod sides;
 mod starts;
-mod words;
 
 pub use answers::is_too_many;
 pub use command::ReachCommand;

@@ -1,22 +1,20 @@
 // The boxes of requests that are asked for.
-ghost use Rattle.std.specs.Prelude.{◌≡◌, ◌↔◌, ◌++◌, All, AllPairs, Contains, IfOk, IfSome, IsTrue, OnOk, [], ◌∷◌, map, option_map, ℕ};
-ghost use Rattle.std.specs.List.{flat_map};
-ghost use Rattle.std.specs.List.Sorted.{IsStrictlyIncreasing};
+ghost use Rattle.std.specs.Prelude.{◌≡◌, All, AllPairs, IfOk, IfSome, IsTrue, map, option_map};
 ghost use Rattle.header_boxes.specs.Boxes.{AreDisjoint, IsValid};
+ghost use Rattle.listing_text.specs.Sides.{AreEachAlone, alone, sides_between};
 ghost use Rattle.query_words.specs.Pairs.{IsSide};
-ghost use Rattle.query_words.specs.ReachQuery.{AreGivenEnds, AreReachPairs};
-ghost use Rattle.vpc_model.specs.Lookup.{both_addresses, interface_at};
+ghost use Rattle.query_words.specs.ReachQuery.{AreReachPairs};
+ghost use Rattle.vpc_model.specs.Lookup.{interface_at};
 ghost use Rattle.vpc_model.specs.Sound.{is_end, is_eni};
-ghost use Rattle.end_reach.specs.Asked.{AreEachAlone, AreTargets, alone, boxes_at, boxes_by, own_addresses, own_sources, sides_between, sources_of};
+ghost use Rattle.end_reach.specs.Asked.{AreTargets, boxes_at, own_addresses, own_sources, sources_of};
 
 use header_boxes::Box5;
+use listing_text::{ALL, add_boxes, add_pairs, ascending_alone, only};
 use query_words::{ReachPairs, ReachQuery};
 use reference_check::Network;
 use std::alloc::Global;
 use vpc_base::NoMemory;
 use vpc_model::{End, EniNo, Interface};
-
-const ALL: (u32, u32) = (0, u32::MAX);
 
 // ---- sources
 
@@ -62,59 +60,12 @@ fn sources_of(n: &Network, given: Option<(u32, u32)>, start: End) -> Option<(u32
 
 // ---- destinations
 
-fn add_both(addresses: &mut Vec<u32>, both: &(u32, Option<u32>)) -> Result<(), NoMemory>
-    ensures { OnOk result (addresses.new.items ≡ addresses.old.items ++ both_addresses both.now) }
-{
-    addresses.push(both.0)?;
-    if let Some(public) = both.1 {
-        addresses.push(public)?;
-    }
-    Ok(())
-}
-
-fn addresses_of(alloc: Global, both: &[(u32, Option<u32>)]) -> Result<Vec<u32>, NoMemory>
-    ensures { IfOk result (λ v. v.items ≡ flat_map both_addresses both.now) }
-{
-    let mut addresses = Vec::new(alloc);
-    for pair in both {
-        add_both(&mut addresses, pair)?;
-    }
-    Ok(addresses)
-}
-
-// The same addresses in ascending order, each once.
-fn ascending(mut addresses: Vec<u32>) -> Vec<u32>
-    ensures order { IsStrictlyIncreasing result.items }
-    ensures members { (a : ℕ) → Contains result.items a ↔ Contains addresses.items a }
-{
-    addresses.sort_unstable();
-    addresses.dedup();
-    addresses
-}
-
-fn each_alone(alloc: Global, addresses: &[u32]) -> Result<Vec<(u32, u32)>, NoMemory>
-    ensures { IfOk result (λ v. v.items ≡ map alone addresses.now) }
-{
-    let mut sides = Vec::new(alloc);
-    for address in addresses {
-        sides.push((*address, *address))?;
-    }
-    Ok(sides)
-}
-
 fn own_targets(alloc: Global, interface: &Interface) -> Result<Vec<(u32, u32)>, NoMemory>
     ensures { IfOk result (λ v. AreEachAlone (own_addresses interface.now) v.items) }
 {
-    let addresses = ascending(addresses_of(alloc, interface.addresses.as_slice())?);
-    each_alone(alloc, addresses.as_slice())
-}
-
-fn only(alloc: Global, side: (u32, u32)) -> Result<Vec<(u32, u32)>, NoMemory>
-    ensures { IfOk result (λ v. v.items ≡ side ∷ []) }
-{
-    let mut sides = Vec::new(alloc);
-    sides.push(side)?;
-    Ok(sides)
+    let mut addresses = Vec::new(alloc);
+    add_pairs(&mut addresses, interface.addresses.as_slice())?;
+    ascending_alone(alloc, addresses)
 }
 
 /// The destinations that are asked for: those that are given; else each address of an interface that is the goal, and all
@@ -137,18 +88,6 @@ pub fn targets_of(
 
 // ---- boxes
 
-fn sides_between(pairs: &ReachPairs, src: (u32, u32), dst: (u32, u32)) -> Box5
-    ensures { result ≡ sides_between pairs.now src dst }
-{
-    Box5 {
-        proto: pairs.proto,
-        src,
-        dst,
-        p: pairs.p,
-        q: pairs.q,
-    }
-}
-
 fn boxes_to(
     alloc: Global,
     pairs: &ReachPairs,
@@ -158,9 +97,7 @@ fn boxes_to(
     ensures { IfOk result (λ v. v.items ≡ map (sides_between pairs.now src) targets.now) }
 {
     let mut boxes = Vec::new(alloc);
-    for dst in targets {
-        boxes.push(sides_between(pairs, src, *dst))?;
-    }
+    add_boxes(&mut boxes, pairs, targets, src)?;
     Ok(boxes)
 }
 

@@ -5,16 +5,18 @@ use Rattle.std.proofs.lemmas.List.{length-map}
 use Rattle.std.proofs.lemmas.List.Elements.{All-map}
 use Rattle.block_report.specs.Walks.{phase_text, stop_text}
 use Rattle.block_report.specs.Words.{word}
-use Rattle.change_report.proofs.BoxLemmas.{AllPairs-map}
+use Rattle.listing_text.proofs.SideLemmas.{AllPairs-map}
 use Rattle.change_report.specs.Asked.{Comparison, boxes_at, changed_id, id_or}
-use Rattle.change_report.specs.Texts.{barrier_text, change_text, row_line, row_lines_from, start_id, told_lines_from}
-use Rattle.change_report.specs.Told.{AreToldAll, ChangeRows, IsToldFrom, change_in, cuts_in, row_count}
+use Rattle.change_report.specs.Texts.{lines_at, barrier_text, change_text, row_line, row_lines_from, start_id}
+use Rattle.change_report.specs.Told.{AreToldAll, ChangeRows, change_in, cuts_in, wanted}
 use Rattle.header_boxes.specs.declared.rows.Row.{Row}
 use Rattle.journey_changes.specs.declared.changes.Change.{Change}
 use Rattle.journey_changes.specs.declared.changes.Change.TheVariants as changes
 use Rattle.journey_changes.specs.declared.fates.Barrier.{Barrier}
 use Rattle.journey_changes.specs.declared.fates.Barrier.TheVariants as barriers
 use Rattle.listing_check.specs.Asked.{IsTrueOf}
+use Rattle.listing_text.specs.Texts.{told_lines_from}
+use Rattle.listing_text.specs.Told.{IsToldFrom, row_count}
 use Rattle.listing_reader.specs.Listings as listings
 use Rattle.listing_reader.specs.Printed.{Printed, lines_from, lists_of}
 use Rattle.listing_reader.specs.Printed as lines
@@ -61,11 +63,11 @@ row_lines before after n id (row ∷ rows) =
     ap (λ (text : List ℕ). row_line before after n id row ++ text) (row_lines before after (n + 1) id rows)
 
 pub told_lines : (c : Comparison) (targets : List (ℕ × ℕ)) (n : ℕ) (told : List ChangeRows)
-    → told_lines_from c n told ≡ lines_from n (map (printed_from c targets) told)
+    → told_lines_from (lines_at c) n told ≡ lines_from n (map (printed_from c targets) told)
 told_lines c targets n [] = refl
 told_lines c targets n (t ∷ told) =
     let size : length t.rows ≡ length (rows_of c t) = sym (length-map t.rows _) in
-    ap (λ (text : List ℕ). text ++ told_lines_from c (n + length t.rows) told) (row_lines c.before c.after n (start_id c t.start) t.rows)
+    ap (λ (text : List ℕ). text ++ told_lines_from (lines_at c) (n + length t.rows) told) (row_lines c.before c.after n (start_id c t.start) t.rows)
     ∙ (ap (λ (text : List ℕ). lines.row_lines_from n (start_id c t.start) (rows_of c t) ++ text)
     (told_lines c targets (n + length t.rows) told)
     ∙ ap (λ (k : ℕ). lines.row_lines_from n (start_id c t.start) (rows_of c t) ++ lines_from (n + k)
@@ -121,7 +123,7 @@ change_line before after id (changes.Moved e f) first second piece =
 
 module _ (c : Comparison) (targets : List (ℕ × ℕ)) (first : HasTypedRows c.before) (second : HasTypedRows c.after)
     (fits : (let query = c.query in ArePairsFit query.pairs)) (targets_fit : All FitsRange targets) where
-  start_printable : (t : ChangeRows) → IsToldFrom c targets t → IsPrintable (printed_from c targets t)
+  start_printable : (t : ChangeRows) → IsToldFrom (wanted c targets) t → IsPrintable (printed_from c targets t)
   start_printable t told =
       let query = c.query in
       let id = IsShortWord-changed_id c.before c.after t.start first.interfaces second.interfaces in
@@ -167,11 +169,11 @@ module _ (c : Comparison) (targets : List (ℕ × ℕ)) (first : HasTypedRows c.
             rows = All-map HasShortText (shown (text_at c t.start)) t.rows (λ k row within. text_short t.start (get_or t.rows k row));
           }
 
-pub are_true : (c : Comparison) (targets : List (ℕ × ℕ)) (told : List ChangeRows) → All (IsToldFrom c targets) told
+pub are_true : (c : Comparison) (targets : List (ℕ × ℕ)) (told : List ChangeRows) → All (IsToldFrom (wanted c targets)) told
     → All (λ t. IsTrueOf (listed_at start_of (asked_from c targets) (rows_of c) t)) told
 are_true c targets told each = λ k x within. true_at _ (each k x within)
   where
-    true_at : (t : ChangeRows) → IsToldFrom c targets t → IsTrueOf (listed_at start_of (asked_from c targets) (rows_of c) t)
+    true_at : (t : ChangeRows) → IsToldFrom (wanted c targets) t → IsTrueOf (listed_at start_of (asked_from c targets) (rows_of c) t)
     true_at t whole =
         let asked = asked_from c targets t.start in
         shown_is_true (change_in c t.start) (cuts_in c) (boxes_at c targets t.start) _ t.rows

@@ -7,11 +7,14 @@ use Rattle.answer_check.specs.Diffs.{IsTrueDiff, all_asked, asked_from}
 use Rattle.change_report.specs.Answered.{IsAnswerTo, IsDiffAnswered, IsDiffTold, IsToldUnlessTooMany, IsTooMany}
 use Rattle.change_report.specs.Answered as answered
 use Rattle.change_report.specs.Asked.{AreStarts, AreTargets, Comparison, comparison}
-use Rattle.change_report.specs.Texts.{given_words, told_lines_from, whole_text}
-use Rattle.change_report.specs.Told.{AreToldAll, ChangeRows, row_count}
+use Rattle.change_report.specs.Texts.{lines_at, whole_text}
+use Rattle.change_report.specs.Told.{AreToldAll, ChangeRows}
 use Rattle.command_job.specs.declared.status.Status.{Status}
 use Rattle.command_job.specs.declared.status.Status.TheVariants as ends
 use Rattle.listing_check.specs.Answered.{origins_of}
+use Rattle.listing_text.specs.Answered as tellings
+use Rattle.listing_text.specs.Texts.{given_words, told_lines_from}
+use Rattle.listing_text.specs.Told.{row_count}
 use Rattle.listing_reader.specs.Printed.{Printed, end_line, lines_from, lists_of}
 use Rattle.listing_reader.specs.ReadsBack.{IsOneLine}
 use Rattle.query_words.specs.ChangeQuery.{change_query_of}
@@ -43,11 +46,11 @@ abbrev body : Comparison → List (ℕ × ℕ) → List ChangeRows → List ℕ
 body c targets told = lines_from 1 (printed c targets told) ++ end_line (row_count told)
 
 text_is : (c : Comparison) (targets : List (ℕ × ℕ)) (words : List (List ℕ)) (told : List ChangeRows)
-    → whole_text c words told ≡ codes "vpc-diff 1" ++ 10 ∷ (spaced (codes "query") (given_words words) ++ 10 ∷ body c targets told)
+    → whole_text c words told ≡ codes "vpc-diff 1" ++ 10 ∷ (spaced (codes "query") (given_words 3 words) ++ 10 ∷ body c targets told)
 text_is c targets words told =
-    two_before (codes "vpc-diff 1") (spaced (codes "query") (given_words words)) (told_lines_from c 1 told) (end_line (row_count told))
+    two_before (codes "vpc-diff 1") (spaced (codes "query") (given_words 3 words)) (told_lines_from (lines_at c) 1 told) (end_line (row_count told))
     ∙ ap (λ (lines : List ℕ).
-    codes "vpc-diff 1" ++ 10 ∷ (spaced (codes "query") (given_words words) ++ 10 ∷ (lines ++ end_line (row_count told))))
+    codes "vpc-diff 1" ++ 10 ∷ (spaced (codes "query") (given_words 3 words) ++ 10 ∷ (lines ++ end_line (row_count told))))
     (told_lines c targets 1 told)
 
 -- the first line
@@ -69,10 +72,10 @@ front = codes "diff" ∷ [] ∷ codes "query" ∷ []
 -- they ask for as many rows as there may be
 asks_again : (before after : Description) (words : List (List ℕ)) (query : ChangeQuery) (r : ChangeRead before after words query)
     → AreGiven 3 r.stop words front
-    → change_query_of before after (codes "diff" ∷ [] ∷ codes "query" ∷ given_words words) ≡ Ok (for_most query)
+    → change_query_of before after (codes "diff" ∷ [] ∷ codes "query" ∷ given_words 3 words) ≡ Ok (for_most query)
 asks_again before after words query r given =
     let order = passed_order words 4 r.stop r.passed in
-    r.again (r.stop - 1) (codes "diff" ∷ [] ∷ codes "query" ∷ given_words words) given.agree (omega (arith, order))
+    r.again (r.stop - 1) (codes "diff" ∷ [] ∷ codes "query" ∷ given_words 3 words) given.agree (omega (arith, order))
 
 -- such a text is true, and can be read as a file
 record IsTrueText (before after : Description) (text : List ℕ) : Type 0 where
@@ -99,7 +102,7 @@ module _ (before after : Description) (words : List (List ℕ)) (first : CanBeLi
       let printable = are_printable (comparison before after query) targets one two fits all starts told apart are in
       let each = are_true (comparison before after query) targets told are.each in
       let lists = lists_of (printed (comparison before after query) targets told) in
-      let lines = has_two_lines (codes "vpc-diff 1") (given_words words)
+      let lines = has_two_lines (codes "vpc-diff 1") (given_words 3 words)
       (body (comparison before after query) targets told) tag_is_line given.spelled in
       let ask = asked_from (comparison before after query) targets in
       subst (IsTrueText before after) (sym (text_is (comparison before after query) targets words told)) (record {
@@ -120,7 +123,7 @@ module _ (before after : Description) (words : List (List ℕ)) (first : CanBeLi
               (told_count (comparison before after query) targets told) printable);
           true_listing = all_true start_of ask (rows_of (comparison before after query)) told starts are.starts_are each;
         };
-        fits = listing_fits (codes "vpc-diff 1") (given_words words) (printed (comparison before after query) targets told) (row_count told)
+        fits = listing_fits (codes "vpc-diff 1") (given_words 3 words) (printed (comparison before after query) targets told) (row_count told)
             (omega arith) given.spelled (omega (arith, given.count, r.short)) printable
             (are_short (comparison before after query) targets one two fits all told)
             (told_count (comparison before after query) targets told);
@@ -133,11 +136,11 @@ module _ (before after : Description) (words : List (List ℕ)) (first : CanBeLi
         → (IsTooMany (comparison before after query) → ⊥)
         → AreTargets (comparison before after query) targets → AreStarts (comparison before after query) starts
         → IsDiffTold (comparison before after query) words targets starts status text → IsTrueText before after text
-    told_true query targets starts read few targets_are starts_are (answered.some told are rows status_is text_is) =
+    told_true query targets starts read few targets_are starts_are (tellings.some told are rows status_is text_is) =
         subst (IsTrueText before after) (sym text_is) (whole_is_true query targets starts told read few targets_are starts_are are)
-    told_true query targets starts read few targets_are starts_are (answered.none told are rows status_is text_is) =
+    told_true query targets starts read few targets_are starts_are (tellings.none told are rows status_is text_is) =
         subst (IsTrueText before after) (sym text_is) (whole_is_true query targets starts told read few targets_are starts_are are)
-    told_true query targets starts read few targets_are starts_are (answered.more told last next are status_is text_is) =
+    told_true query targets starts read few targets_are starts_are (tellings.more told last next are status_is text_is) =
         absurd (more_is_not_all status status_is whole)
 
     unless_true : (query : ChangeQuery) → change_query_of before after words ≡ Ok query

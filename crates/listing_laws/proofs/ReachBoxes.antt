@@ -2,7 +2,8 @@
 use Rattle.std.proofs.Common.{◌≡◌, ◌↔◌, ◌<◌, ◌^◌, ◌∷◌, [], All, Contains, IfSome, List, None, Option, Some, lit<, map, subst, sym, ℕ}
 use Rattle.std.specs.Option.{option_map}
 use Rattle.std.proofs.lemmas.List.Elements.{All-cons, All-contains, All-contains_itself, All-map, All-nil}
-use Rattle.end_reach.specs.Asked.{AreTargets, alone, boxes_at, boxes_by, own_addresses, sides_between, sources_of}
+use Rattle.end_reach.specs.Asked.{AreTargets, boxes_at, boxes_by, own_addresses, sources_of}
+use Rattle.listing_text.specs.Sides.{alone, sides_between}
 use Rattle.query_words.specs.Sides.{all_addresses}
 use Rattle.query_words.specs.declared.reaches.ReachPairs.{ReachPairs}
 use Rattle.query_words.specs.declared.reaches.ReachQuery.{ReachQuery}

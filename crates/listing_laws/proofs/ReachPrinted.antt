@@ -4,10 +4,12 @@ use Rattle.std.specs.List.{AllPairs}
 use Rattle.std.proofs.lemmas.List.{length-map}
 use Rattle.std.proofs.lemmas.List.Elements.{All-map}
 use Rattle.end_reach.specs.Asked.{boxes_at}
-use Rattle.end_reach.specs.Texts.{row_line, row_lines_from, told_lines_from}
-use Rattle.end_reach.specs.Told.{AreToldAll, IsToldFrom, StartRows, reached_in, row_count}
+use Rattle.end_reach.specs.Texts.{row_line, row_lines_from}
+use Rattle.end_reach.specs.Told.{AreToldAll, StartRows, reached_in, wanted}
 use Rattle.header_boxes.specs.declared.rows.Row.{Row}
 use Rattle.listing_check.specs.Asked.{IsTrueOf}
+use Rattle.listing_text.specs.Texts.{told_lines_from}
+use Rattle.listing_text.specs.Told.{IsToldFrom, row_count}
 use Rattle.listing_reader.specs.Printed.{Printed, lines_from, lists_of}
 use Rattle.listing_reader.specs.Printed as lines
 use Rattle.listing_reader.specs.Listings as listings
@@ -21,7 +23,7 @@ use Rattle.listing_laws.proofs.ShortWords.{}
 use Rattle.listing_laws.specs.Typed.{HasTypedInterfaces}
 use Rattle.listing_laws.proofs.Lengths.{HasShortRows, HasShortText}
 use Rattle.listing_laws.proofs.Listings.{listed_at, printed_at, same_count}
-use Rattle.change_report.proofs.BoxLemmas.{AllPairs-map}
+use Rattle.listing_text.proofs.SideLemmas.{AllPairs-map}
 use Rattle.listing_laws.proofs.Pairwise.{pairs_unmap}
 use Rattle.listing_laws.proofs.PairsRead.{ArePairsFit}
 use Rattle.listing_laws.proofs.ReachBoxes.{FitsRange, boxes_fit}
@@ -48,11 +50,11 @@ row_lines d n start [] = refl
 row_lines d n start (row ∷ rows) = ap (λ (text : List ℕ). row_line d n start row ++ text) (row_lines d (n + 1) start rows)
 
 pub told_lines : (d : Description) (query : ReachQuery) (targets : List (ℕ × ℕ)) (n : ℕ) (told : List StartRows)
-    → told_lines_from d n told ≡ lines_from n (map (printed_from d query targets) told)
+    → told_lines_from (row_lines_from d) n told ≡ lines_from n (map (printed_from d query targets) told)
 told_lines d query targets n [] = refl
 told_lines d query targets n (t ∷ told) =
     let size : length t.rows ≡ length (rows_of d t) = sym (length-map t.rows _) in
-    ap (λ (text : List ℕ). text ++ told_lines_from d (n + length t.rows) told) (row_lines d n t.start t.rows)
+    ap (λ (text : List ℕ). text ++ told_lines_from (row_lines_from d) (n + length t.rows) told) (row_lines d n t.start t.rows)
     ∙ (ap (λ (text : List ℕ). lines.row_lines_from n (end_id d t.start) (rows_of d t) ++ text)
     (told_lines d query targets (n + length t.rows) told)
     ∙ ap (λ (k : ℕ). lines.row_lines_from n (end_id d t.start) (rows_of d t) ++ lines_from (n + k)
@@ -67,7 +69,7 @@ told_count d query targets told =
 
 module _ (d : Description) (query : ReachQuery) (targets : List (ℕ × ℕ)) (typed : HasTypedInterfaces d) (fits : ArePairsFit query.pairs)
     (targets_fit : All FitsRange targets) where
-  start_printable : (t : StartRows) → IsToldFrom d query targets t → IsPrintable (printed_from d query targets t)
+  start_printable : (t : StartRows) → IsToldFrom (wanted d query targets) t → IsPrintable (printed_from d query targets t)
   start_printable t told =
       let id = IsShortWord-end_id d t.start typed in
       record {
@@ -110,11 +112,11 @@ module _ (d : Description) (query : ReachQuery) (targets : List (ℕ × ℕ)) (t
             rows = All-map HasShortText (shown (end_id d)) t.rows (λ k row within. text_short (get_or t.rows k row));
           }
 
-  pub are_true : (told : List StartRows) → All (IsToldFrom d query targets) told
+  pub are_true : (told : List StartRows) → All (IsToldFrom (wanted d query targets)) told
       → All (λ t. IsTrueOf (listed_at start_of (asked_from d query targets) (rows_of d) t)) told
   are_true told each = λ k x within. true_at _ (each k x within)
     where
-      true_at : (t : StartRows) → IsToldFrom d query targets t → IsTrueOf (listed_at start_of (asked_from d query targets) (rows_of d) t)
+      true_at : (t : StartRows) → IsToldFrom (wanted d query targets) t → IsTrueOf (listed_at start_of (asked_from d query targets) (rows_of d) t)
       true_at t whole =
           let asked = asked_from d query targets t.start in
           shown_is_true (reached_in d query t.start) (cuts_of d) (boxes_at d query targets t.start) _ t.rows

@@ -16,7 +16,7 @@ use Rattle.vpc_laws.specs.Types.{Description, End, EniNo, Interface}
 use Rattle.vpc_model.specs.Lookup.{has_interface, no_interface}
 use Rattle.vpc_model.specs.Told.{end_id}
 use Rattle.vpc_model.specs.declared.places.End.TheVariants as ends
-use Rattle.change_report.proofs.BoxLemmas.{AllPairs-map}
+use Rattle.listing_text.proofs.SideLemmas.{AllPairs-map}
 use Rattle.listing_laws.proofs.Pairwise.{one_pairs}
 
 -- two ends with ids of their own

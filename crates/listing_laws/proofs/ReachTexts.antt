@@ -10,9 +10,12 @@ use Rattle.command_job.specs.declared.status.Status.TheVariants as ends
 use Rattle.end_reach.specs.Answered.{IsAnswerTo, IsReachAnswered, IsReachTold, IsToldUnlessTooMany, IsTooMany}
 use Rattle.end_reach.specs.Answered as answered
 use Rattle.end_reach.specs.Asked.{AreStarts, AreTargets}
-use Rattle.end_reach.specs.Texts.{given_words, told_lines_from, whole_text}
-use Rattle.end_reach.specs.Told.{AreToldAll, StartRows, row_count}
+use Rattle.end_reach.specs.Texts.{row_lines_from, whole_text}
+use Rattle.end_reach.specs.Told.{AreToldAll, StartRows}
 use Rattle.listing_check.specs.Answered.{origins_of}
+use Rattle.listing_text.specs.Answered as tellings
+use Rattle.listing_text.specs.Texts.{given_words, told_lines_from}
+use Rattle.listing_text.specs.Told.{row_count}
 use Rattle.listing_reader.specs.Printed.{Printed, end_line, lines_from, lists_of}
 use Rattle.listing_reader.specs.ReadsBack.{IsOneLine}
 use Rattle.query_words.specs.ReachQuery.{reach_query_of}
@@ -44,11 +47,11 @@ abbrev body : Description → ReachQuery → List (ℕ × ℕ) → List StartRow
 body d query targets told = lines_from 1 (printed d query targets told) ++ end_line (row_count told)
 
 text_is : (d : Description) (query : ReachQuery) (targets : List (ℕ × ℕ)) (words : List (List ℕ)) (told : List StartRows)
-    → whole_text d words told ≡ codes "vpc-reach 1" ++ 10 ∷ (spaced (codes "query") (given_words words) ++ 10 ∷ body d query targets told)
+    → whole_text d words told ≡ codes "vpc-reach 1" ++ 10 ∷ (spaced (codes "query") (given_words 2 words) ++ 10 ∷ body d query targets told)
 text_is d query targets words told =
-    two_before (codes "vpc-reach 1") (spaced (codes "query") (given_words words)) (told_lines_from d 1 told) (end_line (row_count told))
+    two_before (codes "vpc-reach 1") (spaced (codes "query") (given_words 2 words)) (told_lines_from (row_lines_from d) 1 told) (end_line (row_count told))
     ∙ ap (λ (lines : List ℕ).
-    codes "vpc-reach 1" ++ 10 ∷ (spaced (codes "query") (given_words words) ++ 10 ∷ (lines ++ end_line (row_count told))))
+    codes "vpc-reach 1" ++ 10 ∷ (spaced (codes "query") (given_words 2 words) ++ 10 ∷ (lines ++ end_line (row_count told))))
     (told_lines d query targets 1 told)
 
 -- the first line
@@ -65,10 +68,10 @@ few_for d query few many = few (record { start = many.start; goal = many.goal; m
 -- the words of the second line ask for as many rows as there may be
 asks_again : (d : Description) (words : List (List ℕ)) (query : ReachQuery) → (r : ReachRead d words query)
     → AreGiven 2 r.stop words (codes "reach" ∷ [] ∷ [])
-    → reach_query_of d (codes "reach" ∷ [] ∷ given_words words) ≡ Ok (for_most query)
+    → reach_query_of d (codes "reach" ∷ [] ∷ given_words 2 words) ≡ Ok (for_most query)
 asks_again d words query r given =
     let order = passed_order words 3 r.stop r.passed in
-    r.again (r.stop - 1) (codes "reach" ∷ [] ∷ given_words words) given.agree (omega (arith, order))
+    r.again (r.stop - 1) (codes "reach" ∷ [] ∷ given_words 2 words) given.agree (omega (arith, order))
 
 -- such a text begins with its first line, is true, and can be read as a file
 record IsTrueText (d : Description) (text : List ℕ) : Type 0 where
@@ -92,7 +95,7 @@ whole_is_true d words query targets starts told typed named read few targets_are
     (starts_apart d query.start query.goal starts named starts_are) are in
     let each = are_true d query targets typed fits all told are.each in
     let lists = lists_of (printed d query targets told) in
-    let lines = has_two_lines (codes "vpc-reach 1") (given_words words) (body d query targets told) tag_is_line given.spelled in
+    let lines = has_two_lines (codes "vpc-reach 1") (given_words 2 words) (body d query targets told) tag_is_line given.spelled in
     let ask = asked_from d query targets in
     subst (IsTrueText d) (sym (text_is d query targets words told)) (record {
       first = lines.first;
@@ -113,7 +116,7 @@ whole_is_true d words query targets starts told typed named read few targets_are
         true_listing = all_true start_of ask (rows_of d) told starts are.starts_are each;
       };
       fits =
-          listing_fits (codes "vpc-reach 1") (given_words words) (printed d query targets told) (row_count told) (omega arith) given.spelled
+          listing_fits (codes "vpc-reach 1") (given_words 2 words) (printed d query targets told) (row_count told) (omega arith) given.spelled
           (omega (arith, given.count, r.short)) printable (are_short d query targets typed fits all told) (told_count d query targets told);
     })
 
@@ -124,11 +127,11 @@ module _ (d : Description) (words : List (List ℕ)) (status : Status) (text : L
   told_true : (query : ReachQuery) (targets : List (ℕ × ℕ)) (starts : List End) → reach_query_of d words ≡ Ok query
       → (IsTooMany d query → ⊥) → AreTargets d query.pairs.dst query.goal targets → AreStarts d query.start query.goal starts
       → IsReachTold d query words targets starts status text → IsTrueText d text
-  told_true query targets starts read few targets_are starts_are (answered.some told are rows status_is text_is) =
+  told_true query targets starts read few targets_are starts_are (tellings.some told are rows status_is text_is) =
       subst (IsTrueText d) (sym text_is) (whole_is_true d words query targets starts told typed named read few targets_are starts_are are)
-  told_true query targets starts read few targets_are starts_are (answered.none told are rows status_is text_is) =
+  told_true query targets starts read few targets_are starts_are (tellings.none told are rows status_is text_is) =
       subst (IsTrueText d) (sym text_is) (whole_is_true d words query targets starts told typed named read few targets_are starts_are are)
-  told_true query targets starts read few targets_are starts_are (answered.more told last next are status_is text_is) =
+  told_true query targets starts read few targets_are starts_are (tellings.more told last next are status_is text_is) =
       absurd (more_is_not_all status status_is whole)
 
   unless_true : (query : ReachQuery) → reach_query_of d words ≡ Ok query → IsToldUnlessTooMany d query words status text → IsTrueText d text

@@ -14,7 +14,7 @@ use Rattle.report_reader.specs.Boxes.{is_inside, lies_in}
 use Rattle.report_reader.specs.ReadsBack.{Fits}
 use Rattle.listing_reader.specs.ReadsBack.{IsOneLine, IsPrintableRow}
 use Rattle.listing_check.specs.Asked.{Asked, IsTrueOf}
-use Rattle.change_report.proofs.BoxLemmas.{AllPairs-map}
+use Rattle.listing_text.proofs.SideLemmas.{AllPairs-map}
 
 -- the row with the text of its word
 abbrev pub shown : {W : Type 0} → (W → List ℕ) → Row W → Row (List ℕ)

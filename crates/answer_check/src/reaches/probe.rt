@@ -1,17 +1,13 @@
-// The probe that is asked whether requests reach the end that a row names.
-ghost use Rattle.std.specs.Prelude.{◌≡◌, ◌↔◌, IfOk, IsTrue, None, Some, bytes_eq, if◌then◌else◌, option_map};
+// Whether requests reach the end that a row names.
+ghost use Rattle.std.specs.Prelude.{◌≡◌, None, Some, bytes_eq, if◌then◌else◌, option_map};
 ghost use Rattle.vpc_model.specs.Told.{end_id};
-ghost use Rattle.answer_check.specs.Agreement.{agreed, agreement_of};
+ghost use Rattle.answer_check.specs.Agreement.{agreed};
 
+use crate::telling::Telling;
 use change_report::id_at;
 use header_boxes::Box5;
 use journey_changes::FateProbe;
-use listing_check::Listing;
-use ordered_cover::Probe;
-use ordered_cover::search::first;
 use reference_check::Network;
-use std::alloc::Global;
-use vpc_base::{Header, NoMemory};
 use vpc_model::End;
 
 // ---- one id
@@ -34,96 +30,48 @@ fn agreed(n: &Network, wanted: Option<&[u8]>, end: Option<End>) -> Option<()>
     }
 }
 
-// ---- headers of a box
-
-/// Whether requests reach the end with an id; where none is wanted, whether they reach no end. What gets through here is
-/// what something else is told of, so that a search finds the first header that a row isn't true of.
-#[derive(Drop)]
-pub struct EndProbe<'a, 'b> {
-    walks: &'a FateProbe<'b>,
-    network: &'a Network,
-    wanted: Option<&'a [u8]>,
-    ghost same: { walks.now.sent.network ≡ network.now },
-}
-
-impl<'a, 'b> EndProbe<'a, 'b> {
-    /// The probe for an id, over the one that follows requests in the network.
-    pub fn of(
-        walks: &'a FateProbe<'b>,
-        network: &'a Network,
-        wanted: Option<&'a [u8]>,
-    ) -> EndProbe<'a, 'b>
-        requires { walks.now.sent.network ≡ network.now }
-        ensures { agreement_of result.walks.now.sent (option_map (λ w. w.now) result.wanted)
-            ≡ agreement_of walks.now.sent (option_map (λ w. w.now) wanted.entry) }
-    {
-        EndProbe {
-            walks,
-            network,
-            wanted,
-        }
-    }
-}
-
-impl<'a, 'b> Probe for EndProbe<'a, 'b> {
-    ghost use Rattle.vpc_model.specs.Cuts.{cuts_of};
-    ghost use Rattle.journey_changes.specs.Cuts.{along_among};
-    ghost use Rattle.journey_changes.specs.Sent.{near};
-
-    type Word = ();
-
-    ghost meaning = { λ p. agreement_of p.walks.now.sent (option_map (λ w. w.now) p.wanted) };
-
-    ghost cuts = { λ p. cuts_of p.walks.now.sent.network };
-
-    ghost near = { λ p. near p.walks.now.sent };
-
-    ghost near_among = { λ p. along_among p.walks.now.sent.network p.walks.now.sent.start p.walks.now.sent.toward };
-
-    fn is_same(one: (), other: ()) -> bool
-        ensures { IsTrue result ↔ (one ≡ other) }
-    {
-        true
-    }
-
-    fn probe(&self, sides: &Box5) -> (Box5, Option<()>) {
-        let answer = self.walks.reached_on(sides);
-        (answer.body, agreed(self.network, self.wanted, answer.told))
-    }
-}
-
-// ---- rows of a start
+// ---- requests of a box
 
 /// What is told of the requests from the start of a probe: the id of the end that they reach.
-#[derive(Drop)]
-pub struct ReachListing<'a, 'b> {
-    walks: &'a FateProbe<'b>,
+pub struct ReachListing<'a> {
+    walks: FateProbe<'a>,
     network: &'a Network,
-    ghost same: { walks.now.sent.network ≡ network.now },
+    ghost same: { walks.sent.network ≡ network.now },
 }
 
-impl<'a, 'b> ReachListing<'a, 'b> {
+impl<'a> Drop for ReachListing<'a> {
+    fn drop(self) {
+        let ReachListing { walks, network: _ } = self;
+        drop(walks);
+    }
+}
+
+impl<'a> ReachListing<'a> {
     /// What is told by a probe of the network.
-    pub fn of(walks: &'a FateProbe<'b>, network: &'a Network) -> ReachListing<'a, 'b>
-        requires { walks.now.sent.network ≡ network.now }
-        ensures { result.walks.now.sent ≡ walks.now.sent }
+    pub fn of(walks: FateProbe<'a>, network: &'a Network) -> ReachListing<'a>
+        requires { walks.sent.network ≡ network.now }
+        ensures { result.walks.sent ≡ walks.entry.sent }
     {
         ReachListing { walks, network }
     }
 }
 
-impl<'a, 'b> Listing for ReachListing<'a, 'b> {
+impl<'a> Telling for ReachListing<'a> {
+    ghost use Rattle.vpc_model.specs.Cuts.{cuts_of};
+    ghost use Rattle.journey_changes.specs.Cuts.{along_among};
+    ghost use Rattle.journey_changes.specs.Sent.{near};
     ghost use Rattle.answer_check.specs.Agreement.{end_told};
 
-    ghost told = { λ l. end_told l.walks.now.sent };
+    ghost told = { λ l. end_told l.walks.sent };
 
-    fn first_other(
-        &self,
-        alloc: Global,
-        part: &Box5,
-        wanted: Option<&[u8]>,
-    ) -> Result<Option<Header>, NoMemory> {
-        let probe = EndProbe::of(self.walks, self.network, wanted);
-        first(alloc, &probe, *part)
+    ghost cuts = { λ l. cuts_of l.walks.sent.network };
+
+    ghost near = { λ l. near l.walks.sent };
+
+    ghost near_among = { λ l. along_among l.walks.sent.network l.walks.sent.start l.walks.sent.toward };
+
+    fn agrees_on(&self, sides: &Box5, wanted: Option<&[u8]>) -> (Box5, Option<()>) {
+        let answer = self.walks.reached_on(sides);
+        (answer.body, agreed(self.network, wanted, answer.told))
     }
 }

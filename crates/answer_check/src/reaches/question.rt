@@ -2,7 +2,7 @@
 ghost use Rattle.std.specs.Prelude.{◌≡◌, ◌<◌, ◌++◌, All, IfSome, IsTrue, OnOk, Some, codes, length, slice_get};
 ghost use Rattle.std.proofs.Props.{props};
 ghost use Rattle.block_report.specs.Words.{word};
-ghost use Rattle.header_boxes.specs.Boxes.{IsValid, low_of};
+ghost use Rattle.header_boxes.specs.Boxes.{IsValid};
 ghost use Rattle.journey_changes.specs.Sent.{fate, sent};
 ghost use Rattle.vpc_model.specs.Appliances.{appliances_of};
 ghost use Rattle.vpc_model.specs.Sound.{is_end};
@@ -11,13 +11,14 @@ ghost use Rattle.answer_check.specs.Questions.{CanBeShown};
 ghost use Rattle.answer_check.specs.Reaches.{fate_text, toward_of};
 
 use crate::reaches::probe::ReachListing;
+use crate::telling::{look_once, only};
 use appliances::Deciders;
 use block_report::{put, put_word};
 use change_report::{id_at, put_barrier};
 use fabric::Fabric;
-use header_boxes::{Box5, Row};
+use header_boxes::Row;
 use journey_changes::{Barrier, FateProbe, Toward};
-use listing_check::{Look, Question, look_at};
+use listing_check::{Look, Question};
 use listing_reader::Origin;
 use reference_check::Network;
 use std::alloc::Global;
@@ -25,20 +26,6 @@ use vpc_base::{Header, NoMemory, OwnList};
 use vpc_model::End;
 
 // ---- one request
-
-// The box of one header.
-fn only(h: &Header) -> Box5
-    ensures valid { IsValid result }
-    ensures low { low_of result ≡ h.now }
-{
-    Box5 {
-        proto: (h.proto, h.proto),
-        src: (h.src, h.src),
-        dst: (h.dst, h.dst),
-        p: (h.p, h.p),
-        q: (h.q, h.q),
-    }
-}
 
 fn put_reached(out: &mut Vec<u8>, n: &Network, end: End) -> Result<(), NoMemory>
     ensures { OnOk result (out.new.items
@@ -115,6 +102,14 @@ impl<'a> ReachQuestion<'a> {
         FateProbe::of(self.fabric, self.deciders, Some(start), toward(self.goal))
     }
 
+    // What is told of the requests from a start.
+    fn listing_from(&self, start: End) -> ReachListing<'a>
+        requires { IsTrue (is_end self.now.fabric.now start) }
+        ensures { result.walks.sent ≡ sent self.now.fabric.now (Some start) (toward_of self.now.goal) }
+    {
+        ReachListing::of(self.walks_from(start), self.fabric.network())
+    }
+
     // What becomes of a request from a start.
     fn fate_at(&self, start: End, h: &Header) -> Result<End, Barrier>
         requires { IsTrue (is_end self.now.fabric.now start) }
@@ -135,14 +130,8 @@ impl<'a> Question for ReachQuestion<'a> {
     ghost asked = { λ q. asked_in q.fabric.now q.goal q.origins.now q.starts.now };
 
     fn look(&self, alloc: Global, start: u32, rows: &[Row<OwnList<u8>>]) -> Result<Look, NoMemory> {
-        let walks = self.walks_from(self.start_at(start));
-        let listing = ReachListing::of(&walks, self.fabric.network());
-        look_at(
-            alloc,
-            &listing,
-            self.origin_at(start).boxes.as_slice(),
-            rows,
-        )
+        let boxes = self.origin_at(start).boxes.as_slice();
+        look_once(alloc, self.listing_from(self.start_at(start)), boxes, rows)
     }
 
     fn id(&self, start: u32) -> &[u8] {

@@ -6,7 +6,7 @@ pub returns : goal.returns
 returns g c =
     let l = c.of.result in
     λ a boxes told.
-    c.look_at.ensures a boxes
+    c.look_once.ensures a boxes
     (λ h.
     told h
     ∙ told_of-start c.args.asked.now.compared c.args.start.now l.walks.before.sent l.walks.after.sent

@@ -20,11 +20,11 @@ returns g c =
     let all : Comparison = c.args.asked.now.compared in
     let targets = c.as_slice.result.now in
     let starts = c.as_slice-2.result.now in
-    let given = c.args.lines.now.lines.items in
-    let ended = c.args.lines.now.ended in
+    let given = c.args.lines.now in
+    let ended = c.args.ended in
     let lines : List (List ℕ) = map (λ l. l.now) given in
     let later : List (List ℕ) = map (λ l. l.now) c.later_lines.result.now in
-    let after_two : later ≡ drop 2 lines = ap (map (λ l. l.now)) (c.later_lines.ensures ∙ ap (drop 2) c.as_slice-3.ensures.value) ∙ sym (drop-map _ 2 given) in
+    let after_two : later ≡ drop 2 lines = ap (map (λ l. l.now)) c.later_lines.ensures ∙ sym (drop-map _ 2 given) in
     if_ok (λ a. IsListingChecked (all_asked all targets starts) ended later a.status a.text.items) (λ a. IsCheckedFor all lines ended a.status a.text.items) c.check_starts.result
     (λ a found.
     checked_for all c.before-before.result.now c.after-after.result.now c.query-query.result.now c.in_ok-targets.targets.items targets c.in_ok-starts.starts.items starts lines later ended a.status a.text.items

@@ -1,10 +1,13 @@
 use Rattle.std.proofs.Common.{◌≡◌, All, IfSome, List, map, string_bytes, subst, sym, true}
 use Rattle.command_job.proofs.Answers.{if_ok}
+use Rattle.listing_text.proofs.BodyLemmas.{next_start}
 use Rattle.vpc_laws.specs.Types.{Description, End}
 use Rattle.vpc_model.specs.Sound.{is_end}
 use Rattle.end_reach.specs.Answered.{IsAnswerTo, IsPrinted}
 use Rattle.end_reach.specs.Asked.{AreStarts, AreTargets}
-use Rattle.end_reach.proofs.AnswerLemmas.{next_start, told_by}
+use Rattle.end_reach.specs.Texts.{row_lines_from}
+use Rattle.end_reach.specs.Told.{wanted}
+use Rattle.end_reach.proofs.AnswerLemmas.{told_by}
 use Rattle.end_reach.proofs.answers.ReachingJob.answer_with.Goals as goal
 
 pub answer_body-requires-clause-start : goal.answer_body-requires-clause-start
@@ -12,7 +15,7 @@ answer_body-requires-clause-start g c =
     let d = c.args.f.now in
     let q = c.args.self.now.query.now in
     subst (λ (x : Description). IfSome c.in_ok-body.body.next (λ y. is_end x y.0 ≡ true)) (sym c.network-n.ensures)
-    (next_start d q c.as_slice.result.now c.as_slice-2.result.now c.in_ok-body.body.text.items c.in_ok-body.body.count c.in_ok-body.body.next
+    (next_start (wanted d q c.as_slice.result.now) (row_lines_from d) (λ e. is_end d e ≡ true) c.as_slice-2.result.now c.in_ok-body.body.text.items c.in_ok-body.body.count c.in_ok-body.body.next
     (subst (λ (l : List End). All (λ e. is_end d e ≡ true) l) (sym c.as_slice-2.ensures.value)
     (subst (λ (x : Description). All (λ (e : End). is_end x e ≡ true) c.in_ok-starts.starts.items) c.network-n.ensures c.in_ok-starts.ensures.described))
     c.in_ok-body.ensures)

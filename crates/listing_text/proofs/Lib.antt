@@ -1,0 +1,5 @@
+pub mod WordLemmas
+pub mod SideLemmas
+pub mod BodyLemmas
+pub mod Orders
+pub mod Decided

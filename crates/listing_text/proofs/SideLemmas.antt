@@ -1,0 +1,57 @@
+-- Sides of addresses: none is empty, and no two share a number, nor do the boxes between them share a header.
+use Rattle.std.proofs.Common.{◌≡◌, ◌≤◌, ◌∷◌, [], All, AllPairs, List, arith, get_or, map, suc, ℕ}
+use Rattle.std.proofs.lemmas.List.Elements.{All-cons, All-map, All-nil}
+use Rattle.std.proofs.lemmas.List.Kept.{AllPairs-cons, AllPairs-from_increasing}
+use Rattle.std.specs.List.Sorted.{IsStrictlyIncreasing}
+use Rattle.header_boxes.proofs.Held.{in_from_holds}
+use Rattle.header_boxes.specs.Boxes.{AreDisjoint, IsValid}
+use Rattle.query_words.specs.Pairs.{IsSide}
+use Rattle.query_words.specs.ReachQuery.{AreReachPairs}
+use Rattle.query_words.specs.Sides.{all_addresses}
+use Rattle.query_words.specs.declared.reaches.ReachPairs.{ReachPairs}
+use Rattle.listing_text.specs.Sides.{alone, sides_between}
+
+pub AllPairs-map : {X Y : Type 0} (R : Y → Y → Type 0) (f : X → Y) (xs : List X) → AllPairs (λ a b. R (f a) (f b)) xs → AllPairs R (map f xs)
+AllPairs-map R f [] h = λ i j d lt inside. absurd (omega arith)
+AllPairs-map R f (x ∷ xs) h =
+    AllPairs-cons R (f x) (map f xs) (All-map (R (f x)) f xs (λ k d lt. h 0 (suc k) d (omega arith) (omega arith)))
+    (AllPairs-map R f xs (λ i j d lt inside. h (suc i) (suc j) d (omega arith) (omega arith)))
+
+-- no number is in both sides
+abbrev pub AreApart : ℕ × ℕ → ℕ × ℕ → Type 0
+AreApart s t = (x : ℕ) → s.0 ≤ x → x ≤ s.1 → t.0 ≤ x → x ≤ t.1 → ⊥
+
+-- sides that aren't empty, no two of which share a number
+pub record AreSides (sides : List (ℕ × ℕ)) : Type 0 where
+  pub each : All IsSide sides
+  pub apart : AllPairs AreApart sides
+
+pub one_side : (s : ℕ × ℕ) → IsSide s → AreSides (s ∷ [])
+one_side s side = record {
+  each = All-cons IsSide s [] side (All-nil IsSide);
+  apart = λ i j d lt inside. absurd (omega (arith, lt, inside));
+}
+
+pub all_side : IsSide all_addresses
+all_side = omega arith
+
+pub alone_apart : (addresses : List ℕ) → AllPairs (λ a b. AreApart (alone a) (alone b)) addresses → AreSides (map alone addresses)
+alone_apart addresses apart = record { each = All-map IsSide alone addresses (λ k d lt. omega arith); apart = AllPairs-map AreApart alone addresses apart }
+
+pub ascending_sides : (addresses : List ℕ) → IsStrictlyIncreasing addresses → AreSides (map alone addresses)
+ascending_sides addresses up =
+    alone_apart addresses (λ i j d lt inside x s0 s1 t0 t1. let rise = AllPairs-from_increasing addresses up i j d lt inside in absurd (omega (arith, rise, s0, s1, t0, t1)))
+
+-- ---- boxes
+
+pub boxes_to-valid : (pairs : ReachPairs) (targets : List (ℕ × ℕ)) (src : ℕ × ℕ) → AreReachPairs pairs → IsSide src → All IsSide targets → All IsValid (map (sides_between pairs src) targets)
+boxes_to-valid pairs targets src given valid sides =
+    All-map IsValid (sides_between pairs src) targets (λ k d lt. record { proto = given.proto; src = valid; dst = sides k d lt; p = given.p; q = given.q })
+
+pub boxes_to-disjoint : (pairs : ReachPairs) (targets : List (ℕ × ℕ)) (src : ℕ × ℕ) → AllPairs AreApart targets → AllPairs AreDisjoint (map (sides_between pairs src) targets)
+boxes_to-disjoint pairs targets src apart =
+    AllPairs-map AreDisjoint (sides_between pairs src) targets
+    (λ i j x lt inside h one other.
+    let a = in_from_holds h (sides_between pairs src (get_or targets i x)) one in
+    let b = in_from_holds h (sides_between pairs src (get_or targets j x)) other in
+    apart i j x lt inside h.dst a.dst.0 a.dst.1 b.dst.0 b.dst.1)

@@ -1,0 +1,18 @@
+-- What is left after the sort and the removal of repeats.
+use Rattle.std.proofs.lemmas.List.Filters.{dedup_is}
+use Rattle.std.proofs.lemmas.List.Kept.{Contains-dedup_nat, Contains-from_dedup}
+use Rattle.std.proofs.lemmas.List.Sorted.{Contains-permutation, IsPermutation-sym}
+use Rattle.std.proofs.lemmas.Map.Keys.{IsStrictlyIncreasing-dedup}
+use Rattle.listing_text.proofs.sides.ascending.Goals as goal
+
+pub returns-clause-order : goal.returns-clause-order
+returns-clause-order c = rw (dedup_is _ _ _ c.dedup.ensures.filtered) (IsStrictlyIncreasing-dedup _ c.sort_unstable.ensures.sorted)
+
+pub returns-clause-members : goal.returns-clause-members
+returns-clause-members c =
+    let is = dedup_is _ _ _ c.dedup.ensures.filtered in
+    let moved = c.sort_unstable.ensures.permutation in
+    λ x. (
+      (λ h. Contains-permutation _ _ x (IsPermutation-sym _ _ moved) (Contains-from_dedup _ _ x (rw is at h))),
+      (λ h. rw is (Contains-dedup_nat _ x (Contains-permutation _ _ x moved h))),
+    )

@@ -1,0 +1,5 @@
+pub mod Sides
+pub mod Told
+pub mod Texts
+pub mod Bodies
+pub mod Answered

@@ -1,0 +1,10 @@
+//! What `reach` and `diff` share: the sides of requests, rows by their starts, how these are printed, and what decides the
+//! status.
+#![tactic(auto)]
+
+mod answers;
+mod sides;
+mod words;
+
+pub use answers::{answer_part, answer_whole, is_many, status_by};
+pub use sides::{ALL, add_boxes, add_pairs, ascending_alone, each_alone, only};
