@@ -115,7 +115,7 @@ impl Model for AddressSet {
 }
 
 impl AddressSet {
-    ghost use Rattle.std.specs.Prelude.{[], IfOk, ℕ};
+    ghost use Rattle.std.specs.Prelude.{[], IfOk, IsTrue, ℕ};
     ghost use Rattle.std.specs.List.{list_any};
     ghost use Rattle.prefix_text.specs.Block.{holds};
     ghost use Rattle.address_sets.specs.Runs.{HaveBegun, IsStretch, is_in};
@@ -127,6 +127,13 @@ impl AddressSet {
         AddressSet {
             runs: Vec::new(alloc),
         }
+    }
+
+    /// Whether another set has the same addresses.
+    pub fn is_same(&self, other: &AddressSet) -> bool
+        ensures { IsTrue result → self.now ≡ other.now }
+    {
+        self.runs.as_slice() == other.runs.as_slice()
     }
 
     /// The addresses of some runs, in any order. A run whose last address is below its first has none. It
@@ -146,6 +153,13 @@ impl AddressSet {
         ensures { IfOk result (λ s. (a : ℕ) → is_in a s ≡ list_any (holds a) blocks.now) }
     {
         AddressSet::of(alloc, runs_of(alloc, blocks)?)
+    }
+
+    /// The runs, in ascending order.
+    pub fn runs(&self) -> &[Run]
+        ensures { result.now ≡ self.now }
+    {
+        self.runs.as_slice()
     }
 
     // How many runs begin at the address or before it.

@@ -2,3 +2,4 @@ pub mod Searching
 pub mod Among
 pub mod KeyLemmas
 pub mod Following
+pub mod Between

@@ -1,5 +1,6 @@
 // Sets of numbers.
-ghost use Rattle.std.specs.Prelude.{◌≡◌, IsPermutation};
+ghost use Rattle.std.specs.Prelude.{◌==◌, ◌≡◌, ◌≤◌, IsPermutation, ℕ};
+ghost use Rattle.std.specs.List.{list_any};
 ghost use Rattle.std.specs.List.Sorted.{IsNonDecreasing};
 
 use std::marker::Model;
@@ -9,6 +10,14 @@ fn sort_numbers(numbers: &mut Vec<u64>)
     ensures sorted { IsNonDecreasing numbers.new.items }
 {
     numbers.sort_unstable();
+}
+
+// Those of some numbers that are at most this one.
+fn until(numbers: &[u64], last: u64) -> &[u64]
+    requires { IsNonDecreasing numbers.now }
+    ensures { (k : ℕ) → k ≤ last → list_any (λ n. n == k) result.now ≡ list_any (λ n. n == k) numbers.now }
+{
+    &numbers[..numbers.partition_point(|n| *n <= last)]
 }
 
 /// A set of numbers. Contracts see them in ascending order.
@@ -35,8 +44,9 @@ impl Model for NumberSet {
 }
 
 impl NumberSet {
-    ghost use Rattle.std.specs.Prelude.{◌==◌, ℕ};
+    ghost use Rattle.std.specs.Prelude.{◌==◌, ◌≤◌, IsTrue, ℕ};
     ghost use Rattle.std.specs.List.{list_any};
+    ghost use Rattle.std.specs.List.Sorted.{IsNonDecreasing};
     ghost use Rattle.number_tables.specs.Next.{IsNext};
 
     /// The set of some numbers, in any order. It takes time n log n and no memory.
@@ -45,6 +55,23 @@ impl NumberSet {
     {
         sort_numbers(&mut numbers);
         NumberSet { numbers }
+    }
+
+    // The numbers that are at least this one.
+    fn from(&self, first: u64) -> &[u64]
+        ensures same { (k : ℕ) → first ≤ k → list_any (λ n. n == k) result.now ≡ list_any (λ n. n == k) self.now }
+        ensures ascend { IsNonDecreasing result.now }
+    {
+        let below = self.numbers.partition_point(|n| *n < first);
+        &self.numbers[below..]
+    }
+
+    /// Whether another set has the same numbers from one to another, both included. It compares these, and finds them by a search.
+    pub fn is_same_between(&self, other: &NumberSet, first: u64, last: u64) -> bool
+        ensures { IsTrue result → (k : ℕ) → first ≤ k → k ≤ last
+            → list_any (λ n. n == k) self.now ≡ list_any (λ n. n == k) other.now }
+    {
+        until(self.from(first), last) == until(other.from(first), last)
     }
 
     /// Whether the number is there. It reads about log2 n numbers.
