@@ -1,14 +1,15 @@
 -- The laws of bodies and images.
-use Rattle.std.proofs.Common.{◌≡◌, ℕ, ◌≤◌, ◌<◌, ◌+◌, ◌⊎◌, ◌∷◌, [], true, false, List, refl, ap, sym, subst, ◌∙◌, arith, inl, inr, ⊎_elim}
+use Rattle.std.proofs.Common.{◌≡◌, ℕ, ◌≤◌, ◌<◌, ◌+◌, ◌^◌, ◌⊎◌, ◌∷◌, [], true, false, List, refl, ap, sym, subst, ◌∙◌, arith, inl, inr, ⊎_elim}
 use Rattle.std.proofs.lemmas.Bool.{cases_lt}
 use Rattle.std.proofs.lemmas.List.Elements.{All-cons, All-contains, All-nil}
 use Rattle.std.specs.List.{Contains}
 use Rattle.vpc_base.specs.Cuts.{CutLists}
 use Rattle.vpc_base.specs.declared.headers.Header.{Header}
-use Rattle.header_boxes.specs.Boxes.{holds, in_range}
+use Rattle.header_boxes.specs.Boxes.{holds, in_range, low_of}
 use Rattle.header_boxes.specs.Cells.{IsAligned}
 use Rattle.header_boxes.specs.declared.boxes.Box5.{Box5}
 use Rattle.header_boxes.proofs.CellNumbers.{aligned_by_low, aligned_through}
+use Rattle.header_boxes.proofs.Held.{holds_low}
 use Rattle.box_images.specs.Fields.{AreComparable, greatest_of, greatest_on, side_of, value_of}
 use Rattle.box_images.specs.Images.{CanCompare, IsAddress, IsImageOfEchoReply, IsImageOfReturn, IsPort, IsValidImage, field_of}
 use Rattle.box_images.specs.Bodies.{AreCutInside, Edges, IsBody, IsCut, IsCutInside, IsEdge, cuts_on, range_edges}
@@ -159,3 +160,23 @@ answers_compare addresses i j e a b =
     (λ k. ⊎_elim (λ l. echo_replies_compare addresses i j e k l) (λ l. absurd (no_two_kinds i.part j.part e k.icmp l.other)) b)
     (λ k. ⊎_elim (λ l. absurd (no_two_kinds j.part i.part (sym e) l.icmp k.other)) (λ l. returns_compare addresses i j e k l) b)
     a
+
+-- ---- numbers of 32 bits
+
+side_fits : (s : Side) → greatest_on s ≤ 4294967295
+side_fits Proto = omega arith
+side_fits Src = omega arith
+side_fits Dst = omega arith
+side_fits P = omega arith
+side_fits Q = omega arith
+
+-- at the low corner
+pub least_fits : (i : Image) (s : Side) → IsValidImage i → value_of (field_of i s) (low_of i.part) < 2 ^ 32
+least_fits i s valid =
+    let value = value_fits i (low_of i.part) valid (holds_low i.part valid.part) s in
+    let side = side_fits s in
+    omega arith
+
+-- and the greatest
+pub greatest_fits : (i : Image) (s : Side) → IsValidImage i → greatest_of (field_of i s) i.part < 2 ^ 32
+greatest_fits i s valid = let value = valid.fits s in let side = side_fits s in omega arith

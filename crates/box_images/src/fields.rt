@@ -1,9 +1,11 @@
 // The fields of an image.
 ghost use Rattle.std.specs.Prelude.{◌≡◌, ◌≤◌, ◌<◌, ◌^◌};
-ghost use Rattle.box_images.specs.Fields.{number_of, value_of};
+ghost use Rattle.box_images.specs.Fields.{greatest_of, number_of, value_of};
 ghost use Rattle.box_images.specs.Parts.{raised};
 ghost use Rattle.vpc_base.specs.declared.headers.Header.{Header};
 
+use crate::sides::side_of;
+use header_boxes::Box5;
 use vpc_base::Header;
 
 /// One of the five fields of a header, and the side of a box on which it lies.
@@ -45,6 +47,17 @@ impl Field {
         match self {
             Field::Fixed(n) => n,
             Field::Of(side, add) => number_of(h, side) + u32::from(add),
+        }
+    }
+
+    // The greatest value over a box.
+    pub(crate) fn greatest(self, part: &Box5) -> u32
+        requires { greatest_of self part.now < 2 ^ 32 }
+        ensures { result ≡ greatest_of self part.now }
+    {
+        match self {
+            Field::Fixed(n) => n,
+            Field::Of(side, add) => side_of(part, side).1 + u32::from(add),
         }
     }
 

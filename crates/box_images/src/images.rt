@@ -80,6 +80,17 @@ impl Image {
         }
     }
 
+    /// Leaves of the image what it is over a part of its requests.
+    pub fn keep(&mut self, body: &Box5)
+        requires valid { IsValidImage self.old }
+        requires within { IsWithin body.now self.old.part }
+        ensures image { self.new ≡ record self.old { part = body.now } }
+        ensures valid { IsValidImage self.new }
+        ensures kind { (addresses : List ℕ) → KeepsKind addresses self.old self.new }
+    {
+        self.part = *body;
+    }
+
     /// The image with a source address that doesn't depend on the request.
     pub fn set_src(&self, a: u32) -> Image
         requires { IsValidImage self.now }

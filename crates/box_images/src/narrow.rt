@@ -1,9 +1,9 @@
 // Questions about fields of an image.
 ghost use Rattle.std.specs.Prelude.{◌≡◌, ◌≤◌, ◌↔◌, ℕ, IsTrue, true};
-ghost use Rattle.header_boxes.specs.Boxes.{IsValid, holds, in_range};
+ghost use Rattle.header_boxes.specs.Boxes.{IsValid, holds, in_range, low_of};
 ghost use Rattle.header_boxes.specs.declared.boxes.Box5.{Box5};
 ghost use Rattle.vpc_base.specs.declared.headers.Header.{Header};
-ghost use Rattle.box_images.specs.Fields.{AreComparable, number_of};
+ghost use Rattle.box_images.specs.Fields.{AreComparable, greatest_of, number_of, value_of};
 ghost use Rattle.box_images.specs.Images.{CanCompare, IsValidImage, field_of, header_at};
 ghost use Rattle.box_images.specs.Bodies.{EndsAtEdges, IsBody, range_edges, same_edges};
 ghost use Rattle.box_images.specs.Parts.{IsBoth, TellsRange, TellsSame};
@@ -89,6 +89,22 @@ impl Image {
             EndsAtEdges edges result.body self.now.part }
     {
         narrow_field(&self.part, self.field(side), lo, hi)
+    }
+
+    /// The least number on the side, which is that at the low corner.
+    pub fn least(&self, side: Side) -> u32
+        requires { IsValidImage self.now }
+        ensures { result ≡ value_of (field_of self.now side) (low_of self.now.part) }
+    {
+        self.field(side).value(&self.part.low())
+    }
+
+    /// The greatest number on the side.
+    pub fn greatest(&self, side: Side) -> u32
+        requires { IsValidImage self.now }
+        ensures { result ≡ greatest_of (field_of self.now side) self.now.part }
+    {
+        self.field(side).greatest(&self.part)
     }
 
     /// Whether the two images have the same header.

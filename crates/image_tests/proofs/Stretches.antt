@@ -10,11 +10,11 @@ use Rattle.header_boxes.specs.Boxes.{holds, in_range, low_of}
 use Rattle.header_boxes.specs.declared.boxes.Box5.{Box5}
 use Rattle.address_sets.specs.Runs.{IsStretch, is_in}
 use Rattle.address_sets.specs.declared.sets.Run.{Run}
-use Rattle.box_images.proofs.LawLemmas.{bodies_are_aligned, cuts_are_inside}
+use Rattle.box_images.proofs.LawLemmas.{bodies_are_aligned, cuts_are_inside, value_of-le-greatest_of}
 use Rattle.box_images.proofs.SideLemmas.{number_in_side}
 use Rattle.box_images.specs.Answers.{Answers}
 use Rattle.box_images.specs.Bodies.{EndsAtEdges, IsBody, IsCut, IsCutInside, range_edges}
-use Rattle.box_images.specs.Fields.{number_of, side_of, value_of}
+use Rattle.box_images.specs.Fields.{greatest_of, number_of, side_of, value_of}
 use Rattle.box_images.specs.Images.{IsImageOfWalk, IsValidImage, field_of, header_at}
 use Rattle.box_images.specs.declared.fields.Field.{Field}
 use Rattle.box_images.specs.declared.fields.Field.TheVariants.{Fixed, Of}
@@ -40,7 +40,7 @@ number-low b Dst = refl
 number-low b P = refl
 number-low b Q = refl
 
-value-number : (i : Image) (h : Header) (s : Side) → value_of (field_of i s) h ≡ number_of (header_at i h) s
+pub value-number : (i : Image) (h : Header) (s : Side) → value_of (field_of i s) h ≡ number_of (header_at i h) s
 value-number i h Proto = refl
 value-number i h Src = refl
 value-number i h Dst = refl
@@ -51,6 +51,16 @@ value-number i h Q = refl
 pub low-is-least : (f : Field) (b : Box5) (h : Header) → holds h b ≡ true → value_of f (low_of b) ≤ value_of f h
 low-is-least (Fixed n) b h t = omega arith
 low-is-least (Of s add) b h t = let low = number-low b s in let inside = number_in_side h b t s in let begins = inside.0 in omega arith
+
+-- of an image
+pub least-number : (i : Image) (s : Side) (h : Header) → holds h i.part ≡ true → low_on i s ≤ number_of (header_at i h) s
+least-number i s h t =
+    subst (λ (n : ℕ). n ≤ number_of (header_at i h) s) (value-number i (low_of i.part) s)
+    (subst (λ (n : ℕ). value_of (field_of i s) (low_of i.part) ≤ n) (value-number i h s) (low-is-least (field_of i s) i.part h t))
+
+-- and none has a greater one than its greatest
+pub number-greatest : (i : Image) (s : Side) (h : Header) → holds h i.part ≡ true → number_of (header_at i h) s ≤ greatest_of (field_of i s) i.part
+number-greatest i s h t = subst (λ (n : ℕ). n ≤ greatest_of (field_of i s) i.part) (value-number i h s) (value_of-le-greatest_of (field_of i s) i.part h t)
 
 -- which no number inside the part comes to
 low-inside : (cuts : CutLists) (part : Box5) (f : Field) (v : ℕ) → value_of f (low_of part) ≡ v → IsCutInside cuts part f v

@@ -4,7 +4,8 @@ use Rattle.std.specs.List.{Contains, list_any}
 use Rattle.std.proofs.Math.Seq.{drop-cons}
 use Rattle.vpc_base.specs.Cuts.{CutLists}
 use Rattle.vpc_base.specs.declared.headers.Header.{Header}
-use Rattle.box_images.proofs.Reducing.{reduced_all, reduced_by, reduced_nothing, walk_within}
+use Rattle.header_boxes.specs.Boxes.{holds, low_of}
+use Rattle.box_images.proofs.Reducing.{reduced_all, reduced_by, reduced_nothing, reduced_same, walk_within}
 use Rattle.box_images.specs.Answers.{Answers, Reduces}
 use Rattle.box_images.specs.Images.{IsImageOfWalk, IsValidImage, KeepsKind, header_at}
 use Rattle.box_images.specs.declared.images.Image.{Image}
@@ -44,6 +45,21 @@ trying_next {X} {T} enough whole asked test skips rows i k rest row x next below
       t.reduced a);
 }
 
+-- and so is one that no header of what is left passes
+pub trying_passed : {X T : Type 0} (enough : CutLists → Type 0) (whole : Header → T) (asked : List X → Header → T) (test : X → Header → Bool)
+    → ((x : X) (xs : List X) (h : Header) → test x h ≡ false → asked (x ∷ xs) h ≡ asked xs h)
+    → (rows : List X) (i : Image) (k : ℕ) (rest : Image) (row : X) → k < length rows → row ≡ get_or rows k row
+    → ((h : Header) → holds h rest.part ≡ true → test row h ≡ false)
+    → IsTrying enough whole asked rows i k rest → IsTrying enough whole asked rows i (k + 1) rest
+trying_passed {X} {T} enough whole asked test skips rows i k rest row below is fails t = record {
+  image = t.image;
+  valid = t.valid;
+  walk = t.walk;
+  reduced = reduced_same enough whole (asked (drop k rows)) (asked (drop (k + 1) rows)) i.part rest.part
+      (λ h inside. ap (λ xs. asked xs h) (rows_from rows k row below is) ∙ skips row (drop (k + 1) rows) h (fails h inside))
+      t.reduced;
+}
+
 -- a row that passes decides
 pub trying_last : {X T : Type 0} (enough : CutLists → Type 0) (whole : Header → T) (asked : List X → Header → T) (test : X → Header → Bool) (rows : List X) (i : Image) (k : ℕ) (rest : Image) (row : X)
     (x : Part Bool) (told : T) → ((xs : List X) (h : Header) → test row h ≡ true → asked (row ∷ xs) h ≡ told)
@@ -74,3 +90,8 @@ one_passes test x xs h passes = rw passes refl
 -- the header of an image over a part is that of the image
 pub header_of_rest : (i rest : Image) (h : Header) → rest ≡ record i { part = rest.part } → header_at rest h ≡ header_at i h
 header_of_rest i rest h e = ap (λ (j : Image). header_at j h) e
+
+-- and so is its low corner
+pub low_of_rest : {X T : Type 0} (enough : CutLists → Type 0) (whole : Header → T) (asked : List X → Header → T) (rows : List X) (i : Image) (k : ℕ) (rest : Image) (low : Header)
+    → low ≡ header_at i (low_of i.part) → IsTrying enough whole asked rows i k rest → low ≡ header_at rest (low_of rest.part)
+low_of_rest {X} {T} enough whole asked rows i k rest low is t = is ∙ sym (header_of_rest i rest (low_of i.part) t.image) ∙ ap (header_at rest) (sym t.reduced.inside.low)

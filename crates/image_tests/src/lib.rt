@@ -10,4 +10,4 @@ mod sets;
 pub use boxes::box_on;
 pub use pieces::piece_on;
 pub use rules::{begins_on, block_on, far_side, proto_on, range_on, rule_on};
-pub use sets::{entry_on, low_on, member_on, set_on, up_to};
+pub use sets::{entry_on, low_on, member_on, members_from, set_on, up_to};

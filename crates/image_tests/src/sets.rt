@@ -23,11 +23,7 @@ pub fn low_on(i: &Image, side: Side) -> u32
     requires address { IsAddressSide side }
     ensures { result ≡ low_on i.now side }
 {
-    let low = i.value(&i.part.low());
-    match side {
-        Side::Src => low.src,
-        _ => low.dst,
-    }
+    i.least(side)
 }
 
 /// The body on which the source or the destination is at most the last one, which isn't below that
@@ -76,6 +72,14 @@ fn key_stretch(next: Option<u64>, high: u32, address: u32) -> (u32, bool)
         return (u32::MAX, false);
     }
     (address + (next - key - 1) as u32, false)
+}
+
+/// How far addresses are alike from one on: the last up to which a set has the keys of all of them with this high half,
+/// or of none, and whether it has them. It reads about log2 n numbers.
+pub fn members_from(numbers: &NumberSet, high: u32, address: u32) -> (u32, bool)
+    ensures { IsKeyStretch numbers.now high address result }
+{
+    key_stretch(numbers.next(key_of(high, address)), high, address)
 }
 
 /// Whether a set has the key of the source or the destination with this high half. It reads about

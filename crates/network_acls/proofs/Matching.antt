@@ -1,28 +1,34 @@
 -- Rows asked of images.
-use Rattle.std.proofs.Common.{◌≡◌, ◌&&◌, ◌∷◌, [], Bool, true, false, List, Option, Some, ℕ, ap, refl, subst, sym, arith, ◌∙◌}
+use Rattle.std.proofs.Common.{◌≡◌, ◌<◌, ◌&&◌, ◌∷◌, [], Bool, true, false, List, Option, Some, ℕ, ap, nat_le, refl, subst, sym, arith, ◌∙◌}
 use Rattle.std.specs.List.{Contains, find}
+use Rattle.std.proofs.lemmas.Bool.{lt-leb}
 use Rattle.std.proofs.Math.Bool.{and_comm}
 use Rattle.vpc_base.specs.declared.headers.Dir.{Dir}
+use Rattle.vpc_base.specs.declared.headers.Dir.TheVariants as dirs
 use Rattle.vpc_base.specs.declared.headers.Header.{Header}
+use Rattle.header_boxes.specs.Boxes.{holds as holds_header, low_of}
 use Rattle.header_boxes.specs.declared.boxes.Box5.{Box5}
 use Rattle.box_images.specs.Answers.{Answers}
-use Rattle.box_images.specs.Fields.{number_of}
-use Rattle.box_images.specs.Images.{header_at}
+use Rattle.box_images.specs.Fields.{greatest_of, number_of}
+use Rattle.box_images.specs.Images.{field_of, header_at}
 use Rattle.box_images.specs.declared.fields.Side.{Side}
+use Rattle.box_images.specs.declared.fields.Side.TheVariants.{Dst, Q, Src}
 use Rattle.box_images.specs.declared.images.Image.{Image}
 use Rattle.box_images.specs.declared.images.Part.{Part}
 use Rattle.cut_laws.proofs.Among.{among_through, on_sides_among, row_among}
 use Rattle.cut_laws.specs.Dividing.{Divide}
 use Rattle.image_tests.proofs.Answering.{answers_more, answers_refused, answers_rule, answers_same}
+use Rattle.image_tests.proofs.Stretches.{least-number, low-is-least, number-greatest}
 use Rattle.image_tests.proofs.Trying.{header_of_rest}
+use Rattle.image_tests.specs.Keys.{low_on}
 use Rattle.image_tests.specs.Tests.{cuts_of_block, fits_rule}
-use Rattle.prefix_text.specs.Block.{holds}
+use Rattle.prefix_text.specs.Block.{holds, last_of}
 use Rattle.vpc_model.specs.Cuts.{all_cuts, cuts_of_acl_row, cuts_of_rule, on_sides}
-use Rattle.vpc_model.specs.Filter.{far_address}
+use Rattle.vpc_model.specs.Filter.{far_address, is_between, matches_proto}
 use Rattle.vpc_model.specs.declared.rows.AclRow.{AclRow}
 use Rattle.vpc_model.specs.Acls.{acl_verdict, verdict_of_row}
 use Rattle.network_acls.proofs.Directions.{decided}
-use Rattle.network_acls.specs.Tried.{AreTried, DivideRows, TriedRows, row_matches, rows_tried}
+use Rattle.network_acls.specs.Tried.{AreTried, DivideRows, MatchesNone, TriedRows, row_matches, rows_tried}
 
 -- the cuts of a row are those of its rule and of its block
 pub rule_of_row : (i : Image) (r : AclRow) (x : Part Bool)
@@ -58,6 +64,71 @@ block_refuses i dir r s x far refused k =
     (answers_same enough (λ h. held h && fits h) (λ h. fits h && held h) i.part x (λ h. and_comm (held h) (fits h))
     (answers_refused enough held fits i.part x refused (block_of_row i dir r s i.part x far k)))
 
+-- ---- rows that match no header
+
+-- their ports end before the low corner
+pub ends-before : (dir : Dir) (i : Image) (low : Header) (r : AclRow) → low ≡ header_at i (low_of i.part) → r.q_to < low.q → MatchesNone dir i r
+ends-before dir i low r is less h t =
+    let least = low-is-least i.q i.part h t in
+    let port = ap (λ (g : Header). g.q) is in
+    let fails : nat_le (header_at i h).q r.q_to ≡ false = lt-leb (header_at i h).q r.q_to (omega arith) in
+    rw fails (nowhere (nat_le r.q_from (header_at i h).q) (holds (far_address dir (header_at i h)) r.block) (matches_proto r.proto (header_at i h).proto))
+  where
+    nowhere : (a b c : Bool) → (c && ((a && false) && b)) ≡ false
+    nowhere true b true = refl
+    nowhere true b false = refl
+    nowhere false b true = refl
+    nowhere false b false = refl
+
+-- or begin after all headers
+pub begins-after : (dir : Dir) (i : Image) (last : ℕ) (r : AclRow) → last ≡ greatest_of i.q i.part → last < r.q_from → MatchesNone dir i r
+begins-after dir i last r is less h t =
+    let most = number-greatest i Q h t in
+    let fails : nat_le r.q_from (header_at i h).q ≡ false = lt-leb r.q_from (header_at i h).q (omega arith) in
+    rw fails (nowhere (nat_le (header_at i h).q r.q_to) (holds (far_address dir (header_at i h)) r.block) (matches_proto r.proto (header_at i h).proto))
+  where
+    nowhere : (a b c : Bool) → (c && ((false && a) && b)) ≡ false
+    nowhere a b true = refl
+    nowhere a b false = refl
+
+refused-by-block : (dir : Dir) (h : Header) (r : AclRow) → holds (far_address dir h) r.block ≡ false → row_matches dir h r ≡ false
+refused-by-block dir h r fails = rw fails (nowhere (is_between r.q_from r.q_to h.q) (matches_proto r.proto h.proto))
+  where
+    nowhere : (a c : Bool) → (c && (a && false)) ≡ false
+    nowhere true true = refl
+    nowhere true false = refl
+    nowhere false true = refl
+    nowhere false false = refl
+
+-- the side of the far address
+side_of_far : (dir : Dir) → (s : Side) × ((h : Header) → number_of h s ≡ far_address dir h)
+side_of_far dirs.Inward = (Src, λ h. refl)
+side_of_far dirs.Outward = (Dst, λ h. refl)
+
+-- their block ends before the low corner
+pub block-before : (dir : Dir) (i : Image) (low : Header) (r : AclRow) → low ≡ header_at i (low_of i.part) → last_of r.block < far_address dir low → MatchesNone dir i r
+block-before dir i low r is less h t =
+    let s : Side = (side_of_far dir).0 in
+    let far = (side_of_far dir).1 in
+    let least = least-number i s h t in
+    let here = far (header_at i h) in
+    let there : low_on i s ≡ far_address dir low = far (header_at i (low_of i.part)) ∙ ap (far_address dir) (sym is) in
+    let fails : nat_le (far_address dir (header_at i h)) (last_of r.block) ≡ false = lt-leb (far_address dir (header_at i h)) (last_of r.block) (omega arith) in
+    refused-by-block dir (header_at i h) r (rw fails (nowhere (nat_le r.block.first (far_address dir (header_at i h)))))
+  where
+    nowhere : (a : Bool) → (a && false) ≡ false
+    nowhere true = refl
+    nowhere false = refl
+
+-- or begins after all headers
+pub block-after : (dir : Dir) (i : Image) (last : ℕ) (s : Side) (r : AclRow) → ((h : Header) → number_of h s ≡ far_address dir h) → last ≡ greatest_of (field_of i s) i.part
+    → last < r.block.first → MatchesNone dir i r
+block-after dir i last s r far is less h t =
+    let most = number-greatest i s h t in
+    let here = far (header_at i h) in
+    let fails : nat_le r.block.first (far_address dir (header_at i h)) ≡ false = lt-leb r.block.first (far_address dir (header_at i h)) (omega arith) in
+    refused-by-block dir (header_at i h) r (rw fails refl)
+
 -- the first of some rows that matches
 abbrev pub first_match : Dir → Image → List AclRow → Header → Option AclRow
 first_match dir i rows h = find (row_matches dir (header_at i h)) rows
@@ -81,6 +152,11 @@ answer_of_row rows dir i rest r x has e k =
     (on_sides_among (cuts_of_acl_row r) (all_cuts cuts_of_acl_row rows) (row_among cuts_of_acl_row rows r has)) d)
     (answers_same (Divide (cuts_of_acl_row r)) (λ h. row_matches dir (header_at rest h) r) (λ h. row_matches dir (header_at i h) r) rest.part x
     (λ h. ap (λ g. row_matches dir g r) (header_of_rest i rest h e)) k)
+
+-- a row that matches no header of what is left
+pub none_of_rest : (dir : Dir) (i rest : Image) (r : AclRow) → rest ≡ record i { part = rest.part } → MatchesNone dir rest r
+    → (h : Header) → holds_header h rest.part ≡ true → row_test dir i r h ≡ false
+none_of_rest dir i rest r e none h t = sym (ap (λ (g : Header). row_matches dir g r) (header_of_rest i rest h e)) ∙ none h t
 
 -- the verdict on an image of the rows of one direction, of an index that is asked for that direction
 pub decided_on : (dir asked : Dir) (i : Image) (x : Part (Bool × ℕ)) (rows seen : List AclRow) (t : TriedRows) → dir ≡ asked → AreTried asked rows → seen ≡ rows → rows ≡ rows_tried asked t

@@ -1,7 +1,10 @@
 -- The rows of an ACL in the order in which they are tried (VPC User Guide, "Network ACL rules").
-use Rattle.std.specs.Prelude.{◌&&◌, ◌≡◌, All, Bool, IsPermutation, IsSortedByKey, List, filter, true}
+use Rattle.std.specs.Prelude.{◌&&◌, ◌≡◌, All, Bool, IsPermutation, IsSortedByKey, List, false, filter, true}
 use Rattle.std.specs.Ordering.{nat_cmp}
+use Rattle.box_images.specs.Images.{header_at}
+use Rattle.box_images.specs.declared.images.Image.{Image}
 use Rattle.cut_laws.specs.Dividing.{Divide}
+use Rattle.header_boxes.specs.Boxes.{holds as holds_header}
 use Rattle.vpc_base.specs.Cuts.{CutLists}
 use Rattle.vpc_base.specs.declared.headers.Dir.{Dir}
 use Rattle.vpc_base.specs.declared.headers.Dir.TheVariants as dirs
@@ -34,6 +37,10 @@ pub record AreTried (dir : Dir) (rows : List AclRow) : Type 0 where
 -- protocol, port range and block match
 abbrev pub row_matches : Dir → Header → AclRow → Bool
 row_matches dir h r = matches_proto r.proto h.proto && (is_between r.q_from r.q_to h.q && holds (far_address dir h) r.block)
+
+-- no header of an image's part does
+abbrev pub MatchesNone : Dir → Image → AclRow → Type 0
+MatchesNone dir i r = (h : Header) → holds_header h i.part ≡ true → row_matches dir (header_at i h) r ≡ false
 
 -- the rows of each direction are those of the list, in an order that leaves every verdict as it was
 pub record SortsRows (rows : List AclRow) (i : TriedRows) : Type 0 where

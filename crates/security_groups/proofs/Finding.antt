@@ -5,7 +5,7 @@ use Rattle.std.proofs.lemmas.List.{get_or-drop, get_or-take, length-drop, length
 use Rattle.address_sets.specs.declared.sets.Run.{Run}
 use Rattle.vpc_base.specs.declared.headers.Dir.{Dir}
 use Rattle.vpc_base.specs.declared.headers.Header.{Header}
-use Rattle.security_groups.specs.Asking.{allows}
+use Rattle.security_groups.specs.Rules.{allows}
 use Rattle.security_groups.specs.Dividing.{FindsOne, rule_at}
 use Rattle.security_groups.specs.Tables.{AreBegun, run_of}
 use Rattle.security_groups.specs.declared.rules.Rule.{Rule}

@@ -22,7 +22,8 @@ use Rattle.vpc_model.specs.declared.rows.Description.{Description}
 use Rattle.vpc_model.specs.declared.rows.Group.{Group}
 use Rattle.vpc_model.specs.declared.rows.Permission.{Permission}
 use Rattle.security_groups.specs.Asking.{no_rules}
-use Rattle.security_groups.specs.Dividing.{DivideRule, DivideRules, HasRuleCuts, rules_in}
+use Rattle.security_groups.specs.Dividing.{HasRuleCuts, rules_in}
+use Rattle.security_groups.specs.Rules.{DivideRule, DivideRules}
 use Rattle.security_groups.specs.Index.{GroupLists}
 use Rattle.security_groups.specs.Members.{groups_with, number_of}
 use Rattle.security_groups.specs.Resolved.{AreRulesOf, HasRulesIn, IsGroupOf, IsResolved, IsRuleOf}

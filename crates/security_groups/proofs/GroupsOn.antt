@@ -15,10 +15,11 @@ use Rattle.box_images.specs.declared.images.Part.{Part}
 use Rattle.image_tests.proofs.Answering.{answers_more, answers_same}
 use Rattle.image_tests.proofs.Trying.{header_of_rest}
 use Rattle.vpc_model.specs.Choice.{or_else}
-use Rattle.security_groups.specs.Asking.{allows, first_in_group, first_of, least, lesser, no_rules, rules_of}
+use Rattle.security_groups.specs.Asking.{first_in_group, first_of, least, lesser, no_rules, rules_of}
 use Rattle.vpc_model.specs.declared.numbers.EniNo.{EniNo}
 use Rattle.security_groups.specs.Index.{GroupLists, allowed}
-use Rattle.security_groups.specs.Dividing.{DivideAt, DivideGroups, DivideRules, IsAllowedOn, any_allows, any_group_allows, rule_at, rules_in}
+use Rattle.security_groups.specs.Dividing.{DivideAt, DivideGroups, IsAllowedOn, any_group_allows, rule_at, rules_in}
+use Rattle.security_groups.specs.Rules.{DivideRules, allows, any_allows}
 use Rattle.security_groups.specs.declared.groups.GroupRules.{GroupRules}
 use Rattle.security_groups.specs.declared.rules.Rule.{Rule}
 

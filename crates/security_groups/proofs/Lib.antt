@@ -16,3 +16,6 @@ pub mod GroupsOn
 pub mod MemberCuts
 pub mod RuleCuts
 pub mod GroupCuts
+pub mod Joining
+pub mod Stretching
+pub mod AlikeLemmas

@@ -18,7 +18,8 @@ use Rattle.vpc_model.specs.Lookup.{entries_of, no_group, no_interface}
 use Rattle.vpc_laws.proofs.Numbering.{position-at}
 use Rattle.security_groups.specs.declared.groups.GroupRules.{GroupRules}
 use Rattle.security_groups.specs.declared.rules.Rule.{Rule}
-use Rattle.security_groups.specs.Asking.{allows, first_in_group, first_of, has_entry, has_member, least, names, no_rules, rules_of}
+use Rattle.security_groups.specs.Asking.{first_in_group, first_of, least, no_rules, rules_of}
+use Rattle.security_groups.specs.Rules.{allows, has_entry, has_member, names}
 use Rattle.security_groups.specs.Index.{GroupLists, HasRulesOf}
 use Rattle.security_groups.specs.Members.{groups_with, number_of}
 use Rattle.security_groups.specs.Resolved.{AreRulesOf, HasRulesIn, IsGroupOf, IsResolved, IsRuleOf, counted, list_no}

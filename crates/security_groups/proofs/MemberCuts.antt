@@ -8,7 +8,7 @@ use Rattle.cut_laws.proofs.Rows.{interfaces_are_standing}
 use Rattle.cut_laws.specs.Dividing.{CutOut, Divide}
 use Rattle.number_tables.proofs.KeyLemmas.{key_of-same}
 use Rattle.number_tables.specs.Keys.{key_of}
-use Rattle.security_groups.specs.Asking.{has_member}
+use Rattle.security_groups.specs.Rules.{has_member}
 use Rattle.security_groups.specs.Members.{AreFit, HasMembersOf, all_members, groups_with, key_with, keys_with}
 use Rattle.vpc_base.specs.Cuts.{CutLists}
 use Rattle.vpc_laws.proofs.Members.{Contains-cases, Contains-here, Contains-later, Contains-none, flat_map-member, list_any-member}

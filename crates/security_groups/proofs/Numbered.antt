@@ -19,7 +19,7 @@ use Rattle.vpc_laws.proofs.Numbering.{bytes_self, position-at, same_bytes}
 use Rattle.reference_check.proofs.Maps.{found_number, missing_number, no_row, read_row}
 use Rattle.number_tables.specs.Keys.{key_of}
 use Rattle.number_tables.proofs.KeyLemmas.{key_of-same}
-use Rattle.security_groups.specs.Asking.{has_entry, has_member}
+use Rattle.security_groups.specs.Rules.{has_entry, has_member}
 use Rattle.security_groups.specs.Lists.{HasEntriesOf}
 use Rattle.security_groups.specs.Members.{AreFit, all_members, groups_with, key_with, keys_with, number_of}
 use Rattle.security_groups.specs.Resolved.{counted, list_no}

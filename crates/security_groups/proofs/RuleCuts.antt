@@ -14,8 +14,7 @@ use Rattle.vpc_model.specs.Cuts.{block_cuts, blocks_of_permission, cuts_of_block
 use Rattle.vpc_model.specs.Lookup.{entries_of}
 use Rattle.vpc_model.specs.declared.rows.Description.{Description}
 use Rattle.vpc_model.specs.declared.rows.Permission.{Permission}
-use Rattle.security_groups.specs.Asking.{has_entry}
-use Rattle.security_groups.specs.Dividing.{DivideRule}
+use Rattle.security_groups.specs.Rules.{DivideRule, has_entry}
 use Rattle.security_groups.specs.Index.{GroupLists}
 use Rattle.security_groups.specs.Once.{once}
 use Rattle.security_groups.specs.Resolved.{IsResolved, IsRuleOf, list_no}
@@ -60,7 +59,7 @@ turns-divide d p cuts blocks within divide =
     (among_through (on_sides few) (on_sides (cuts_of_permission d p)) cuts (on_sides_among few (cuts_of_permission d p) (blocks-among d p blocks within)) divide)
 
 -- tests that agree turn together
-turns-alike : (test other : ℕ → Bool) (cuts : CutLists) → ((a : ℕ) → test a ≡ other a) → DivideTurns other cuts → DivideTurns test cuts
+pub turns-alike : (test other : ℕ → Bool) (cuts : CutLists) → ((a : ℕ) → test a ≡ other a) → DivideTurns other cuts → DivideTurns test cuts
 turns-alike test other cuts same divide a fits turn = divide a fits (sym (same (a + 1)) ∙ turn ∙ ap not (same a))
 
 -- the rule's protocol and ports

@@ -10,12 +10,13 @@ use Rattle.vpc_base.specs.declared.headers.Dir.{Dir}
 use Rattle.vpc_base.specs.declared.headers.Header.{Header}
 use Rattle.security_groups.specs.declared.rules.Rule.{Rule}
 use Rattle.vpc_model.specs.Filter.{far_address, matches_proto}
-use Rattle.security_groups.specs.Asking.{allows, least, lesser, names}
+use Rattle.security_groups.specs.Asking.{least, lesser}
+use Rattle.security_groups.specs.Rules.{allows, names}
 use Rattle.security_groups.specs.Tables.{AreBegun, AreLasts, BeginAfter, EndBy, run_of}
 use Rattle.security_groups.proofs.Least.{least-append, least-none, lesser-none}
 
 -- two parts, one after the other
-take-add : {X : Type 0} (m n : ℕ) (xs : List X) → take (m + n) xs ≡ take m xs ++ take n (drop m xs)
+pub take-add : {X : Type 0} (m n : ℕ) (xs : List X) → take (m + n) xs ≡ take m xs ++ take n (drop m xs)
 take-add m n xs =
     sym (take-append-drop m (take (m + n) xs))
     ∙ ap (λ ys. ys ++ drop m (take (m + n) xs)) (take-take m (m + n) xs (omega arith))

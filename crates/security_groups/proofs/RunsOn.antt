@@ -1,6 +1,6 @@
 -- Rules that are asked of images run by run.
-use Rattle.std.proofs.Common.{◌≡◌, ◌∙◌, ◌&&◌, ◌||◌, ◌*◌, ◌+◌, ◌-◌, ◌<◌, ◌≤◌, ◌∷◌, ⊎_elim, [], ℕ, Bool, List, ap, arith, drop, false, get_or, length, nat_le, refl, subst, suc, sym, take, true}
-use Rattle.std.proofs.Math.Seq.{drop-cons, drop-drop}
+use Rattle.std.proofs.Common.{◌≡◌, ◌∙◌, ◌&&◌, ◌||◌, ◌*◌, ◌+◌, ◌-◌, ◌<◌, ◌≤◌, ◌∷◌, ⊎_elim, [], ℕ, Bool, List, ap, arith, drop, false, get_or, length, nat_le, refl, subst, sym, take, true}
+use Rattle.std.proofs.Math.Seq.{drop-drop}
 use Rattle.std.specs.List.{All, AllWithin, list_any}
 use Rattle.std.specs.List.Sorted.{IsNonDecreasingBy}
 use Rattle.std.proofs.lemmas.Bool.{cases_lt, lt-leb}
@@ -18,22 +18,23 @@ use Rattle.header_boxes.specs.Boxes.{IsWithin, holds, low_of}
 use Rattle.header_boxes.specs.declared.boxes.Box5.{Box5}
 use Rattle.box_images.proofs.Reducing.{reduced_all, reduced_by, reduced_nothing, reduced_same, reduced_to, walk_within}
 use Rattle.box_images.specs.Answers.{Answers}
+use Rattle.box_images.specs.Fields.{greatest_of}
 use Rattle.box_images.specs.Images.{IsImageOfWalk, IsValidImage, KeepsKind, header_at}
+use Rattle.box_images.specs.declared.fields.Side.TheVariants.{Q}
 use Rattle.box_images.specs.declared.images.Image.{Image}
 use Rattle.box_images.specs.declared.images.Part.{Part}
 use Rattle.cut_laws.specs.Dividing.{Divide}
 use Rattle.image_tests.proofs.Answering.{answers_more, answers_same}
 use Rattle.image_tests.proofs.EdgeCuts.{range_of_rule}
-use Rattle.image_tests.proofs.Stretches.{low-is-least}
-use Rattle.image_tests.proofs.Trying.{IsTrying, any_passes, header_of_rest, none_passes_yet}
+use Rattle.image_tests.proofs.Stretches.{low-is-least, number-greatest}
+use Rattle.image_tests.proofs.Trying.{header_of_rest}
 use Rattle.image_tests.specs.Tests.{cuts_of_range}
 use Rattle.security_groups.specs.declared.rules.Rule.{Rule}
 use Rattle.vpc_model.specs.Filter.{far_address, matches_proto}
-use Rattle.security_groups.proofs.AskingOn.{rule_test}
 use Rattle.security_groups.proofs.OnceEach.{or_false}
 use Rattle.security_groups.proofs.Runs.{starts-later}
-use Rattle.security_groups.specs.Asking.{allows, names}
-use Rattle.security_groups.specs.Dividing.{AllowsNone, DivideRule, DivideRules, IsLeftWith, any_allows}
+use Rattle.security_groups.specs.Dividing.{AllowsNone, IsLeftWith}
+use Rattle.security_groups.specs.Rules.{DivideRule, DivideRules, allows, any_allows, names}
 use Rattle.security_groups.specs.Tables.{AreBegun, BeginAfter, EndBy, run_of}
 
 -- ---- one of some rules
@@ -59,7 +60,7 @@ run-parts p rules k =
 
 -- ---- rules that can't allow a header
 
-ended-before : (lists : List (List Run)) (members : List ℕ) (dir : Dir) (h : Header) (r : Rule) → r.q_to < h.q → allows lists members dir h r ≡ false
+pub ended-before : (lists : List (List Run)) (members : List ℕ) (dir : Dir) (h : Header) (r : Rule) → r.q_to < h.q → allows lists members dir h r ≡ false
 ended-before lists members dir h r less =
     let fails : nat_le h.q r.q_to ≡ false = lt-leb h.q r.q_to less in
     rw fails (nowhere (nat_le r.q_from h.q) (names lists members (far_address dir h) r) (matches_proto r.proto h.proto))
@@ -164,6 +165,20 @@ left-before lists members dir rules begun k i next x below is ascend later befor
         (λ less. refused lists members dir i rules begun k n d h before (within_holds x.body i.part h (answer 0).body.within t) less)
         (λ more. from_next h t n d inside more)
         (cases_lt n k)
+
+-- a rule that begins after the ports of all headers leaves them all
+pub left-beyond : (lists : List (List Run)) (members : List ℕ) (dir : Dir) (rules : List Rule) (begun k : ℕ) (i : Image) (next : Rule) (last : ℕ)
+    → k < length (take (length rules - begun) (drop begun rules)) → next ≡ get_or (take (length rules - begun) (drop begun rules)) k next
+    → IsNonDecreasingBy (λ r. r.q_from) rules → BeginAfter rules begun (header_at i (low_of i.part)).q → AllWithin (AllowsNone lists members dir i) rules begun (begun + k)
+    → IsValidImage i → last ≡ greatest_of i.q i.part → last < next.q_from
+    → IsLeftWith lists members dir rules (take begun rules) i i.part
+left-beyond lists members dir rules begun k i next last below is ascend later before valid most less =
+    left-before lists members dir rules begun k i next (record { body = i.part; told = false }) below is ascend later before
+    (λ to.
+    let from : Header → Bool = λ h. nat_le next.q_from (header_at i h).q in
+    reduced_all (Divide (cuts_of_range next.q_from to)) from from i.part i.part false
+    (λ h t. let greatest = number-greatest i Q h t in lt-leb next.q_from (header_at i h).q (omega arith))
+    (reduced_nothing (Divide (cuts_of_range next.q_from to)) from i.part valid.part))
 
 -- ---- what is left of an image after some runs
 
@@ -271,31 +286,9 @@ ports-above i rest body q is within image =
     subst (λ (j : Image). (h : Header) → holds h j.part ≡ true → q ≤ (header_at j h).q) (sym image)
     (λ h t. let le = low-is-least i.q i.part h (within_holds body i.part h within t) in omega arith)
 
--- ---- rules that end before the ports of all headers are left behind, and what is left has no lower ports
+-- nor of what is left of that
 
 pub ports-above-rest : (i rest : Image) (q : ℕ) → ((h : Header) → holds h i.part ≡ true → q ≤ (header_at i h).q) → rest ≡ record i { part = rest.part } → IsWithin rest.part i.part
     → (h : Header) → holds h rest.part ≡ true → q ≤ (header_at rest h).q
 ports-above-rest i rest q above image within h t =
     subst (λ (g : Header). q ≤ g.q) (sym (header_of_rest i rest h image)) (above h (within_holds rest.part i.part h within t))
-
-pub rule_passed : (lists : List (List Run)) (members : List ℕ) (dir : Dir) (rules : List Rule) (i rest : Image) (k q : ℕ) (r : Rule)
-    → ((h : Header) → holds h i.part ≡ true → q ≤ (header_at i h).q) → r.q_to < q → k < length rules → r ≡ get_or rules k r
-    → IsTrying (DivideRules lists members rules) (any_passes (rule_test lists members dir i) rules) (any_passes (rule_test lists members dir i)) rules i k rest
-    → IsTrying (DivideRules lists members rules) (any_passes (rule_test lists members dir i) rules) (any_passes (rule_test lists members dir i)) rules i (k + 1) rest
-rule_passed lists members dir rules i rest k q r above before below is t = record {
-  image = t.image;
-  valid = t.valid;
-  walk = t.walk;
-  reduced = reduced_same (DivideRules lists members rules) (any_passes test rules) (any_passes test (drop k rules)) (any_passes test (drop (k + 1) rules)) i.part rest.part
-      (λ h inside.
-      let port = above h (within_holds rest.part i.part h t.reduced.inside.within inside) in
-      ap (λ rs. any_passes test rs h) (drop-cons rules k r below ∙ ap (λ n. get_or rules k r ∷ drop n rules) next ∙ ap (λ x. x ∷ drop (k + 1) rules) (sym is))
-      ∙ none_passes_yet test r (drop (k + 1) rules) h (ended-before lists members dir (header_at i h) r (omega arith)))
-      t.reduced;
-}
-  where
-    test : Rule → Header → Bool
-    test = rule_test lists members dir i
-
-    next : suc k ≡ k + 1
-    next = omega arith

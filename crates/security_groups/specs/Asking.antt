@@ -1,33 +1,14 @@
 -- Which rule allows a packet, where what rules name was resolved (VPC User Guide, "Security group rules").
-use Rattle.std.specs.List.{list_any}
-use Rattle.std.specs.Prelude.{◌&&◌, ◌==◌, ◌||◌, ◌∷◌, [], if◌then◌else◌, Bool, List, None, Option, Some, nat_lt, option_map, slice_index_or, ℕ}
-use Rattle.address_sets.specs.Runs.{is_in}
+use Rattle.std.specs.Prelude.{◌∷◌, [], if◌then◌else◌, Bool, List, None, Option, Some, nat_lt, option_map, slice_index_or, ℕ}
 use Rattle.address_sets.specs.declared.sets.Run.{Run}
-use Rattle.number_tables.specs.Keys.{key_of}
 use Rattle.vpc_base.specs.declared.headers.Dir.{Dir}
 use Rattle.vpc_base.specs.declared.headers.Dir.TheVariants as dirs
 use Rattle.vpc_base.specs.declared.headers.Header.{Header}
 use Rattle.vpc_model.specs.declared.outcomes.RuleRef.{RuleRef}
 use Rattle.vpc_model.specs.Choice.{or_else}
-use Rattle.vpc_model.specs.Filter.{far_address, is_between, matches_proto}
 use Rattle.security_groups.specs.declared.groups.GroupRules.{GroupRules}
 use Rattle.security_groups.specs.declared.rules.Rule.{Rule}
-
--- an entry of the prefix list holds the address
-abbrev pub has_entry : List (List Run) → ℕ → ℕ → Bool
-has_entry lists a l = is_in a (slice_index_or lists l [])
-
--- a member of the group has it
-abbrev pub has_member : List ℕ → ℕ → ℕ → Bool
-has_member members a g = list_any (λ n. n == key_of g a) members
-
--- the rule names it
-abbrev pub names : List (List Run) → List ℕ → ℕ → Rule → Bool
-names lists members a r = is_in a r.blocks || (list_any (has_entry lists a) r.lists || list_any (has_member members a) r.groups)
-
--- protocol, port range and far address match
-abbrev pub allows : List (List Run) → List ℕ → Dir → Header → Rule → Bool
-allows lists members dir h r = matches_proto r.proto h.proto && (is_between r.q_from r.q_to h.q && names lists members (far_address dir h) r)
+use Rattle.security_groups.specs.Rules.{allows}
 
 -- the rules of a direction
 abbrev pub rules_of : Dir → GroupRules → List Rule

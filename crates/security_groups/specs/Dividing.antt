@@ -1,23 +1,22 @@
 -- The cuts that divide enough for what rules of groups ask.
 use Rattle.std.specs.List.{list_any}
-use Rattle.std.specs.Prelude.{◌||◌, ◌<◌, [], All, ◌≡◌, Bool, List, None, Option, Some, false, length, slice_index_or, true, ℕ}
-use Rattle.address_sets.specs.Runs.{is_in}
+use Rattle.std.specs.Prelude.{◌||◌, ◌+◌, ◌<◌, ◌≤◌, [], All, ◌≡◌, Bool, Contains, List, None, Option, Some, false, length, slice_index_or, true, ℕ}
 use Rattle.address_sets.specs.declared.sets.Run.{Run}
 use Rattle.box_images.specs.Answers.{Answers, Reduces}
 use Rattle.box_images.specs.Images.{header_at}
 use Rattle.box_images.specs.declared.images.Image.{Image}
 use Rattle.header_boxes.specs.Boxes.{holds}
 use Rattle.header_boxes.specs.declared.boxes.Box5.{Box5}
-use Rattle.cut_laws.specs.Dividing.{CutOut, Divide, DivideTurns}
 use Rattle.vpc_base.specs.Cuts.{CutLists}
 use Rattle.vpc_base.specs.declared.headers.Dir.{Dir}
 use Rattle.vpc_base.specs.declared.headers.Header.{Header}
-use Rattle.vpc_model.specs.Cuts.{cuts_at, cuts_of_rule}
+use Rattle.vpc_model.specs.Cuts.{cuts_at}
 use Rattle.vpc_model.specs.Sound.{is_eni}
 use Rattle.vpc_model.specs.declared.places.Place.TheVariants as places
 use Rattle.vpc_model.specs.declared.rows.Description.{Description}
 use Rattle.vpc_model.specs.declared.numbers.EniNo.{EniNo}
-use Rattle.security_groups.specs.Asking.{allows, has_entry, has_member, no_rules, rules_of}
+use Rattle.security_groups.specs.Asking.{no_rules, rules_of}
+use Rattle.security_groups.specs.Rules.{DivideRules, allows, any_allows, has_entry, has_member}
 use Rattle.security_groups.specs.Index.{GroupLists}
 use Rattle.security_groups.specs.declared.groups.GroupRules.{GroupRules}
 use Rattle.security_groups.specs.declared.rules.Rule.{Rule}
@@ -26,16 +25,11 @@ use Rattle.security_groups.specs.declared.rules.Rule.{Rule}
 abbrev pub lists_name : List (List Run) → List ℕ → ℕ → Rule → Bool
 lists_name lists members a r = list_any (has_entry lists a) r.lists || list_any (has_member members a) r.groups
 
--- at the edges of its protocol and ports, and where an address comes to be named or ceases to be
-pub record DivideRule (lists : List (List Run)) (members : List ℕ) (r : Rule) (cuts : CutLists) : Type 0 where
-  pub rule : Divide (cuts_of_rule r.proto r.q_from r.q_to []) cuts
-  pub blocks : DivideTurns (λ a. is_in a r.blocks) cuts
-  pub entries : All (λ l. DivideTurns (λ a. has_entry lists a l) cuts) r.lists
-  pub groups : All (λ g. CutOut (λ a. has_member members a g) cuts) r.groups
-
--- those of some rules
-abbrev pub DivideRules : List (List Run) → List ℕ → List Rule → CutLists → Type 0
-DivideRules lists members rules cuts = All (λ r. DivideRule lists members r cuts) rules
+-- a test of addresses gives one answer from an address up to the last one, past which the cuts divide
+pub record IsStretchOf (enough : CutLists → Type 0) (test : ℕ → Bool) (a : ℕ) (x : ℕ × Bool) : Type 0 where
+  pub from : a ≤ x.0
+  pub alike : (b : ℕ) → a ≤ b → b ≤ x.0 → test b ≡ x.1
+  pub cut : (cuts : CutLists) → enough cuts → x.0 < 4294967295 → Contains cuts.addr (x.0 + 1)
 
 -- the rule of a number, from 0; past the last one, a rule without ports
 abbrev pub rule_at : List Rule → ℕ → Rule
@@ -45,10 +39,6 @@ rule_at rules k = slice_index_or rules k (record { number = 0; proto = None; q_f
 abbrev pub FindsOne : (Rule → Bool) → List Rule → Option ℕ → Type 0
 FindsOne test rules None = list_any test rules ≡ false
 FindsOne test rules (Some k) = (k < length rules) × (test (rule_at rules k) ≡ true)
-
--- one of the rules allows the packet
-abbrev pub any_allows : List (List Run) → List ℕ → Dir → List Rule → Header → Bool
-any_allows lists members dir rules h = list_any (allows lists members dir h) rules
 
 -- the rule allows none of an image's headers
 abbrev pub AllowsNone : List (List Run) → List ℕ → Dir → Image → Rule → Type 0

@@ -1,4 +1,5 @@
 pub mod Once
+pub mod Rules
 pub mod Asking
 pub mod Tables
 pub mod Lists
@@ -7,3 +8,5 @@ pub mod Peers
 pub mod Index
 pub mod Resolved
 pub mod Dividing
+pub mod Joined
+pub mod Alike

@@ -2,7 +2,7 @@
 ghost use Rattle.std.specs.Prelude.{◌≡◌};
 ghost use Rattle.std.specs.List.{list_any};
 ghost use Rattle.address_sets.specs.Runs.{is_in};
-ghost use Rattle.security_groups.specs.Asking.{allows, has_entry, has_member, names};
+ghost use Rattle.security_groups.specs.Rules.{allows, has_entry, has_member, names};
 
 use crate::rules::Rule;
 use address_sets::AddressSet;

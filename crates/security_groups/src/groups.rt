@@ -1,9 +1,10 @@
 // Which rule of some groups allows a packet.
-ghost use Rattle.std.specs.Prelude.{◌≡◌, IfSome, option_map, true};
+ghost use Rattle.std.specs.Prelude.{◌≡◌, ◌≤◌, IfSome, false, length, option_map, true};
 ghost use Rattle.box_images.specs.Answers.{Answers};
 ghost use Rattle.box_images.specs.Images.{IsImageOfWalk, IsValidImage, header_at};
 ghost use Rattle.security_groups.specs.Asking.{first_in_group, first_of, rules_of};
-ghost use Rattle.security_groups.specs.Dividing.{DivideGroups, DivideRules, IsAllowedOn, any_allows, any_group_allows, rules_in};
+ghost use Rattle.security_groups.specs.Dividing.{DivideGroups, IsAllowedOn, any_group_allows, rules_in};
+ghost use Rattle.security_groups.specs.Rules.{DivideRules, any_allows};
 
 use crate::tables::RuleTable;
 use address_sets::AddressSet;
@@ -27,7 +28,8 @@ impl Drop for GroupRules {
     }
 }
 
-fn rules_of(rules: &GroupRules, dir: Dir) -> &RuleTable
+/// The rules of a group in a direction.
+pub fn rules_of(rules: &GroupRules, dir: Dir) -> &RuleTable
     ensures { result.now ≡ rules_of dir rules.now }
 {
     match dir {
@@ -81,7 +83,7 @@ pub fn first_of(
     None
 }
 
-// Whether one of a group's rules allows the headers of an image.
+// Whether one of a group's rules allows the headers of an image. A group that isn't described leaves the body as it is.
 fn any_in_group_on(
     lists: &[AddressSet],
     members: &NumberSet,
@@ -92,9 +94,10 @@ fn any_in_group_on(
 ) -> Part<bool>
     requires valid { IsValidImage i.now }
     requires walk { IsImageOfWalk i.now }
-    ensures { Answers (DivideRules lists.now members.now (rules_in groups.now dir group))
+    ensures answers { Answers (DivideRules lists.now members.now (rules_in groups.now dir group))
         (λ h. any_allows lists.now members.now dir (rules_in groups.now dir group) (header_at i.now h))
         i.now.part result }
+    ensures undescribed { length groups.now ≤ group → result ≡ (record { body = i.now.part; told = false }) }
 {
     if group as usize >= groups.len() {
         return Part {
@@ -105,7 +108,7 @@ fn any_in_group_on(
     rules_of(&groups[group as usize], dir).any_allows_on(lists, members, dir, i)
 }
 
-// The body on which the rule allows that allows the low corner, if one of the group does.
+// The body on which rules of the group allow the headers of an image, where they allow the low corner.
 fn body_by_group(
     lists: &[AddressSet],
     members: &NumberSet,
@@ -122,15 +125,7 @@ fn body_by_group(
     if group as usize >= groups.len() {
         return None;
     }
-    let rules = rules_of(&groups[group as usize], dir);
-    let low = i.value(&i.part.low());
-    let number = rules.allowing(lists, members, dir, &low)?;
-    let allowed = rules.one_allows_on(number, lists, members, dir, i);
-    if allowed.told {
-        Some(allowed.body)
-    } else {
-        None
-    }
+    rules_of(&groups[group as usize], dir).allowed_on(lists, members, dir, i)
 }
 
 // The same of some groups.
@@ -191,7 +186,7 @@ fn each_group_on(
 }
 
 /// Whether one of some groups' rules allows the headers of an image. Where one allows the low corner, the
-/// body is as large as that rule alone leaves it.
+/// body is as large as that rule leaves it, with those of its group, protocol and ports.
 pub fn any_of_on(
     lists: &[AddressSet],
     members: &NumberSet,

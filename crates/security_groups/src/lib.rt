@@ -2,20 +2,21 @@
 //! references were resolved once.
 #![tactic(auto)]
 
+mod alike;
 mod asking;
 mod building;
 mod groups;
 mod index;
+mod joined_rules;
 mod lists;
 mod members;
 mod on_images;
 mod once;
 mod peers;
+mod port_tables;
 mod rules;
 mod runs_on;
 mod tables;
-#[cfg(test)]
-mod tests;
 
 pub use groups::GroupRules;
 pub use index::GroupIndex;

@@ -1,114 +1,96 @@
 // Whether a rule allows the headers of an image.
-ghost use Rattle.std.specs.Prelude.{◌||◌, ◌≡◌, ◌↔◌, All, IsTrue, false};
+ghost use Rattle.std.specs.Prelude.{◌≡◌, ◌≤◌, ◌↔◌, All, IsTrue, false, true};
 ghost use Rattle.std.specs.List.{list_any};
 ghost use Rattle.box_images.specs.Answers.{Answers};
 ghost use Rattle.box_images.specs.Fields.{number_of};
 ghost use Rattle.box_images.specs.Images.{IsImageOfWalk, IsValidImage, header_at};
 ghost use Rattle.cut_laws.specs.Dividing.{CutOut, DivideTurns};
+ghost use Rattle.header_boxes.specs.Boxes.{holds};
 ghost use Rattle.image_tests.specs.Tests.{IsAddressSide};
-ghost use Rattle.security_groups.specs.Asking.{allows, has_entry, has_member, names};
-ghost use Rattle.security_groups.specs.Dividing.{AllowsNone, DivideRule, lists_name};
+ghost use Rattle.vpc_base.specs.declared.headers.Header.{Header};
+ghost use Rattle.security_groups.specs.Dividing.{AllowsNone, IsStretchOf, lists_name};
+ghost use Rattle.security_groups.specs.Rules.{DivideRule, allows, has_entry, has_member, names};
 
 use crate::rules::Rule;
 use address_sets::AddressSet;
 use box_images::{Image, Part, Side};
-use image_tests::{far_side, member_on, proto_on, rule_on, set_on};
+use image_tests::{far_side, low_on, members_from, proto_on, rule_on, up_to};
 use number_tables::NumberSet;
 use vpc_base::Dir;
 
-fn entry_on(lists: &[AddressSet], list: u32, side: Side, i: &Image) -> Part<bool>
-    requires valid { IsValidImage i.now }
-    requires walk { IsImageOfWalk i.now }
-    requires address { IsAddressSide side }
-    ensures { Answers (DivideTurns (λ a. has_entry lists.now a list))
-        (λ h. has_entry lists.now (number_of (header_at i.now h) side) list) i.now.part result }
+// How far from an address on a prefix list has all addresses, or none.
+fn entries_from(lists: &[AddressSet], list: u32, address: u32) -> (u32, bool)
+    ensures { IsStretchOf (DivideTurns (λ a. has_entry lists.now a list))
+        (λ a. has_entry lists.now a list) address result }
 {
     let list = list as usize;
     if list < lists.len() {
-        set_on(i, side, &lists[list])
+        lists[list].stretch(address)
     } else {
-        Part {
-            body: i.part,
-            told: false,
-        }
+        (u32::MAX, false)
     }
 }
 
-fn any_entry_on(lists: &[AddressSet], named: &[u32], side: Side, i: &Image) -> Part<bool>
-    requires valid { IsValidImage i.now }
-    requires walk { IsImageOfWalk i.now }
-    requires address { IsAddressSide side }
-    ensures { Answers (λ cuts. All (λ l. DivideTurns (λ a. has_entry lists.now a l) cuts) named.now)
-        (λ h. list_any (has_entry lists.now (number_of (header_at i.now h) side)) named.now)
-        i.now.part result }
+fn any_entry_from(lists: &[AddressSet], named: &[u32], address: u32) -> (u32, bool)
+    ensures { IsStretchOf (λ cuts. All (λ l. DivideTurns (λ a. has_entry lists.now a l) cuts) named.now)
+        (λ a. list_any (has_entry lists.now a) named.now) address result }
 {
-    let mut rest = *i;
+    let mut last = u32::MAX;
     for list in named {
-        let has = entry_on(lists, *list, side, &rest);
-        if has.told {
-            return Part {
-                body: has.body,
-                told: true,
-            };
+        let has = entries_from(lists, *list, address);
+        if has.1 {
+            return has;
         }
-        rest = rest.within(&has.body);
+        last = last.min(has.0);
     }
-    Part {
-        body: rest.part,
-        told: false,
-    }
+    (last, false)
 }
 
-fn any_member_on(members: &NumberSet, named: &[u32], side: Side, i: &Image) -> Part<bool>
-    requires valid { IsValidImage i.now }
-    requires walk { IsImageOfWalk i.now }
-    requires address { IsAddressSide side }
-    ensures { Answers (λ cuts. All (λ g. CutOut (λ a. has_member members.now a g) cuts) named.now)
-        (λ h. list_any (has_member members.now (number_of (header_at i.now h) side)) named.now)
-        i.now.part result }
+fn any_member_from(members: &NumberSet, named: &[u32], address: u32) -> (u32, bool)
+    ensures { IsStretchOf (λ cuts. All (λ g. CutOut (λ a. has_member members.now a g) cuts) named.now)
+        (λ a. list_any (has_member members.now a) named.now) address result }
 {
-    let mut rest = *i;
+    let mut last = u32::MAX;
     for group in named {
-        let has = member_on(&rest, side, members, *group);
-        if has.told {
-            return Part {
-                body: has.body,
-                told: true,
-            };
+        let has = members_from(members, *group, address);
+        if has.1 {
+            return has;
         }
-        rest = rest.within(&has.body);
+        last = last.min(has.0);
     }
-    Part {
-        body: rest.part,
-        told: false,
-    }
+    (last, false)
 }
 
-// Whether prefix lists or groups of a rule have the address.
-fn listed_on(
-    lists: &[AddressSet],
-    members: &NumberSet,
-    rule: &Rule,
-    side: Side,
-    i: &Image,
-) -> Part<bool>
-    requires valid { IsValidImage i.now }
-    requires walk { IsImageOfWalk i.now }
-    requires address { IsAddressSide side }
-    ensures { Answers (DivideRule lists.now members.now rule.now)
-        (λ h. lists_name lists.now members.now (number_of (header_at i.now h) side) rule.now)
-        i.now.part result }
+// The same of the prefix lists and groups of a rule.
+fn listed_from(lists: &[AddressSet], members: &NumberSet, rule: &Rule, address: u32) -> (u32, bool)
+    ensures { IsStretchOf (DivideRule lists.now members.now rule.now)
+        (λ a. lists_name lists.now members.now a rule.now) address result }
 {
-    let entry = any_entry_on(lists, rule.lists.as_slice(), side, i);
-    if entry.told {
+    let entry = any_entry_from(lists, rule.lists.as_slice(), address);
+    if entry.1 {
         return entry;
     }
-    any_member_on(
-        members,
-        rule.groups.as_slice(),
-        side,
-        &i.within(&entry.body),
-    )
+    let member = any_member_from(members, rule.groups.as_slice(), address);
+    if member.1 {
+        return member;
+    }
+    (entry.0.min(member.0), false)
+}
+
+// How far from an address on a rule names all addresses, or none.
+fn named_from(lists: &[AddressSet], members: &NumberSet, rule: &Rule, address: u32) -> (u32, bool)
+    ensures { IsStretchOf (DivideRule lists.now members.now rule.now)
+        (λ a. names lists.now members.now a rule.now) address result }
+{
+    let block = rule.blocks.stretch(address);
+    if block.1 {
+        return block;
+    }
+    let listed = listed_from(lists, members, rule, address);
+    if listed.1 {
+        return listed;
+    }
+    (block.0.min(listed.0), false)
 }
 
 fn names_on(
@@ -125,11 +107,25 @@ fn names_on(
         (λ h. names lists.now members.now (number_of (header_at i.now h) side) rule.now)
         i.now.part result }
 {
-    let block = set_on(i, side, &rule.blocks);
-    if block.told {
-        return block;
+    let low = low_on(i, side);
+    let (last, told) = named_from(lists, members, rule, low);
+    Part {
+        body: up_to(i, side, low, last),
+        told,
     }
-    listed_on(lists, members, rule, side, &i.within(&block.body))
+}
+
+// Whether a rule could name a far address of an image.
+fn could_name(lists: &[AddressSet], members: &NumberSet, rule: &Rule, dir: Dir, i: &Image) -> bool
+    requires { IsValidImage i.now }
+    ensures { result ≡ false → AllowsNone lists.now members.now dir i.now rule.now }
+{
+    let side = far_side(dir);
+    let named = named_from(lists, members, rule, low_on(i, side));
+    if named.1 {
+        return true;
+    }
+    named.0 < i.greatest(side)
 }
 
 // Whether no header of an image passes a test, by the answer for a body of it.
@@ -137,6 +133,26 @@ fn none_passes(answer: &Part<bool>, i: &Image) -> bool
     ensures { IsTrue result ↔ ((answer.now.told ≡ false) × (answer.now.body ≡ i.now.part)) }
 {
     !answer.told && answer.body == i.part
+}
+
+/// Whether a rule that has begun at a port which no header is below could allow a header of an image, its protocol
+/// aside. It couldn't where it ends before that port, or names none of the far addresses.
+pub fn could_still_allow(
+    lists: &[AddressSet],
+    members: &NumberSet,
+    rule: &Rule,
+    dir: Dir,
+    q: u16,
+    i: &Image,
+) -> bool
+    requires valid { IsValidImage i.now }
+    requires above { (h : Header) → holds h i.now.part ≡ true → q ≤ (header_at i.now h).q }
+    ensures { result ≡ false → AllowsNone lists.now members.now dir i.now rule.now }
+{
+    if rule.q_to < q {
+        return false;
+    }
+    could_name(lists, members, rule, dir, i)
 }
 
 /// Whether a rule could allow a header of an image, its ports aside. It couldn't where it names none of the far
@@ -152,15 +168,14 @@ pub fn could_allow(
     requires walk { IsImageOfWalk i.now }
     ensures { result ≡ false → AllowsNone lists.now members.now dir i.now rule.now }
 {
-    let named = names_on(lists, members, rule, far_side(dir), i);
-    if none_passes(&named, i) {
+    if !could_name(lists, members, rule, dir, i) {
         return false;
     }
     !none_passes(&proto_on(i, rule.proto), i)
 }
 
 /// Whether a rule allows the headers of an image. One that doesn't name the address is told so of all
-/// protocols and ports, and where it names none of the image's far addresses, these aren't asked.
+/// protocols and ports.
 pub fn allows_on(
     lists: &[AddressSet],
     members: &NumberSet,
@@ -173,15 +188,12 @@ pub fn allows_on(
     ensures { Answers (DivideRule lists.now members.now rule.now)
         (λ h. allows lists.now members.now dir (header_at i.now h) rule.now) i.now.part result }
 {
-    let side = far_side(dir);
-    let named = names_on(lists, members, rule, side, i);
-    if none_passes(&named, i) {
-        return named;
-    }
     let fits = rule_on(i, rule.proto, rule.q_from, rule.q_to);
     if !fits.told {
         return fits;
     }
+    let side = far_side(dir);
+    let named = names_on(lists, members, rule, side, i);
     if !named.told {
         return named;
     }

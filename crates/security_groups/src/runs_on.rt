@@ -1,26 +1,26 @@
 // Whether one of some rules allows the headers of an image.
 ghost use Rattle.std.specs.Prelude.{◌≡◌, ◌≤◌, length, take, true};
-ghost use Rattle.security_groups.specs.Asking.{allows};
 ghost use Rattle.std.specs.List.Sorted.{IsNonDecreasingBy};
 ghost use Rattle.box_images.specs.Answers.{Answers};
 ghost use Rattle.box_images.specs.Images.{IsImageOfWalk, IsValidImage, header_at};
 ghost use Rattle.header_boxes.specs.Boxes.{holds, low_of};
 ghost use Rattle.vpc_base.specs.declared.headers.Header.{Header};
-ghost use Rattle.security_groups.specs.Dividing.{DivideRules, FindsOne, IsLeftWith, any_allows};
+ghost use Rattle.security_groups.specs.Dividing.{FindsOne, IsLeftWith};
+ghost use Rattle.security_groups.specs.Rules.{DivideRules, allows, any_allows};
 ghost use Rattle.security_groups.specs.Tables.{AreLasts, BeginAfter};
 
 use crate::asking::allows;
-use crate::on_images::{allows_on, could_allow};
+use crate::on_images::{allows_on, could_allow, could_still_allow};
+use crate::port_tables::run_of;
 use crate::rules::Rule;
-use crate::tables::run_of;
 use address_sets::AddressSet;
-use box_images::{Image, Part};
+use box_images::{Image, Part, Side};
 use header_boxes::Box5;
 use image_tests::begins_on;
 use number_tables::NumberSet;
 use vpc_base::{Dir, Header};
 
-// A rule that ends before a port that no header is below isn't asked.
+// The rules have begun at a port that no header is below.
 fn any_in_on(
     lists: &[AddressSet],
     members: &NumberSet,
@@ -37,7 +37,7 @@ fn any_in_on(
 {
     let mut rest = *i;
     for rule in rules {
-        if q <= rule.q_to {
+        if could_still_allow(lists, members, rule, dir, q, &rest) {
             let allowed = allows_on(lists, members, rule, dir, &rest);
             if allowed.told {
                 return Part {
@@ -45,7 +45,7 @@ fn any_in_on(
                     told: true,
                 };
             }
-            rest = rest.within(&allowed.body);
+            rest.keep(&allowed.body);
         }
     }
     Part {
@@ -110,12 +110,15 @@ pub fn before_next(
     requires later { BeginAfter rules.now begun (header_at i.now (low_of i.now.part)).q }
     ensures { IsLeftWith lists.now members.now dir rules.now (take begun rules.now) i.now result }
 {
+    let last = i.greatest(Side::Q);
     let mut passed = 0u8;
     for rule in &rules[begun..] {
-        let before = begins_on(i, rule.q_from).body;
         // Where no header comes to a rule's first port, none comes to that of a later one.
-        if before == i.part || passed == MOST_PASSED || could_allow(lists, members, rule, dir, i) {
-            return before;
+        if last < u32::from(rule.q_from) {
+            return i.part;
+        }
+        if passed == MOST_PASSED || could_allow(lists, members, rule, dir, i) {
+            return begins_on(i, rule.q_from).body;
         }
         passed = passed.saturating_add(1);
     }

@@ -1,161 +1,88 @@
-// Rules in ascending order of their first ports.
-ghost use Rattle.std.specs.Prelude.{◌≡◌, ◌*◌, ◌<◌, ◌≤◌, IfOk, IsPermutation, length};
-ghost use Rattle.std.specs.List.Sorted.{IsNonDecreasingBy};
-ghost use Rattle.security_groups.specs.Asking.{allows, least, lesser};
-ghost use Rattle.security_groups.specs.Tables.{AreBegun, AreLasts, EndBy, run_of};
+// The rules of a group and direction.
+ghost use Rattle.std.specs.Prelude.{IfOk, IfSome, IsPermutation};
+ghost use Rattle.security_groups.specs.Joined.{SayTheSame};
 
-use crate::asking::allows;
-use crate::on_images::allows_on;
+use crate::joined_rules::{has_alike, joined};
+use crate::port_tables::PortTable;
 use crate::rules::Rule;
-use crate::runs_on::{allowing_in_runs, any_in_runs_on, before_next};
 use address_sets::AddressSet;
 use box_images::{Image, Part};
+use header_boxes::Box5;
 use number_tables::NumberSet;
 use std::alloc::{AllocError, Global};
 use std::marker::Model;
 use vpc_base::{Dir, Header};
 
+// Rules of one protocol and the same ports come to stand beside one another.
 fn sort(rules: &mut Vec<Rule>)
-    ensures same { IsPermutation rules.old.items rules.new.items }
-    ensures ascend { IsNonDecreasingBy (λ r. r.q_from) rules.new.items }
+    ensures { IsPermutation rules.old.items rules.new.items }
 {
-    rules.sort_unstable_by_key(|rule| rule.q_from);
+    rules.sort_unstable_by_key(|rule| (rule.q_from, rule.q_to, rule.proto));
 }
 
-// 64 rules, or those that are left.
-pub fn run_of(rules: &[Rule], k: usize) -> &[Rule]
-    requires { 64 * k ≤ length rules.now }
-    ensures { result.now ≡ run_of k rules.now }
+// One rule for each protocol and ports, where some rules have them in common.
+fn joined_table(alloc: Global, rules: &[Rule]) -> Result<Option<PortTable>, AllocError>
+    ensures { IfOk result (λ o. IfSome o (SayTheSame rules.now)) }
 {
-    let rest = &rules[64 * k..];
-    if rest.len() < 64 { rest } else { &rest[..64] }
-}
-
-// The greatest last port.
-fn last_of(rules: &[Rule]) -> u16
-    ensures { EndBy result rules.now }
-{
-    let mut last = 0;
-    for rule in rules {
-        if last < rule.q_to {
-            last = rule.q_to;
-        }
+    if !has_alike(rules) {
+        return Ok(None);
     }
-    last
+    let joined = joined(alloc, rules)?;
+    let table = PortTable::of(alloc, joined)?;
+    Ok(Some(table))
 }
 
-// The greatest last port of each run.
-fn lasts_of(alloc: Global, rules: &[Rule]) -> Result<Vec<u16>, AllocError>
-    ensures { IfOk result (λ v. AreLasts rules.now v.items) }
-{
-    let mut lasts = Vec::new(alloc);
-    for k in 0..rules.len().div_ceil(64) {
-        lasts.push(last_of(run_of(rules, k)))?;
-    }
-    Ok(lasts)
-}
-
-fn lesser(one: Option<u32>, other: Option<u32>) -> Option<u32>
-    ensures { result ≡ lesser one other }
-{
-    match one {
-        None => other,
-        Some(a) => match other {
-            None => Some(a),
-            Some(b) => { if b < a { Some(b) } else { Some(a) } }
-        },
-    }
-}
-
-// The least number of a rule that allows the packet.
-fn least_in(
-    lists: &[AddressSet],
-    members: &NumberSet,
-    rules: &[Rule],
-    dir: Dir,
-    h: &Header,
-) -> Option<u32>
-    ensures { result ≡ least (allows lists.now members.now dir h.now) rules.now }
-{
-    let mut least = None;
-    for rule in rules {
-        if allows(lists, members, rule, dir, h) {
-            least = lesser(least, Some(rule.number));
-        }
-    }
-    least
-}
-
-// The same among the runs that don't end before the port.
-fn least_in_runs(
-    lists: &[AddressSet],
-    members: &NumberSet,
-    rules: &[Rule],
-    lasts: &[u16],
-    dir: Dir,
-    h: &Header,
-) -> Option<u32>
-    requires { AreLasts rules.now lasts.now }
-    ensures { result ≡ least (allows lists.now members.now dir h.now) rules.now }
-{
-    let mut least = None;
-    for (k, last) in lasts.iter().enumerate() {
-        if h.q <= *last {
-            least = lesser(least, least_in(lists, members, run_of(rules, k), dir, h));
-        }
-    }
-    least
-}
-
-/// The rules of a group and direction, with the greatest last port of each run of 64. Contracts see them in
-/// ascending order of their first ports.
+/// The rules of a group and direction, and where some have their protocol and ports in common, rules that say the same
+/// with one in place of those: whether any rule allows a packet is asked of these, whose addresses are found by a search.
+/// Contracts see the rules.
 pub struct RuleTable {
-    rules: Vec<Rule>,
-    lasts: Vec<u16>,
+    rules: PortTable,
+    joined: Option<PortTable>,
 }
 
 impl Drop for RuleTable {
     fn drop(self) {
-        let RuleTable { rules, lasts } = self;
+        let RuleTable { rules, joined } = self;
         drop(rules);
-        drop(lasts);
+        drop(joined);
     }
 }
 
 impl Model for RuleTable {
-    ghost use Rattle.std.specs.Prelude.{List};
+    ghost use Rattle.std.specs.Prelude.{IfSome, List};
     ghost use Rattle.security_groups.specs.declared.rules.Rule.{Rule};
-    ghost use Rattle.security_groups.specs.Tables.{IsTable};
+    ghost use Rattle.security_groups.specs.Joined.{SayTheSame};
 
     ghost Value = { List Rule };
 
-    ghost view = { λ t. t.rules.items };
+    ghost view = { λ t. t.rules };
 
-    ghost invariant = { λ t. IsTable t.rules.items t.lasts.items };
+    ghost invariant = { λ t. IfSome t.joined (SayTheSame t.rules) };
 }
 
 impl RuleTable {
+    ghost use Rattle.std.specs.Prelude.{◌≡◌};
     ghost use Rattle.box_images.specs.Answers.{Answers};
     ghost use Rattle.box_images.specs.Images.{IsImageOfWalk, IsValidImage, header_at};
-    ghost use Rattle.security_groups.specs.Dividing.{DivideRules, FindsOne, any_allows, rule_at};
+    ghost use Rattle.security_groups.specs.Asking.{least};
+    ghost use Rattle.security_groups.specs.Dividing.{IsAllowedOn};
+    ghost use Rattle.security_groups.specs.Rules.{DivideRules, allows, any_allows};
 
-    /// The table of some rules, in any order. It takes time n log n.
+    /// The table of some rules, in any order. It takes time n log n in the rules and what they name.
     pub fn of(alloc: Global, mut rules: Vec<Rule>) -> Result<RuleTable, AllocError>
         ensures { IfOk result (IsPermutation rules.items) }
     {
         sort(&mut rules);
-        let lasts = lasts_of(alloc, rules.as_slice())?;
-        Ok(RuleTable { rules, lasts })
+        let joined = joined_table(alloc, rules.as_slice())?;
+        let rules = PortTable::of(alloc, rules)?;
+        Ok(RuleTable { rules, joined })
     }
 
-    // The rules that begin at or before a port, and the greatest last port of each of their runs.
-    fn begun(&self, q: u16) -> (&[Rule], &[u16])
-        ensures rules { AreBegun self.now q result.0.now }
-        ensures lasts { AreLasts result.0.now result.1.now }
+    /// The rules, in ascending order of their first ports.
+    pub fn as_slice(&self) -> &[Rule]
+        ensures { result.now ≡ self.now }
     {
-        let begun = self.rules.partition_point(|rule| rule.q_from <= q);
-        let runs = begun.div_ceil(64);
-        (&self.rules[..begun], &self.lasts[..runs])
+        self.rules.as_slice()
     }
 
     /// The least number of a rule that allows the packet. It asks the rules that begin at or before its
@@ -169,47 +96,29 @@ impl RuleTable {
     ) -> Option<u32>
         ensures { result ≡ least (allows lists.now members.now dir h.now) self.now }
     {
-        let (rules, lasts) = self.begun(h.q);
-        least_in_runs(lists, members, rules, lasts, dir, h)
+        self.rules.least_allowing(lists, members, dir, h)
     }
 
-    /// The number of a rule in this order that allows the packet, if one does. It asks as `least_allowing`
-    /// does, and stops at the first one.
-    pub fn allowing(
+    /// The body on which the rules of one protocol and the same ports allow the headers of an image, where some that
+    /// do allow the low corner.
+    pub fn allowed_on(
         &self,
-        lists: &[AddressSet],
-        members: &NumberSet,
-        dir: Dir,
-        h: &Header,
-    ) -> Option<usize>
-        ensures { FindsOne (allows lists.now members.now dir h.now) self.now result }
-    {
-        let (rules, lasts) = self.begun(h.q);
-        allowing_in_runs(lists, members, rules, lasts, dir, h)
-    }
-
-    /// Whether the rule of this number allows the headers of an image.
-    pub fn one_allows_on(
-        &self,
-        number: usize,
         lists: &[AddressSet],
         members: &NumberSet,
         dir: Dir,
         i: &Image,
-    ) -> Part<bool>
+    ) -> Option<Box5>
         requires valid { IsValidImage i.now }
         requires walk { IsImageOfWalk i.now }
-        requires within { number < length self.now }
-        ensures { Answers (DivideRules lists.now members.now self.now)
-            (λ h. allows lists.now members.now dir (header_at i.now h) (rule_at self.now number))
-            i.now.part result }
+        ensures { IfSome result (IsAllowedOn lists.now members.now dir self.now i.now) }
     {
-        allows_on(lists, members, &self.rules[number], dir, i)
+        match &self.joined {
+            Some(joined) => joined.allowed_on(lists, members, dir, i),
+            None => self.rules.allowed_on(lists, members, dir, i),
+        }
     }
 
-    /// Whether one of the rules allows the headers of an image. It asks those that begin at or before the
-    /// port of the low corner, run by run, but no run of which all rules end before it. Of those that begin
-    /// later, the first one that could allow a header ends the body.
+    /// Whether one of the rules allows the headers of an image.
     pub fn any_allows_on(
         &self,
         lists: &[AddressSet],
@@ -223,16 +132,9 @@ impl RuleTable {
             (λ h. any_allows lists.now members.now dir self.now (header_at i.now h))
             i.now.part result }
     {
-        let q = i.value(&i.part.low()).q;
-        let (rules, lasts) = self.begun(q);
-        let rest = i.within(&before_next(
-            lists,
-            members,
-            self.rules.as_slice(),
-            rules.len(),
-            dir,
-            i,
-        ));
-        any_in_runs_on(lists, members, rules, lasts, dir, q, &rest)
+        match &self.joined {
+            Some(joined) => joined.any_allows_on(lists, members, dir, i),
+            None => self.rules.any_allows_on(lists, members, dir, i),
+        }
     }
 }

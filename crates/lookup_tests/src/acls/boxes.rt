@@ -76,9 +76,9 @@ fn verdicts_on_boxes(rt: HostRuntime) -> Result<(), Fail> {
         (6, ten, 443, (true, 100), (6, 0x0AFF_FFFF, 443)),
         (6, ten - 1, 443, (false, 32767), (6, ten - 1, 32767)),
         (6, after_ten, 443, (false, 32767), (6, most, 32767)),
-        // the rows before it are passed over to the end of the box, or to the end of their protocol
+        // rows of the ports before it are passed over to the end of the box, where that holds more protocols too
         (6, ten, 40000, (true, 110), (6, most, u16::MAX)),
-        (9, ten, 444, (false, 32767), (6, most, 32767)),
+        (9, ten, 444, (false, 32767), (9, most, 32767)),
     ];
     for (last_proto, src, q, verdict, body) in cases {
         assert!(rt; last_proto >= 6);

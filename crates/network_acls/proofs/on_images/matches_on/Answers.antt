@@ -1,4 +1,5 @@
 use Rattle.std.proofs.Common.{Bool, subst}
+use Rattle.std.proofs.lemmas.Bool.{not-true}
 use Rattle.vpc_base.specs.declared.headers.Header.{Header}
 use Rattle.box_images.specs.Answers.{Answers}
 use Rattle.box_images.specs.Fields.{number_of}
@@ -24,15 +25,10 @@ returns-then-not-fits c =
     answers_rule enough r.proto r.q_from r.q_to i far i.part c.rule_on-fits.result
     (answers_refused enough fits far i.part c.rule_on-fits.result c.if-not-fits.true (rule_of_row i r c.rule_on-fits.result c.rule_on-fits.ensures))
 
-pub returns-then-eq : goal.returns-then-eq
-returns-then-eq c =
-    block_refuses c.args.i.now c.args.dir c.args.row.now c.far_side-side.result c.block_on-far.result c.far_side-side.ensures.far c.if-not-far.true
-    c.block_on-far.ensures
-
-pub returns-then-not-far-2 : goal.returns-then-not-far-2
-returns-then-not-far-2 c =
-    block_refuses c.args.i.now c.args.dir c.args.row.now c.far_side-side.result c.block_on-far.result c.far_side-side.ensures.far c.if-not-far-2.true
-    c.block_on-far.ensures
+pub returns-then-not-far : goal.returns-then-not-far
+returns-then-not-far c =
+    block_refuses c.args.i.now c.args.dir c.args.row.now c.far_side-side.result c.block_on-far.result c.far_side-side.ensures.far
+    (not-true c.block_on-far.result.told c.if-not-far.true) c.block_on-far.ensures
 
 pub returns : goal.returns
 returns c =

@@ -1,6 +1,6 @@
 use Rattle.std.proofs.Common.{◌≡◌, drop}
 use Rattle.std.specs.List.{list_any}
-use Rattle.security_groups.specs.Asking.{has_member}
+use Rattle.security_groups.specs.Rules.{has_member}
 use Rattle.security_groups.proofs.asking.any_member.Given as goal
 
 abbrev pub invariant-loop-group : goal.invariant-loop-group

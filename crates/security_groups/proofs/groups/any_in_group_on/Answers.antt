@@ -3,11 +3,11 @@ use Rattle.box_images.specs.Answers.{Answers}
 use Rattle.box_images.specs.Images.{header_at}
 use Rattle.security_groups.proofs.GroupsOn.{rules-found}
 use Rattle.security_groups.proofs.groups.any_in_group_on.Goals as goal
-use Rattle.security_groups.specs.Dividing.{DivideRules, any_allows}
+use Rattle.security_groups.specs.Rules.{DivideRules, any_allows}
 use Rattle.security_groups.specs.declared.rules.Rule.{Rule}
 
-pub returns : goal.returns
-returns c =
+pub returns-clause-answers : goal.returns-clause-answers
+returns-clause-answers c =
     let lists = c.args.lists.now in
     let members = c.args.members.now in
     let dir = c.args.dir in

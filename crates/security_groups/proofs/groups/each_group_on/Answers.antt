@@ -28,7 +28,7 @@ loop-group-preserved c =
     let has = row_has named k row (omega arith) is in
     trying_next enough (any_passes test named) (any_passes test) test (none_passes_yet test) named i k rest row x
     c.within-rest.result (omega arith) is c.if-allowed.false c.within-rest.ensures.image c.within-rest.ensures.valid c.within-rest.ensures.kind
-    c.loop-group.invariant (group_of_rest lists members groups named dir i rest row x has c.loop-group.invariant.image c.any_in_group_on-allowed.ensures)
+    c.loop-group.invariant (group_of_rest lists members groups named dir i rest row x has c.loop-group.invariant.image c.any_in_group_on-allowed.ensures.answers)
 
 pub returns-then-allowed : goal.returns-then-allowed
 returns-then-allowed c =
@@ -48,4 +48,4 @@ returns-then-allowed c =
     let has = row_has named k row (omega arith) is in
     trying_last enough (any_passes test named) (any_passes test) test named i k rest row x true
     (one_passes test row) (omega arith) is c.if-allowed.true
-    c.loop-group.invariant (group_of_rest lists members groups named dir i rest row x has c.loop-group.invariant.image c.any_in_group_on-allowed.ensures)
+    c.loop-group.invariant (group_of_rest lists members groups named dir i rest row x has c.loop-group.invariant.image c.any_in_group_on-allowed.ensures.answers)

@@ -1,5 +1,6 @@
 use Rattle.std.proofs.Common.{◌&&◌, [], Bool, ap, subst}
 use Rattle.std.proofs.Math.Bool.{and_comm}
+use Rattle.std.proofs.lemmas.Bool.{not-true}
 use Rattle.vpc_base.specs.declared.headers.Header.{Header}
 use Rattle.box_images.specs.Answers.{Answers}
 use Rattle.box_images.specs.Fields.{number_of}
@@ -11,8 +12,7 @@ use Rattle.image_tests.specs.Tests.{fits_rule}
 use Rattle.vpc_model.specs.Cuts.{cuts_of_rule}
 use Rattle.vpc_model.specs.Filter.{far_address}
 use Rattle.security_groups.proofs.on_images.allows_on.Goals as goal
-use Rattle.security_groups.specs.Asking.{names}
-use Rattle.security_groups.specs.Dividing.{DivideRule}
+use Rattle.security_groups.specs.Rules.{DivideRule, names}
 
 pub returns-then-not-fits : goal.returns-then-not-fits
 returns-then-not-fits c =
@@ -40,7 +40,7 @@ returns-then-not-named c =
     let at : Header → Bool = λ h. names lists members (number_of (header_at i h) s) r in
     answers_rule enough r.proto r.q_from r.q_to i far i.part x
     (answers_same enough (λ h. far h && fits h) (λ h. fits h && far h) i.part x (λ h. and_comm (far h) (fits h))
-    (answers_refused enough far fits i.part x c.if-not-named.true
+    (answers_refused enough far fits i.part x (not-true x.told c.if-not-named.true)
     (answers_same enough at far i.part x (λ h. ap (λ a. names lists members a r) (c.far_side-side.ensures.far (header_at i h))) c.names_on-named.ensures)))
 
 pub returns : goal.returns

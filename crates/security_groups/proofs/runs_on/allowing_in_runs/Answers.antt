@@ -1,6 +1,6 @@
 use Rattle.std.proofs.Common.{◌∙◌, Some, ap, get_or, subst, sym, List}
 use Rattle.std.specs.List.{list_any}
-use Rattle.security_groups.specs.Asking.{allows}
+use Rattle.security_groups.specs.Rules.{allows}
 use Rattle.security_groups.specs.Dividing.{FindsOne}
 use Rattle.security_groups.specs.Tables.{run_of}
 use Rattle.security_groups.specs.declared.rules.Rule.{Rule}

@@ -1,6 +1,6 @@
 use Rattle.std.proofs.Common.{◌≡◌, ◌*◌, drop}
 use Rattle.std.specs.List.{list_any}
-use Rattle.security_groups.specs.Asking.{allows}
+use Rattle.security_groups.specs.Rules.{allows}
 use Rattle.security_groups.proofs.runs_on.allowing_in_runs.Given as goal
 
 abbrev pub invariant-loop-k : goal.invariant-loop-k

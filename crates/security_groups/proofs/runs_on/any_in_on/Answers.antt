@@ -1,10 +1,10 @@
 use Rattle.std.proofs.Common.{◌+◌, arith, subst, sym, true}
-use Rattle.image_tests.proofs.Trying.{IsTrying, any_passes, none_passes_yet, one_passes, row_has, trying_first, trying_last, trying_next}
-use Rattle.security_groups.proofs.AskingOn.{rule_of_rest, rule_test}
-use Rattle.security_groups.proofs.RunsOn.{rule_passed}
+use Rattle.image_tests.proofs.Trying.{IsTrying, any_passes, none_passes_yet, one_passes, row_has, trying_first, trying_last, trying_next, trying_passed}
+use Rattle.security_groups.proofs.AskingOn.{none_of_rest, rule_of_rest, rule_test}
+use Rattle.security_groups.proofs.RunsOn.{ports-above-rest}
 use Rattle.security_groups.proofs.runs_on.any_in_on.Goals as goal
-use Rattle.security_groups.proofs.runs_on.any_in_on.Goals.{else-q-rule, then-q-rule+else-allowed}
-use Rattle.security_groups.specs.Dividing.{DivideRules}
+use Rattle.security_groups.proofs.runs_on.any_in_on.Goals.{else-could_still_allow, then-could_still_allow+else-allowed}
+use Rattle.security_groups.specs.Rules.{DivideRules}
 
 pub loop-rule-init : goal.loop-rule-init
 loop-rule-init c =
@@ -24,18 +24,25 @@ loop-rule-preserved c =
     let k = c.loop-rule.rule-index in
     let rest = c.loop-rule.rest in
     let row = c.rule-item.result in
-    elim c.if-q-rule.branch [
-      | then-q-rule+else-allowed w ↦
+    let trying = IsTrying (DivideRules lists members rules) (any_passes test rules) (any_passes test) rules i (k + 1) in
+    elim c.if-could_still_allow.branch [
+      | then-could_still_allow+else-allowed w ↦
           let x = w.allows_on-allowed.result in
           let has = row_has rules k row (omega arith) c.rule-item.is in
-          subst (IsTrying (DivideRules lists members rules) (any_passes test rules) (any_passes test) rules i (k + 1)) (sym w.rest-is)
+          subst trying (sym w.rest-is)
           (trying_next (DivideRules lists members rules) (any_passes test rules) (any_passes test) test (none_passes_yet test) rules i k rest row x
-          w.within-rest.result (omega arith) c.rule-item.is w.if-allowed.false w.within-rest.ensures.image w.within-rest.ensures.valid w.within-rest.ensures.kind
+          w.keep.new.self (omega arith) c.rule-item.is w.if-allowed.false w.keep.ensures.image w.keep.ensures.valid w.keep.ensures.kind
           c.loop-rule.invariant (rule_of_rest lists members rules dir i rest row x has c.loop-rule.invariant.image w.allows_on-allowed.ensures))
-      | else-q-rule w ↦
-          subst (IsTrying (DivideRules lists members rules) (any_passes test rules) (any_passes test) rules i (k + 1)) (sym w.rest-is)
-          (rule_passed lists members dir rules i rest k c.args.q row c.requires.above w.if-q-rule.false (omega arith) c.rule-item.is c.loop-rule.invariant)
+      | else-could_still_allow w ↦
+          subst trying (sym w.rest-is)
+          (trying_passed (DivideRules lists members rules) (any_passes test rules) (any_passes test) test (none_passes_yet test) rules i k rest row
+          (omega arith) c.rule-item.is (none_of_rest lists members dir i rest row c.loop-rule.invariant.image (c.could_still_allow.ensures w.if-could_still_allow.false))
+          c.loop-rule.invariant)
     ]
+
+pub could_still_allow-requires-clause-above : goal.could_still_allow-requires-clause-above
+could_still_allow-requires-clause-above c =
+    ports-above-rest c.args.i.now c.loop-rule.rest c.args.q c.requires.above c.loop-rule.invariant.image c.loop-rule.invariant.reduced.inside.within
 
 pub returns-then-allowed : goal.returns-then-allowed
 returns-then-allowed c =

@@ -4,7 +4,7 @@ use Rattle.box_images.specs.Images.{header_at}
 use Rattle.security_groups.proofs.RunsOn.{IsInRuns, ports-above-rest, runs_allow, runs_next, runs_passed}
 use Rattle.security_groups.proofs.runs_on.any_in_runs_on.Goals as goal
 use Rattle.security_groups.proofs.runs_on.any_in_runs_on.Goals.{then-q-last+else-allowed, else-q-last}
-use Rattle.security_groups.specs.Dividing.{DivideRules, any_allows}
+use Rattle.security_groups.specs.Rules.{DivideRules, any_allows}
 use Rattle.security_groups.specs.declared.rules.Rule.{Rule}
 
 pub loop-k-preserved : goal.loop-k-preserved

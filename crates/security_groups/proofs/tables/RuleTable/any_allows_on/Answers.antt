@@ -1,35 +1,21 @@
-use Rattle.std.proofs.Common.{◌∙◌, ap}
-use Rattle.box_images.proofs.Reducing.{walk_within}
-use Rattle.box_images.specs.Fields.{value_of}
-use Rattle.security_groups.proofs.RunsOn.{any-allows, begin-after, few-begun, ports-above}
+use Rattle.std.proofs.Common.{List, subst}
+use Rattle.box_images.specs.Answers.{Answers}
+use Rattle.box_images.specs.Images.{header_at}
+use Rattle.security_groups.proofs.Joining.{same-answers, same-found}
 use Rattle.security_groups.proofs.tables.RuleTable.any_allows_on.Goals as goal
+use Rattle.security_groups.specs.Rules.{DivideRules, any_allows}
+use Rattle.security_groups.specs.declared.rules.Rule.{Rule}
 
-pub before_next-requires-clause-within : goal.before_next-requires-clause-within
-before_next-requires-clause-within c =
-    few-begun c.args.self.now c.as_slice.result.now c.begun.result.0.now c.value-q.result.q (c.as_slice.ensures.value ∙ c.self.view_is) c.begun.ensures.rules
+pub returns-in-Some : goal.returns-in-Some
+returns-in-Some c =
+    same-answers c.args.lists.now c.args.members.now c.args.dir c.self.inside.rules c.in-Some.joined c.args.self.now c.args.i.now c.any_allows_on.result
+    (same-found c.self.inside.rules c.in-Some.joined c.self.inside.joined c.in-Some.is c.self.invariant) c.self.view_is c.any_allows_on.ensures
 
-pub before_next-requires-clause-later : goal.before_next-requires-clause-later
-before_next-requires-clause-later c =
-    begin-after c.args.self.now c.as_slice.result.now c.begun.result.0.now c.value-q.result.q _ (c.as_slice.ensures.value ∙ c.self.view_is)
-    (ap (λ h. h.q) c.value-q.ensures.value ∙ ap (value_of c.args.i.now.q) c.low.ensures.value) c.begun.ensures.rules
-
-pub within-rest-requires-clause-within : goal.within-rest-requires-clause-within
-within-rest-requires-clause-within c = c.before_next.ensures.inside.within
-
-pub any_in_runs_on-requires-clause-walk : goal.any_in_runs_on-requires-clause-walk
-any_in_runs_on-requires-clause-walk c = walk_within c.args.i.now c.within-rest.result c.requires.walk c.within-rest.ensures.kind
-
-pub any_in_runs_on-requires-clause-above : goal.any_in_runs_on-requires-clause-above
-any_in_runs_on-requires-clause-above c =
-    let i = c.args.i.now in
-    ports-above i c.within-rest.result c.before_next.result c.value-q.result.q
-    (ap (λ h. h.q) c.value-q.ensures.value ∙ ap (value_of i.q) c.low.ensures.value)
-    c.before_next.ensures.inside.within c.within-rest.ensures.image
-
-pub returns : goal.returns
-returns c =
+pub returns-in-None : goal.returns-in-None
+returns-in-None c =
     let lists = c.args.lists.now in
     let members = c.args.members.now in
     let dir = c.args.dir in
-    any-allows lists members dir c.args.self.now c.as_slice.result.now c.begun.result.0.now c.value-q.result.q c.args.i.now c.within-rest.result c.before_next.result
-    c.any_in_runs_on.result (c.as_slice.ensures.value ∙ c.self.view_is) c.begun.ensures.rules c.before_next.ensures c.within-rest.ensures.image c.any_in_runs_on.ensures
+    let i = c.args.i.now in
+    subst (λ (rs : List Rule). Answers (DivideRules lists members rs) (λ h. any_allows lists members dir rs (header_at i h)) i.part c.any_allows_on-in-None.result) c.self.view_is
+    c.any_allows_on-in-None.ensures
