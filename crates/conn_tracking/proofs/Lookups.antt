@@ -1,8 +1,10 @@
 -- Look-ups among connections.
-use Rattle.std.proofs.Common.{◌≡◌, ◌<◌, ◌+◌, ◌||◌, ◌==◌, ◌&&◌, ℕ, Bool, true, false, List, [], ◌∷◌, ◌++◌, Some, None, cond, refl, sym, ap, ◌∙◌, get_or, length, length-append, take, drop, arith, rules}
+use Rattle.std.proofs.Common.{◌≡◌, ◌<◌, ◌+◌, ◌||◌, ◌==◌, ◌&&◌, ℕ, Bool, true, false, List, [], ◌∷◌, ◌++◌, Some, None, cond, refl, sym, ap, ◌∙◌, get_or, length, length-append, take, drop, arith}
 use Rattle.std.specs.Cmp.{eq_by_cmp_equiv}
 use Rattle.std.specs.List.{list_any}
-use Rattle.std.specs.Ordering.{is_eq}
+use Rattle.std.specs.Ordering.{bool_cmp, is_eq, nat_cmp, ordering_then}
+use Rattle.std.specs.declared.cmp.Ordering.{Ordering}
+use Rattle.std.specs.declared.cmp.Ordering.TheVariants.{Equal, Greater, Less}
 use Rattle.std.proofs.lemmas.Bool.Decides.{nat_tests}
 use Rattle.std.proofs.lemmas.List.{take-append-drop, take-append-le}
 use Rattle.std.proofs.lemmas.List.Folds.{list_any-append, list_any_more}
@@ -11,9 +13,9 @@ use Rattle.vpc_base.specs.Header.{reply_of}
 use Rattle.vpc_base.specs.declared.headers.Dir.TheVariants.{Inward, Outward}
 use Rattle.vpc_model.specs.declared.numbers.EniNo.{EniNo}
 use Rattle.vpc_model.specs.Types.{Dir, Header}
-use Rattle.vpc_model.specs.Connections.{Connection, is_header, is_tracked, same_connection}
+use Rattle.vpc_model.specs.Connections.{Connection, is_header, is_tracked, same_connection, same_header}
 use Rattle.vpc_base.specs.Header.{opening_of}
-use Rattle.conn_tracking.specs.Order.{order_of_connections, order_of_connections_total}
+use Rattle.conn_tracking.specs.Order.{dir_is_outward, order_by_ports, order_of_connections, order_of_connections_total, order_of_ports}
 use Rattle.conn_tracking.specs.Tracked.{AreFirst}
 
 -- ---- lists
@@ -33,9 +35,70 @@ list_any-none p none (x ∷ xs) = rw (none x, list_any-none p none xs)
 
 -- ---- connections in order
 
--- the order tells connections apart
+-- nothing differs where neither part does
+pub is_eq-then : (x y : Ordering) (b c : Bool) → is_eq x ≡ b → is_eq y ≡ c → is_eq (ordering_then x y) ≡ (b && c)
+is_eq-then x y b c e f = parts x ∙ ap (λ (d : Bool). d && is_eq y) e ∙ ap (λ (d : Bool). b && d) f
+  where
+    parts : (o : Ordering) → is_eq (ordering_then o y) ≡ (is_eq o && is_eq y)
+    parts Less = refl
+    parts Equal = refl
+    parts Greater = refl
+
+pub is_eq-number : (x y : ℕ) → is_eq (nat_cmp x y) ≡ (x == y)
+is_eq-number x y = grind (arith, nat_tests)
+
+is_eq-dir : (d e : Dir) → is_eq (bool_cmp (dir_is_outward d) (dir_is_outward e)) ≡ same_dir d e
+is_eq-dir Inward Inward = refl
+is_eq-dir Inward Outward = refl
+is_eq-dir Outward Inward = refl
+is_eq-dir Outward Outward = refl
+
+pub and-flip : (a b : Bool) → (a && b) ≡ (b && a)
+and-flip true true = refl
+and-flip true false = refl
+and-flip false true = refl
+and-flip false false = refl
+
+fields-turned : (p q dst src proto : Bool) → ((((p && q) && dst) && src) && proto) ≡ (proto && (src && (dst && (p && q))))
+fields-turned p q dst src proto =
+    and-flip (((p && q) && dst) && src) proto
+    ∙ ap (λ (b : Bool). proto && b) (and-flip ((p && q) && dst) src ∙ ap (λ (b : Bool). src && b) (and-flip (p && q) dst))
+
+-- the order tells headers apart
+pub order_by_ports_is_same : (a b : Header) → is_eq (order_by_ports a b) ≡ same_header a b
+order_by_ports_is_same a b =
+    let p = a.p == b.p in
+    let q = a.q == b.q in
+    let dst = a.dst == b.dst in
+    let src = a.src == b.src in
+    let proto = a.proto == b.proto in
+    let ports = order_of_ports a b in
+    let to = ordering_then ports (nat_cmp a.dst b.dst) in
+    let from = ordering_then to (nat_cmp a.src b.src) in
+    is_eq-then from (nat_cmp a.proto b.proto) (((p && q) && dst) && src) proto
+    (is_eq-then to (nat_cmp a.src b.src) ((p && q) && dst) src
+    (is_eq-then ports (nat_cmp a.dst b.dst) (p && q) dst
+    (is_eq-then (nat_cmp a.p b.p) (nat_cmp a.q b.q) p q (is_eq-number a.p b.p) (is_eq-number a.q b.q)) (is_eq-number a.dst b.dst)) (is_eq-number a.src b.src)) (is_eq-number a.proto b.proto)
+    ∙ fields-turned p q dst src proto
+
+parts-turned : (header eni dir : Bool) → ((header && eni) && dir) ≡ (eni && (dir && header))
+parts-turned true true true = refl
+parts-turned true true false = refl
+parts-turned true false dir = refl
+parts-turned false true true = refl
+parts-turned false true false = refl
+parts-turned false false dir = refl
+
+-- and connections
 order_is_same : (a b : Connection) → is_eq (order_of_connections a b) ≡ same_connection a b
-order_is_same a b = search rules
+order_is_same a b =
+    let header = same_header a.header b.header in
+    let eni = a.eni.0 == b.eni.0 in
+    let dir = same_dir a.dir b.dir in
+    is_eq-then (ordering_then (order_by_ports a.header b.header) (nat_cmp a.eni.0 b.eni.0)) (bool_cmp (dir_is_outward a.dir) (dir_is_outward b.dir)) (header && eni) dir
+    (is_eq-then (order_by_ports a.header b.header) (nat_cmp a.eni.0 b.eni.0) header eni (order_by_ports_is_same a.header b.header) (is_eq-number a.eni.0 b.eni.0))
+    (is_eq-dir a.dir b.dir)
+    ∙ parts-turned header eni dir
 
 same_connection-flip : (a b : Connection) → same_connection a b ≡ same_connection b a
 same_connection-flip a b = sym (order_is_same a b) ∙ (eq_by_cmp_equiv order_of_connections_total).symm a b ∙ order_is_same b a

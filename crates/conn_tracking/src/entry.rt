@@ -7,6 +7,7 @@ ghost use Rattle.vpc_base.specs.Dir as dirs;
 ghost use Rattle.vpc_model.specs.Connections.{same_connection};
 ghost use Rattle.conn_tracking.specs.Order.{dir_is_outward, order_of_connections, order_of_connections_total};
 
+use crate::order_by_ports;
 use std::cmp::Ordering;
 use std::marker::Model;
 use vpc_base::{Dir, Header};
@@ -42,7 +43,7 @@ impl Default for Entry {
     }
 }
 
-/// By interface, then direction, then header.
+/// By header, then interface, then direction.
 impl Ord for Entry {
     ghost cmp = { order_of_connections };
 
@@ -52,10 +53,11 @@ impl Ord for Entry {
 
     ghost matches_eq = { λ a b. refl };
 
+    #[inline]
     fn cmp(&self, other: &Entry) -> Ordering {
-        let dirs = is_outward(self.dir).cmp(&is_outward(other.dir));
-        let headers = self.header.order(&other.header);
-        self.eni.0.cmp(&other.eni.0).then(dirs.then(headers))
+        let headers = order_by_ports(&self.header, &other.header);
+        let interfaces = Ordering::or_cmp(headers, &self.eni.0, &other.eni.0);
+        Ordering::or_cmp(interfaces, &is_outward(self.dir), &is_outward(other.dir))
     }
 }
 

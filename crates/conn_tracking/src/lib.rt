@@ -6,6 +6,7 @@
 mod entry;
 mod growing;
 mod on_images;
+mod order;
 mod replies;
 mod small;
 mod tracker;
@@ -13,6 +14,7 @@ mod tracker;
 pub use entry::Entry;
 pub use growing::GrowingConns;
 pub use on_images::{ImageEntry, tracked_on};
+pub use order::order_by_ports;
 pub use replies::{answers_on, reply_on};
 pub use small::SmallConns;
 pub use tracker::Tracker;

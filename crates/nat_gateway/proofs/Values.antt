@@ -1,13 +1,15 @@
 -- Look-ups in tables, and what they have of the first entries of a list.
-use Rattle.std.proofs.Common.{◌≡◌, ◌<◌, ◌+◌, ◌==◌, ℕ, Bool, true, false, List, [], ◌∷◌, ◌++◌, Option, Some, None, cond, refl, sym, ap, ◌∙◌, get_or, inl, inr, is_some, length, length-append, subst, take, add-one, arith, rules}
+use Rattle.std.proofs.Common.{◌≡◌, ◌<◌, ◌+◌, ◌==◌, ℕ, Bool, true, false, List, [], ◌∷◌, ◌++◌, Option, Some, None, cond, refl, sym, ap, ◌∙◌, get_or, inl, inr, is_some, length, length-append, subst, take, add-one, arith}
 use Rattle.std.specs.List.{find}
 use Rattle.std.specs.Map.{lookup}
 use Rattle.std.specs.Option.{option_map, option_or}
-use Rattle.std.specs.Ordering.{is_eq}
+use Rattle.std.specs.Ordering.{is_eq, nat_cmp}
 use Rattle.std.proofs.Math.Seq.{take-suc}
 use Rattle.std.proofs.lemmas.Bool.{and_parts, cases_Bool}
 use Rattle.std.proofs.lemmas.List.{take-append-le}
 use Rattle.std.proofs.lemmas.List.Folds.{find-append}
+use Rattle.conn_tracking.specs.Order.{order_by_ports}
+use Rattle.conn_tracking.proofs.Lookups.{and-flip, is_eq-number, is_eq-then, order_by_ports_is_same}
 use Rattle.nat_gateway.specs.declared.sent.Sent.{Sent}
 use Rattle.nat_gateway.specs.Sent.{order_of_sent, same_sent}
 use Rattle.nat_gateway.specs.Tables.{AreValues, IsFirst, value_at}
@@ -25,7 +27,10 @@ lookup-alike p q alike (e ∷ es) = rw (alike e.0, lookup-alike p q alike es)
 
 -- the order tells headers at gateways apart
 order_is_same_sent : (a b : Sent) → is_eq (order_of_sent a b) ≡ same_sent a b
-order_is_same_sent a b = search rules
+order_is_same_sent a b =
+    is_eq-then (order_by_ports a.header b.header) (nat_cmp a.nat.0 b.nat.0) (same_header a.header b.header) (a.nat.0 == b.nat.0)
+    (order_by_ports_is_same a.header b.header) (is_eq-number a.nat.0 b.nat.0)
+    ∙ and-flip (same_header a.header b.header) (a.nat.0 == b.nat.0)
 
 two : {A B C : Type 0} (make : A → B → C) (a c : A) (b d : B) → a ≡ c → b ≡ d → make a b ≡ make c d
 two make a c b d e f = cc
@@ -38,7 +43,7 @@ same_sent-true a b e =
 
 -- ---- tables
 
-search_is_value : {W : Type 0} (table : List (Sent × W)) (key : Sent) → lookup (λ k. is_eq (order_of_sent key k)) table ≡ value_at table key
+pub search_is_value : {W : Type 0} (table : List (Sent × W)) (key : Sent) → lookup (λ k. is_eq (order_of_sent key k)) table ≡ value_at table key
 search_is_value table key = lookup-alike (λ k. is_eq (order_of_sent key k)) (same_sent key) (order_is_same_sent key) table
 
 -- a value that is put is found by its key, and changes no other

@@ -4,9 +4,8 @@ use Rattle.std.specs.Ordering.{nat_cmp, ordering_then}
 use Rattle.std.specs.Prelude.{◌==◌, ◌&&◌, Bool, ℕ}
 use Rattle.std.specs.declared.cmp.Ordering.{Ordering}
 use Rattle.std.proofs.lemmas.Cmp.{nat_cmp_total, on_total, then_total}
-use Rattle.header_boxes.proofs.Order.{order_of_total}
+use Rattle.conn_tracking.specs.Order.{order_by_ports, order_by_ports_total}
 use Rattle.nat_gateway.specs.declared.sent.Sent.{Sent}
-use Rattle.vpc_base.specs.Header.{order_of}
 use Rattle.vpc_base.specs.declared.headers.Header.{Header}
 use Rattle.vpc_model.specs.declared.numbers.NatNo.{NatNo}
 use Rattle.vpc_model.specs.Connections.{same_header}
@@ -23,10 +22,10 @@ flow_of n h = record { nat = n; header = record h { src = 0; p = 0 } }
 abbrev pub with_port : Sent → ℕ → Sent
 with_port s port = record { nat = s.nat; header = record s.header { p = port } }
 
--- by gateway, then header
+-- by header, then gateway
 abbrev pub order_of_sent : Sent → Sent → Ordering
-order_of_sent a b = ordering_then (nat_cmp a.nat.0 b.nat.0) (order_of a.header b.header)
+order_of_sent a b = ordering_then (order_by_ports a.header b.header) (nat_cmp a.nat.0 b.nat.0)
 
 -- it is total
 pub order_of_sent_total : IsTotalOrder order_of_sent
-order_of_sent_total = then_total (on_total (λ (s : Sent). s.nat.0) nat_cmp_total) (on_total (λ (s : Sent). s.header) order_of_total)
+order_of_sent_total = then_total (on_total (λ (s : Sent). s.header) order_by_ports_total) (on_total (λ (s : Sent). s.nat.0) nat_cmp_total)

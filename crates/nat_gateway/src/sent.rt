@@ -4,6 +4,7 @@ ghost use Rattle.std.specs.Cmp.{eq_by_cmp_equiv, partial_equiv_from_equiv, parti
 ghost use Rattle.std.specs.Ordering.{as_partial_cmp, eq_by_cmp};
 ghost use Rattle.nat_gateway.specs.Sent.{flow_of, order_of_sent, order_of_sent_total, with_port};
 
+use conn_tracking::order_by_ports;
 use std::cmp::Ordering;
 use vpc_base::Header;
 use vpc_model::NatNo;
@@ -38,7 +39,7 @@ impl Sent {
     }
 }
 
-/// By gateway, then header.
+/// By header, then gateway.
 impl Ord for Sent {
     ghost cmp = { order_of_sent };
 
@@ -48,9 +49,10 @@ impl Ord for Sent {
 
     ghost matches_eq = { λ a b. refl };
 
+    #[inline]
     fn cmp(&self, other: &Sent) -> Ordering {
-        let headers = self.header.order(&other.header);
-        self.nat.0.cmp(&other.nat.0).then(headers)
+        let headers = order_by_ports(&self.header, &other.header);
+        Ordering::or_cmp(headers, &self.nat.0, &other.nat.0)
     }
 }
 

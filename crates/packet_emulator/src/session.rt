@@ -31,13 +31,16 @@ fn fits(p: u16)
 pub struct Session {
     conns: GrowingConns,
     nats: GrowingNats,
+    // Those of the latest walk. They stand here so that no packet makes room for 64 of them anew.
+    hops: Hops,
 }
 
 impl Drop for Session {
     fn drop(self) {
-        let Session { conns, nats } = self;
+        let Session { conns, nats, hops } = self;
         drop(conns);
         drop(nats);
+        drop(hops);
     }
 }
 
@@ -60,6 +63,7 @@ impl Session {
         Session {
             conns: GrowingConns::new(alloc),
             nats: GrowingNats::new(alloc),
+            hops: Hops::new(),
         }
     }
 
@@ -90,7 +94,7 @@ impl Session {
             header,
         } = *e;
         fits(header.p);
-        let mut hops = Hops::new();
+        self.hops.clear();
         let place = start_place(&start);
         let outcome = walk(
             f,
@@ -100,7 +104,7 @@ impl Session {
             header,
             &mut self.conns,
             &mut self.nats,
-            &mut hops,
+            &mut self.hops,
         );
         // That the network is accepted is a clause of this call.
         let _ = f.network().description();
