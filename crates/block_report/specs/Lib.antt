@@ -5,3 +5,4 @@ pub mod Refusals
 pub mod Reports
 pub mod Queries
 pub mod Replays
+pub mod Rules

@@ -20,7 +20,7 @@ pub use replays::put_replay;
 pub use reports::{
     print_more, print_report, put_box_word, put_more, put_report, put_row, put_told,
 };
-pub use stops::{name_text, route_at, stop_id, stop_text, tgw_route_at};
+pub use stops::{StopRule, name_text, rule_of, stop_id, stop_text};
 pub use walks::{put_arrived, put_stop, put_stop_words, put_stopped, put_walk};
 pub use words::{
     put, put_addr_word, put_end, put_header, put_header_line, put_header_word, put_line,

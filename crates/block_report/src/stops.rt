@@ -1,5 +1,6 @@
 // What is told of stops: a name, a component and a rule.
 ghost use Rattle.std.specs.Prelude.{◌≡◌, ◌++◌, IfOk, IsTrue, OnOk, decimal, slice_index_or};
+ghost use Rattle.block_report.specs.Rules.{rule_text};
 ghost use Rattle.block_report.specs.Walks.{name_text};
 ghost use Rattle.prefix_text.specs.Block.{block_text};
 ghost use Rattle.vpc_model.specs.Id.{is_id};
@@ -69,8 +70,8 @@ pub fn name_text(name: StopName) -> &'static [u8]
 
 // ---- the component
 
-/// A route of a route table by its number there.
-pub fn route_at<'a>(n: &'a Network, t: TableNo, k: u32) -> &'a Route
+// A route of a route table by its number there.
+fn route_at<'a>(n: &'a Network, t: TableNo, k: u32) -> &'a Route
     requires { IsTrue (is_route n.now t k) }
     ensures { let table = table_at n.now t in result.now ≡ slice_index_or table.routes k no_route }
 {
@@ -78,8 +79,8 @@ pub fn route_at<'a>(n: &'a Network, t: TableNo, k: u32) -> &'a Route
     &table.routes.as_slice()[k as usize]
 }
 
-/// A route of a transit gateway route table by its number there.
-pub fn tgw_route_at<'a>(n: &'a Network, t: TgwTableNo, k: u32) -> &'a TgwRoute
+// A route of a transit gateway route table by its number there.
+fn tgw_route_at<'a>(n: &'a Network, t: TgwTableNo, k: u32) -> &'a TgwRoute
     requires { IsTrue (is_tgw_route n.now t k) }
     ensures { let table = tgw_table_at n.now t in result.now ≡ slice_index_or table.routes k no_tgw_route }
 {
@@ -176,49 +177,34 @@ pub fn stop_id<'a>(n: &'a Network, s: &Stop) -> &'a [u8]
 
 // ---- the rule
 
-fn put_row_number(out: &mut Vec<u8>, number: u16) -> Result<(), NoMemory>
-    ensures text { OnOk result (out.new.items ≡ out.old.items ++ decimal number) }
-    ensures visible { IsTrue (is_id (decimal number)) }
-{
-    put_number(out, u128::from(number))
+/// The rule that stops a packet: the number of an ACL's row, the block or the prefix list of a route, or none.
+#[derive(Clone, Copy)]
+pub enum StopRule<'a> {
+    Row(u16),
+    Block(&'a Prefix),
+    List(&'a Id),
+    None,
 }
 
-fn put_block(out: &mut Vec<u8>, block: &Prefix) -> Result<(), NoMemory>
-    ensures text { OnOk result (out.new.items ≡ out.old.items ++ block_text block.now) }
-    ensures visible { IsTrue (is_id (block_text block.now)) }
-{
-    let _ = block.first();
-    put_prefix(out, block)
-}
-
-fn put_id(out: &mut Vec<u8>, id: &Id) -> Result<(), NoMemory>
-    ensures text { OnOk result (out.new.items ≡ out.old.items ++ id.now) }
-    ensures visible { IsTrue (is_id id.now) }
-{
-    put(out, id.bytes())
-}
-
-fn put_reach(out: &mut Vec<u8>, reach: &Reach) -> Result<(), NoMemory>
-    ensures text { OnOk result (out.new.items ≡ out.old.items ++ reach_text reach.now) }
-    ensures visible { IsTrue (is_id (reach_text reach.now)) }
+fn rule_of_reach(reach: &Reach) -> StopRule
+    ensures { rule_text result ≡ reach_text reach.now }
 {
     match reach {
-        Reach::Block(block) => put_block(out, block),
-        Reach::List(id) => put_id(out, id),
+        Reach::Block(block) => StopRule::Block(block),
+        Reach::List(id) => StopRule::List(id),
     }
 }
 
-/// Appends the rule that stops a packet, or a dash.
-pub fn put_stop_rule(out: &mut Vec<u8>, n: &Network, s: &Stop) -> Result<(), NoMemory>
+/// The rule of a stop.
+pub fn rule_of<'a>(n: &'a Network, s: &Stop) -> StopRule<'a>
     requires { IsTrue (has_text n.now s.now) }
-    ensures text { OnOk result (out.new.items ≡ out.old.items ++ stop_rule n.now s.now) }
-    ensures visible { IsTrue (is_id (stop_rule n.now s.now)) }
+    ensures { rule_text result ≡ stop_rule n.now s.now }
 {
     match s {
-        Stop::Blackhole(t, k) => put_reach(out, &route_at(n, *t, *k).reach),
-        Stop::AclOut(_, number) => put_row_number(out, *number),
-        Stop::AclIn(_, number) => put_row_number(out, *number),
-        Stop::TgwBlackhole(t, k) => put_block(out, &tgw_route_at(n, *t, *k).block),
+        Stop::Blackhole(t, k) => rule_of_reach(&route_at(n, *t, *k).reach),
+        Stop::AclOut(_, number) => StopRule::Row(*number),
+        Stop::AclIn(_, number) => StopRule::Row(*number),
+        Stop::TgwBlackhole(t, k) => StopRule::Block(&tgw_route_at(n, *t, *k).block),
         Stop::Detached(_)
         | Stop::SourceCheck(_)
         | Stop::DestCheck(_)
@@ -249,8 +235,51 @@ pub fn put_stop_rule(out: &mut Vec<u8>, n: &Network, s: &Stop) -> Result<(), NoM
         | Stop::TooFar(_)
         | Stop::WrongPlace(_)
         | Stop::WrongReturn(_)
-        | Stop::NoReply(_) => put(out, b"-"),
+        | Stop::NoReply(_) => StopRule::None,
     }
+}
+
+fn put_row_number(out: &mut Vec<u8>, number: u16) -> Result<(), NoMemory>
+    ensures text { OnOk result (out.new.items ≡ out.old.items ++ decimal number) }
+    ensures visible { IsTrue (is_id (decimal number)) }
+{
+    put_number(out, u128::from(number))
+}
+
+fn put_block(out: &mut Vec<u8>, block: &Prefix) -> Result<(), NoMemory>
+    ensures text { OnOk result (out.new.items ≡ out.old.items ++ block_text block.now) }
+    ensures visible { IsTrue (is_id (block_text block.now)) }
+{
+    let _ = block.first();
+    put_prefix(out, block)
+}
+
+fn put_id(out: &mut Vec<u8>, id: &Id) -> Result<(), NoMemory>
+    ensures text { OnOk result (out.new.items ≡ out.old.items ++ id.now) }
+    ensures visible { IsTrue (is_id id.now) }
+{
+    put(out, id.bytes())
+}
+
+fn put_rule(out: &mut Vec<u8>, rule: StopRule) -> Result<(), NoMemory>
+    ensures text { OnOk result (out.new.items ≡ out.old.items ++ rule_text rule.entry) }
+    ensures visible { IsTrue (is_id (rule_text rule.entry)) }
+{
+    match rule {
+        StopRule::Row(number) => put_row_number(out, number),
+        StopRule::Block(block) => put_block(out, block),
+        StopRule::List(id) => put_id(out, id),
+        StopRule::None => put(out, b"-"),
+    }
+}
+
+/// Appends the rule that stops a packet, or a dash.
+pub fn put_stop_rule(out: &mut Vec<u8>, n: &Network, s: &Stop) -> Result<(), NoMemory>
+    requires { IsTrue (has_text n.now s.now) }
+    ensures text { OnOk result (out.new.items ≡ out.old.items ++ stop_rule n.now s.now) }
+    ensures visible { IsTrue (is_id (stop_rule n.now s.now)) }
+{
+    put_rule(out, rule_of(n, s))
 }
 
 // ---- all of it

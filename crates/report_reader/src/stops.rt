@@ -2,12 +2,12 @@
 ghost use Rattle.std.specs.Prelude.{◌≡◌, ◌↔◌, IsTrue, bytes_eq, codes, decimal};
 ghost use Rattle.prefix_text.specs.Block.{block_text};
 ghost use Rattle.vpc_model.specs.Sound.{has_text};
-ghost use Rattle.vpc_model.specs.Told.{name_of, reach_text, stop_id, stop_rule, told_stop};
+ghost use Rattle.vpc_model.specs.Told.{name_of, stop_id, stop_rule, told_stop};
 
-use block_report::{name_text, route_at, stop_id, tgw_route_at};
+use block_report::{StopRule, name_text, rule_of, stop_id};
 use prefix_text::{Prefix, cidr_notation, decimal_digits};
 use reference_check::Network;
-use vpc_model::{Phase, Reach, Stop, StopName, StopText};
+use vpc_model::{Phase, Stop, StopName, StopText};
 
 // Names are alike where they are spelled alike.
 #[tactic(auto, using(crate::proofs::Spelling::name_text_tells))]
@@ -29,15 +29,6 @@ fn is_block(text: &[u8], block: &Prefix) -> bool
     text == cidr_notation(block).as_slice()
 }
 
-fn is_reach(text: &[u8], reach: &Reach) -> bool
-    ensures { result ≡ bytes_eq text.now (reach_text reach.now) }
-{
-    match reach {
-        Reach::Block(block) => is_block(text, block),
-        Reach::List(id) => text == id.bytes(),
-    }
-}
-
 fn is_dash(text: &[u8]) -> bool
     ensures { result ≡ bytes_eq text.now (codes "-") }
 {
@@ -49,42 +40,11 @@ pub fn is_rule(n: &Network, text: &[u8], s: &Stop) -> bool
     requires { IsTrue (has_text n.now s.now) }
     ensures { result ≡ bytes_eq text.now (stop_rule n.now s.now) }
 {
-    match s {
-        Stop::Blackhole(t, k) => is_reach(text, &route_at(n, *t, *k).reach),
-        Stop::AclOut(_, number) => is_number(text, *number),
-        Stop::AclIn(_, number) => is_number(text, *number),
-        Stop::TgwBlackhole(t, k) => is_block(text, &tgw_route_at(n, *t, *k).block),
-        Stop::Detached(_)
-        | Stop::SourceCheck(_)
-        | Stop::DestCheck(_)
-        | Stop::GroupsOut(_)
-        | Stop::GroupsIn(_)
-        | Stop::NotAHost(_)
-        | Stop::ApplianceDrop(_)
-        | Stop::NoRoute(_)
-        | Stop::NoHost(_)
-        | Stop::NoGateway(_)
-        | Stop::GatewayDetached(_)
-        | Stop::NoPublic(_)
-        | Stop::PrivateAddress
-        | Stop::NatNotAvailable(_)
-        | Stop::NatAnswer(_)
-        | Stop::NatProtocol(_)
-        | Stop::NatFull(_)
-        | Stop::NatUnsolicited(_)
-        | Stop::PeerNotActive(_)
-        | Stop::PeerSource(_)
-        | Stop::PeerDestination(_)
-        | Stop::TgwNoAttachment(_, _)
-        | Stop::TgwNoZone(_)
-        | Stop::TgwNoTable(_)
-        | Stop::TgwNoRoute(_)
-        | Stop::Unmodelled(_)
-        | Stop::Loop(_)
-        | Stop::TooFar(_)
-        | Stop::WrongPlace(_)
-        | Stop::WrongReturn(_)
-        | Stop::NoReply(_) => is_dash(text),
+    match rule_of(n, s) {
+        StopRule::Row(number) => is_number(text, number),
+        StopRule::Block(block) => is_block(text, block),
+        StopRule::List(id) => text == id.bytes(),
+        StopRule::None => is_dash(text),
     }
 }
 
