@@ -55,7 +55,7 @@ verdict-arrived d a start end h k is =
     ap (verdict_of_request d a start end h w) is
     ∙ ap (λ (b : Bool). cond b (verdict_of_arrival d a start end h w (reply_of k)) (verdicts.Stopped phases.Request (stops.WrongPlace end))) (same-itself end)
 
-journey-arrived : (d : Description) (a : Appliances) (start end : End) (h k : Header) → same_end end start ≡ false → (let w = request_walk d a start h in w.outcome) ≡ outcomes.Arrived end k
+pub journey-arrived : (d : Description) (a : Appliances) (start end : End) (h k : Header) → same_end end start ≡ false → (let w = request_walk d a start h in w.outcome) ≡ outcomes.Arrived end k
     → journey_of d a start None h ≡ toward end (stop_of (verdict_of d a start end h))
 journey-arrived d a start end h k apart is =
     let w = request_walk d a start h in
@@ -125,7 +125,7 @@ arrives-end d a old new end accepted sound w =
     subst (λ (o : Outcome). EndsWell d o) ((w.walk low (low_in_body new.header.part old.header.part w.body)).outcome) told.1
 
 -- the cuts at the places of the request's walk are among those of the journey
-open-among : (d : Description) (a : Appliances) (start : End) (old : BoxMoment) → AreRequests start old → (cuts : CutLists) → AreAmong (open_cuts d a start (low_of old.header.part)) cuts
+pub open-among : (d : Description) (a : Appliances) (start : End) (old : BoxMoment) → AreRequests start old → (cuts : CutLists) → AreAmong (open_cuts d a start (low_of old.header.part)) cuts
     → let w = walk_of d a labels.Opening (moment_at (low_of old.header.part) old) in AreAmong (cuts_of_hops d w.hops) cuts
 open-among d a start old requests cuts e =
     let w = request_walk d a start (low_of old.header.part) in

@@ -4,3 +4,4 @@ pub mod Texts
 pub mod Missed
 pub mod JourneyLemmas
 pub mod WayLemmas
+pub mod ArrivingLemmas

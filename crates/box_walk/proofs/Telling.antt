@@ -282,7 +282,7 @@ hops-left d appliances goal w v None conns nats = refl
 hops-left d appliances goal w v (Some r) conns nats = ap (λ (x : Walk). x.hops) (reply_walk-left d appliances goal r w v conns nats)
 
 -- a request that arrives, by the moment to which it comes
-verdict_at-arrival : (d : Description) (appliances : Appliances) (start goal end : End) (m : BoxMoment) (h : Header) (w : Walk) → IsWalkTo w h m (endings.Arrived end)
+pub verdict_at-arrival : (d : Description) (appliances : Appliances) (start goal end : End) (m : BoxMoment) (h : Header) (w : Walk) → IsWalkTo w h m (endings.Arrived end)
     → stop_of (verdict_of_request d appliances start goal h w w.outcome) ≡ word_of_arrival d appliances start goal end m h
 verdict_at-arrival d appliances start goal end m h w k =
     ap (λ (o : Outcome). stop_of (verdict_of_request d appliances start goal h w o)) k.outcome

@@ -5,6 +5,7 @@ use Rattle.vpc_base.specs.Cuts.{AreAmong, CutLists}
 use Rattle.vpc_base.specs.declared.headers.Header.{Header}
 use Rattle.vpc_base.specs.declared.headers.Label.TheVariants as labels
 use Rattle.header_boxes.proofs.BoxLaws.{within_holds}
+use Rattle.header_boxes.proofs.CellNumbers.{aligned_to_itself}
 use Rattle.header_boxes.proofs.Held.{holds_low, valid_if_within}
 use Rattle.header_boxes.specs.Boxes.{IsWithin, holds, low_of}
 use Rattle.header_boxes.specs.Cells.{IsAligned}
@@ -37,13 +38,13 @@ use Rattle.vpc_model.specs.declared.outcomes.Outcome.TheVariants as outcomes
 use Rattle.vpc_model.specs.declared.outcomes.Phase.TheVariants as phases
 use Rattle.vpc_model.specs.declared.places.Place.TheVariants as places
 use Rattle.box_walk.proofs.JourneyLemmas.{same-only}
-use Rattle.box_walk.proofs.Rests.{has_room, pushed_at, rest_arrives, rest_of-goes_on, rest_stops}
+use Rattle.box_walk.proofs.Rests.{has_room, pushed_at, rest_aligned, rest_arrives, rest_of-goes_on, rest_stops}
 use Rattle.box_walk.proofs.Telling.{request_arrives, request_stops}
 use Rattle.box_walk.specs.Asking.{asked, stop_of, whether, word_of}
 use Rattle.box_walk.specs.Rests.{IsLeftAt, IsRestOn, is_among, rest_of}
 use Rattle.box_walk.specs.Told.{AreRequests, DivideArrival, Tells, request_at, word_of_arrival}
 use Rattle.box_walk.specs.Walks.{IsWalkOn, IsWalkTo}
-use Rattle.box_walk.specs.Ways.{GoesOn, HaveCome, IsFollowedTo, TellsReturns}
+use Rattle.box_walk.specs.Ways.{GoesOn, HaveCome, HaveComeTo, IsFollowedTo, TellsReturns}
 use Rattle.box_walk.specs.declared.walks.Ending.{Ending}
 use Rattle.box_walk.specs.declared.walks.Ending.TheVariants as endings
 
@@ -56,6 +57,7 @@ followed_here d a i n passed m here moment was fresh some few = record {
   passed = passed;
   walk = λ h inside hops at. (hops, (at, refl));
   body = body_of_itself m.header.part moment.valid.part;
+  aligned = λ cuts hops at among. aligned_to_itself cuts m.header.part;
   place = here;
   moment = moment;
   room = has_room labels.Opening passed n m was fresh some few;
@@ -74,6 +76,7 @@ followed_on d a i n k passed longer old mid new p one fresh step are rest = reco
       let on = rest.walk h inside (hops ++ hop_at d a labels.Opening m ∷ []) (pushed_at d a labels.Opening hops passed m at ∙ sym are) in
       (on.0, (on.1.0, rest_of-goes_on d a labels.Opening n k passed old mid p h hops one fresh step (within_holds new.header.part mid.header.part h rest.body.within inside) at ∙ on.1.1));
   body = body_through new.header.part mid.header.part old.header.part rest.body step.body;
+  aligned = rest_aligned d a labels.Opening n k passed longer old mid new.header.part p one fresh step are rest.aligned;
   place = rest.place;
   moment = rest.moment;
   room = rest.room;
@@ -81,18 +84,37 @@ followed_on d a i n k passed longer old mid new p one fresh step are rest = reco
   some = rest.some;
 }
 
+pub followed_on_if : (d : Description) (a : Appliances) (found : Option EniNo) (n k : ℕ) (passed longer : List Place) (old mid new : BoxMoment) (p : Place)
+    → n ≡ k + 1 → is_among passed old.place ≡ false → IsStepOn d a labels.Opening old mid (onwards.Go p) → longer ≡ passed ++ old.place ∷ []
+    → IfSome found (λ i. IsFollowedTo d a i k longer mid new) → IfSome found (λ i. IsFollowedTo d a i n passed old new)
+followed_on_if d a None n k passed longer old mid new p one fresh step are rest = tt
+followed_on_if d a (Some i) n k passed longer old mid new p one fresh step are rest = followed_on d a i n k passed longer old mid new p one fresh step are rest
+
 -- from the start
-pub have_come : (d : Description) (a : Appliances) (start : End) (i : EniNo) (visited : List Place) (old new : BoxMoment) → visited ≡ [] → AreRequests start old
-    → IsFollowedTo d a i 64 visited old new → HaveCome d a start new
+have_come : (d : Description) (a : Appliances) (start : End) (i : EniNo) (visited : List Place) (old new : BoxMoment) → visited ≡ [] → AreRequests start old
+    → IsFollowedTo d a i 64 visited old new → HaveComeTo d a start old new i
 have_come d a start i visited old new none requests k = record {
-  left = k.left;
-  passed = k.passed;
-  walk = λ h inside. subst (λ (m : Moment). GoesOn d a k.left k.passed h new (walk_of d a labels.Opening m)) (requests h) (k.walk h inside [] (sym none));
-  moment = k.moment;
-  room = k.room;
-  fresh = k.fresh;
-  some = k.some;
+  come = come;
+  place = k.place;
+  body = k.body;
+  aligned = λ cuts among. k.aligned cuts [] (sym none) among;
 }
+  where
+    come : HaveCome d a start new
+    come = record {
+      left = k.left;
+      passed = k.passed;
+      walk = λ h inside. subst (λ (m : Moment). GoesOn d a k.left k.passed h new (walk_of d a labels.Opening m)) (requests h) (k.walk h inside [] (sym none));
+      moment = k.moment;
+      room = k.room;
+      fresh = k.fresh;
+      some = k.some;
+    }
+
+pub have_come_if : (d : Description) (a : Appliances) (start : End) (found : Option EniNo) (visited : List Place) (old new : BoxMoment) → visited ≡ [] → AreRequests start old
+    → IfSome found (λ i. IsFollowedTo d a i 64 visited old new) → IfSome found (HaveComeTo d a start old new)
+have_come_if d a start None visited old new none requests k = tt
+have_come_if d a start (Some i) visited old new none requests k = have_come d a start i visited old new none requests k
 
 -- ---- from there
 

@@ -8,3 +8,4 @@ pub mod Journeys
 pub mod Open
 pub mod Goal
 pub mod Ways
+pub mod Arriving

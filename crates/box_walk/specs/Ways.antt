@@ -1,8 +1,10 @@
 -- The way of requests to an interface, as far as all of them pass the same places.
 use Rattle.std.specs.Prelude.{◌≡◌, ◌<◌, Bool, IfSome, List, Option, false, true, ℕ}
+use Rattle.vpc_base.specs.Cuts.{AreAmong, CutLists}
 use Rattle.vpc_base.specs.declared.headers.Header.{Header}
 use Rattle.vpc_base.specs.declared.headers.Label.TheVariants as labels
-use Rattle.header_boxes.specs.Boxes.{holds}
+use Rattle.header_boxes.specs.Boxes.{holds, low_of}
+use Rattle.header_boxes.specs.Cells.{IsAligned}
 use Rattle.box_images.specs.Bodies.{IsBody}
 use Rattle.box_images.specs.declared.images.Part.{Part}
 use Rattle.box_steps.specs.Moments.{CanRemember, IsBoxMoment, IsLetIn, moment_at}
@@ -10,6 +12,7 @@ use Rattle.box_steps.specs.declared.moment.BoxMoment.{BoxMoment}
 use Rattle.vpc_laws.specs.Types.{Description, End, EniNo, Hop, Phase, Place, Stop}
 use Rattle.vpc_laws.specs.Walk.{places_of}
 use Rattle.vpc_model.specs.Appliances.{Appliances, appliances_of}
+use Rattle.vpc_model.specs.Near.{cuts_of_hops}
 use Rattle.vpc_model.specs.Walk.{Walk, walk_of}
 use Rattle.vpc_model.specs.declared.places.Place.TheVariants as places
 use Rattle.box_walk.specs.Rests.{is_among, rest_of}
@@ -29,6 +32,9 @@ pub record IsFollowedTo (d : Description) (a : Appliances) (i : EniNo) (n : ℕ)
   pub walk : (h : Header) → holds h new.header.part ≡ true → (hops : List Hop) → places_of hops ≡ visited
       → GoesOn d a left passed h new (rest_of d a labels.Opening n hops (moment_at h old))
   pub body : IsBody new.header.part old.header.part
+  pub aligned : (cuts : CutLists) (hops : List Hop) → places_of hops ≡ visited
+      → AreAmong (cuts_of_hops d (rest_of d a labels.Opening n hops (moment_at (low_of old.header.part) old)).hops) cuts
+      → IsAligned cuts new.header.part old.header.part
   pub place : new.place ≡ places.Into i
   pub moment : IsBoxMoment d labels.Opening new
   pub room : CanRemember labels.Opening new
@@ -44,6 +50,14 @@ pub record HaveCome (d : Description) (a : Appliances) (start : End) (m : BoxMom
   pub room : CanRemember labels.Opening m
   pub fresh : is_among passed m.place ≡ false
   pub some : 0 < left
+
+-- to this interface, a body of all those of an earlier moment
+pub record HaveComeTo (d : Description) (a : Appliances) (start : End) (old new : BoxMoment) (i : EniNo) : Type 0 where
+  pub come : HaveCome d a start new
+  pub place : new.place ≡ places.Into i
+  pub body : IsBody new.header.part old.header.part
+  pub aligned : (cuts : CutLists) → AreAmong (cuts_of_hops d (walk_of d a labels.Opening (moment_at (low_of old.header.part) old)).hops) cuts
+      → IsAligned cuts new.header.part old.header.part
 
 -- ---- and back
 

@@ -2,6 +2,7 @@
 //! replies return.
 #![tactic(auto)]
 
+mod arriving;
 mod goal;
 mod journeys;
 mod laws;
@@ -13,6 +14,7 @@ mod verdict;
 mod walks;
 mod ways;
 
+pub use arriving::Arrivals;
 pub use box_steps::{BoxMoment, BoxNext, ImageNat, step_on};
 pub use goal::GoalProbe;
 pub use journeys::{Journey, journeys_are_verdicts};

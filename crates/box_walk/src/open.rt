@@ -1,13 +1,15 @@
 // The probe that asks at which end requests from a start get through.
-ghost use Rattle.std.specs.Prelude.{◌≡◌, ◌↔◌, IsTrue, None, true};
+ghost use Rattle.std.specs.Prelude.{◌≡◌, ◌↔◌, IfSome, IsTrue, None, true};
 ghost use Rattle.vpc_base.specs.Cuts.{AreAmong};
 ghost use Rattle.header_boxes.specs.Boxes.{IsValid, low_of};
 ghost use Rattle.box_images.specs.Answers.{Answers};
 ghost use Rattle.vpc_model.specs.Appliances.{appliances_of};
 ghost use Rattle.vpc_model.specs.Sound.{is_end};
+ghost use Rattle.box_walk.specs.Arriving.{AreArrivals};
 ghost use Rattle.box_walk.specs.Journeys.{journey_of, open_cuts, reached_end};
 ghost use Rattle.box_walk.specs.Open.{starting};
 
+use crate::arriving::{Arrivals, arrivals_of};
 use crate::journeys::{Journey, journey_on};
 use crate::probe::{begin, moment_at};
 use appliances::Deciders;
@@ -22,7 +24,6 @@ use vpc_model::End;
 
 /// At which end requests from a start get through, whatever end that is. A part that is answered is one for which all
 /// requests pass the same places to the same end, and so do their replies.
-#[derive(Drop)]
 pub struct OpenProbe<'a> {
     fabric: &'a Fabric,
     deciders: &'a Deciders,
@@ -31,6 +32,18 @@ pub struct OpenProbe<'a> {
     followed: RefCell<BoxMoment>,
     ghost known: { is_end fabric.now start ≡ true },
     ghost described: { deciders.now.appliances ≡ appliances_of fabric.now },
+}
+
+impl<'a> Drop for OpenProbe<'a> {
+    fn drop(self) {
+        let OpenProbe {
+            fabric: _,
+            deciders: _,
+            start: _,
+            followed,
+        } = self;
+        drop(followed);
+    }
 }
 
 fn reached_end(journey: Journey) -> Option<End>
@@ -99,6 +112,29 @@ impl<'a> OpenProbe<'a> {
         match self.followed.try_borrow_mut() {
             Ok(mut m) => self.follow(sides, &mut m),
             Err(_) => self.follow_apart(sides),
+        }
+    }
+
+    // The arrivals of requests of the sides, by the moment that follows them.
+    fn follow_in(&self, sides: &Box5, m: &mut BoxMoment) -> Option<Arrivals>
+        requires { IsValid sides.now }
+        ensures { IfSome result
+            (AreArrivals self.now.fabric.now (appliances_of self.now.fabric.now) self.now.start sides.now) }
+    {
+        begin(m, self.start, sides);
+        arrivals_of(self.fabric, self.deciders, self.start, m)
+    }
+
+    /// Requests of a part of the sides that come to one interface by the same places, if they do: which of them it lets in
+    /// isn't asked, so that the part is larger than one of which it is told where they get through.
+    pub fn arrivals_on(&self, sides: &Box5) -> Option<Arrivals>
+        requires { IsValid sides.now }
+        ensures { IfSome result
+            (AreArrivals self.now.fabric.now (appliances_of self.now.fabric.now) self.now.start sides.now) }
+    {
+        match self.followed.try_borrow_mut() {
+            Ok(mut m) => self.follow_in(sides, &mut m),
+            Err(_) => None,
         }
     }
 }

@@ -24,7 +24,6 @@ use vpc_model::{End, Phase, Stop, same_stop, start_place};
 
 /// What stops requests from one end to another, or their replies. A part that is answered is one for which
 /// all requests pass the same places, and so do their replies.
-#[derive(Drop)]
 pub struct RoundProbe<'a> {
     fabric: &'a Fabric,
     deciders: &'a Deciders,
@@ -36,6 +35,21 @@ pub struct RoundProbe<'a> {
     ghost known: { IsAsking (asked fabric.now start goal) },
     ghost same_way: { way ≡ asked fabric.now start goal },
     ghost described: { deciders.now.appliances ≡ appliances_of fabric.now },
+}
+
+impl<'a> Drop for RoundProbe<'a> {
+    fn drop(self) {
+        let RoundProbe {
+            fabric: _,
+            deciders: _,
+            start: _,
+            goal: _,
+            followed,
+            way,
+        } = self;
+        drop(followed);
+        drop(way);
+    }
 }
 
 // Requests at the start, of which nothing is remembered.

@@ -6,7 +6,7 @@ ghost use Rattle.box_walk.specs.Asking.{IsAsking, asked, word_of};
 ghost use Rattle.box_walk.specs.Rests.{IsLeftAt, is_among};
 ghost use Rattle.box_walk.specs.Told.{AreRequests, DivideArrival, Tells, word_of_arrival};
 ghost use Rattle.box_walk.specs.Walks.{BeginsFresh};
-ghost use Rattle.box_walk.specs.Ways.{HaveCome, IsFollowedTo, IsKnownWay, TellsReturns};
+ghost use Rattle.box_walk.specs.Ways.{HaveComeTo, IsFollowedTo, IsKnownWay, TellsReturns};
 ghost use Rattle.header_boxes.specs.Boxes.{IsValid, IsWithin, holds, low_of};
 ghost use Rattle.vpc_base.specs.Cuts.{AreAmong};
 ghost use Rattle.vpc_base.specs.declared.headers.Header.{Header};
@@ -87,43 +87,70 @@ pub fn is_within(part: &Box5, whole: &Box5) -> bool
         && part.q.1 <= whole.q.1
 }
 
+// Whether a walk is followed as far as this interface: the one that is wanted, or any at which nothing is sent on.
+fn is_wanted(deciders: &Deciders, wanted: Option<EniNo>, e: EniNo) -> bool {
+    match wanted {
+        Some(i) => e.0 == i.0,
+        None => deciders.number(e).is_none(),
+    }
+}
+
 // Follows opens to an interface, from a place that is new among those visited, with so many places allowed, this one
-// included. Tells whether they come there; the moment is then that of those who do.
+// included. Tells to which one they come, if they do; the moment is then that of those who do.
 fn follow_to(
     f: &Fabric,
     deciders: &Deciders,
-    i: EniNo,
+    wanted: Option<EniNo>,
     left: usize,
     visited: &mut ArrayVec<Place, FARTHEST>,
     m: &mut BoxMoment,
-) -> bool
+) -> Option<EniNo>
     requires appliances { deciders.now.appliances ≡ appliances_of f.now }
     requires moment { IsBoxMoment f.now labels.Opening m.old }
     requires remembered { IsLeftAt labels.Opening visited.old.items m.old }
     requires fresh { is_among visited.old.items m.old.place ≡ false }
     requires some { 0 < left }
     requires few { length visited.old.items + left ≤ 64 }
-    ensures { IsTrue result
-        → IsFollowedTo f.now (appliances_of f.now) i left visited.old.items m.old m.new }
+    ensures { IfSome result
+        (λ e. IsFollowedTo f.now (appliances_of f.now) e left visited.old.items m.old m.new) }
 {
     if let Place::Into(e) = m.place {
-        if e.0 == i.0 {
-            return true;
+        if is_wanted(deciders, wanted, e) {
+            return Some(e);
         }
     }
     visited.push(m.place);
     match step_in_place(f, deciders, Label::Opening, m) {
         Onward::Go(place) => {
             if is_among(visited.as_slice(), place) {
-                return false;
+                return None;
             }
             if left == 1 {
-                return false;
+                return None;
             }
-            follow_to(f, deciders, i, left - 1, visited, m)
+            follow_to(f, deciders, wanted, left - 1, visited, m)
         }
-        _ => false,
+        _ => None,
     }
+}
+
+/// Follows requests from the start to an interface. Tells to which one they come, if they do; the moment is then that of
+/// those who do.
+pub fn come_to(
+    f: &Fabric,
+    deciders: &Deciders,
+    start: End,
+    wanted: Option<EniNo>,
+    m: &mut BoxMoment,
+) -> Option<EniNo>
+    requires appliances { deciders.now.appliances ≡ appliances_of f.now }
+    requires moment { IsBoxMoment f.now labels.Opening m.old }
+    requires fresh { BeginsFresh labels.Opening m.old }
+    requires requests { AreRequests start m.old }
+    ensures { IfSome result (HaveComeTo f.now (appliances_of f.now) start m.old m.new) }
+{
+    let mut visited = ArrayVec::new();
+    follow_to(f, deciders, wanted, FARTHEST, &mut visited, m)
 }
 
 // What stops the replies of those that the interface lets in, by a moment for them; nothing where it lets none in.
@@ -217,19 +244,6 @@ fn likely(f: &Fabric, start: End, i: EniNo, sides: &Box5) -> Box5
         dst: narrowed(sides.dst, address_toward(f, start, i)),
         ..*sides
     }
-}
-
-// Follows requests from the start to an interface. Tells whether they come there; the moment is then that of those who do.
-fn come_to(f: &Fabric, deciders: &Deciders, start: End, i: EniNo, m: &mut BoxMoment) -> bool
-    requires appliances { deciders.now.appliances ≡ appliances_of f.now }
-    requires moment { IsBoxMoment f.now labels.Opening m.old }
-    requires fresh { BeginsFresh labels.Opening m.old }
-    requires requests { AreRequests start m.old }
-    ensures come { IsTrue result → HaveCome f.now (appliances_of f.now) start m.new }
-    ensures place { IsTrue result → m.new.place ≡ places.Into i }
-{
-    let mut visited = ArrayVec::new();
-    follow_to(f, deciders, i, FARTHEST, &mut visited, m)
 }
 
 // What stops the replies of requests that have arrived, which may be known.
@@ -330,9 +344,12 @@ impl<'a> Way<'a> {
         };
         let sides = likely(self.fabric, self.start, i, sides);
         begin(&mut self.before, self.start, &sides);
-        if come_to(self.fabric, deciders, self.start, i, &mut self.before) {
-            self.back = returns_from(self.fabric, deciders, self.start, i, &self.before, m);
-            self.is_known = true;
+        let come = come_to(self.fabric, deciders, self.start, Some(i), &mut self.before);
+        if let Some(e) = come {
+            if e.0 == i.0 {
+                self.back = returns_from(self.fabric, deciders, self.start, e, &self.before, m);
+                self.is_known = true;
+            }
         }
     }
 

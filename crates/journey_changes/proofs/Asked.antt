@@ -70,7 +70,7 @@ goal_toward toward goal is = ap (λ (t : Toward). towards.Goal (goal_or t)) is �
 
 -- what a probe asks is what is sent
 module _ (q : Sent) (d : Description) (b s : End) (is : q.start ≡ Some s) where
-  open_sent : (t : Toward) → starting d b ≡ starting q.network (start_or q.start) → q.toward ≡ t → sent d (Some b) t ≡ q
+  pub open_sent : (t : Toward) → starting d b ≡ starting q.network (start_or q.start) → q.toward ≡ t → sent d (Some b) t ≡ q
   open_sent t same toward_is =
       ap (λ (x : Starting). sent x.network (Some x.start) t) same
       ∙ (ap (λ (o : Option End). sent q.network o t) (some_start q.start s is) ∙ ap (sent q.network q.start) (sym toward_is))

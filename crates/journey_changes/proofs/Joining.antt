@@ -19,11 +19,11 @@ use Rattle.journey_changes.specs.declared.changes.Change.{Change}
 
 -- ---- fates by the ends that are reached
 
-ok_if_reached : (x : Fate) (e : End) → reached_by x ≡ Some e → x ≡ Ok e
+pub ok_if_reached : (x : Fate) (e : End) → reached_by x ≡ Some e → x ≡ Ok e
 ok_if_reached (Ok end) e is = cc
 ok_if_reached (Err b) e is = absurd (cc)
 
-none_changes : (before after : Description) (x y : Fate) → reached_by x ≡ None → reached_by y ≡ None → change_by before after x y ≡ None
+pub none_changes : (before after : Description) (x y : Fate) → reached_by x ≡ None → reached_by y ≡ None → change_by before after x y ≡ None
 none_changes before after (Ok e) y none other = absurd (cc)
 none_changes before after (Err b) (Ok f) none other = absurd (cc)
 none_changes before after (Err b) (Err a) none other = refl

@@ -2,3 +2,4 @@ pub mod Asked
 pub mod Joining
 pub mod LawLemmas
 pub mod Telling
+pub mod AlikeLemmas

@@ -5,3 +5,4 @@ pub mod Cuts
 pub mod Joined
 pub mod Telling
 pub mod Laws
+pub mod Alike

@@ -2,6 +2,7 @@
 //! keeps it from getting through.
 #![tactic(auto)]
 
+mod alike;
 mod changes;
 mod fates;
 mod joined;

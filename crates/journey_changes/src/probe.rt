@@ -1,17 +1,18 @@
 // What becomes of the requests of a part of a box in one network.
-ghost use Rattle.std.specs.Prelude.{◌≡◌, Some};
+ghost use Rattle.std.specs.Prelude.{◌≡◌, IfSome, Some};
 ghost use Rattle.vpc_base.specs.Cuts.{AreAmong};
 ghost use Rattle.header_boxes.specs.Boxes.{IsValid, low_of};
 ghost use Rattle.box_images.specs.Answers.{Answers};
 ghost use Rattle.vpc_model.specs.Appliances.{appliances_of};
 ghost use Rattle.box_walk.specs.Asking.{asked};
 ghost use Rattle.box_walk.specs.Open.{starting};
+ghost use Rattle.journey_changes.specs.Alike.{ComeTo};
 ghost use Rattle.journey_changes.specs.Sent.{AreSentWell, fate, goal_or, near, reached, sent, start_or};
 
 use crate::fates::{Barrier, Toward, fate_by, fate_unless, goal_unless, missing_by, reached_by};
 use appliances::Deciders;
 use box_images::Part;
-use box_walk::{OpenProbe, RoundProbe};
+use box_walk::{Arrivals, OpenProbe, RoundProbe};
 use fabric::Fabric;
 use header_boxes::Box5;
 use ordered_cover::Probe;
@@ -36,6 +37,12 @@ impl<'a> Model for Requests<'a> {
 }
 
 impl<'a> Requests<'a> {
+    fn fabric(&self) -> &Fabric
+        ensures { result.now ≡ self.now.network }
+    {
+        self.fabric
+    }
+
     fn network(&self) -> &Network
         ensures { result.now ≡ self.now.network }
     {
@@ -63,7 +70,6 @@ impl<'a> Requests<'a> {
 
 /// What becomes of requests that are sent in one network. A part that is answered is one on which the answer depends on
 /// the cuts at the places of the journey alone.
-#[derive(Drop)]
 pub struct FateProbe<'a> {
     // Contracts see it as the network, the start and where requests are to arrive.
     sent: Requests<'a>,
@@ -73,6 +79,15 @@ pub struct FateProbe<'a> {
     ghost same_open: { starting open.fabric.now open.start ≡ starting sent.network (start_or sent.start) },
     ghost same_round: { asked round.fabric.now round.start round.goal
         ≡ asked sent.network (start_or sent.start) (goal_or sent.toward) },
+}
+
+impl<'a> Drop for FateProbe<'a> {
+    fn drop(self) {
+        let FateProbe { sent, open, round } = self;
+        drop(sent);
+        drop(open);
+        drop(round);
+    }
 }
 
 fn start_or(start: Option<End>) -> End
@@ -126,6 +141,25 @@ impl<'a> FateProbe<'a> {
         self.open.turn(start_or(start));
         self.round
             .turn(start_or(start), goal_or(self.sent.toward()));
+    }
+
+    /// Requests of a part of the sides that come to one interface by the same places, where they may arrive at any end.
+    pub(crate) fn arrivals_on(&self, sides: &Box5) -> Option<Arrivals>
+        requires { IsValid sides.now }
+        ensures { IfSome result (ComeTo self.now.sent sides.now) }
+    {
+        self.sent.start()?;
+        match self.sent.toward() {
+            Toward::Any => self.open.arrivals_on(sides),
+            _ => None,
+        }
+    }
+
+    /// Its network with its look-ups.
+    pub(crate) fn fabric(&self) -> &Fabric
+        ensures { result.now ≡ self.now.sent.network }
+    {
+        self.sent.fabric()
     }
 
     /// Its network.
