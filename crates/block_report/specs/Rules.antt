@@ -1,11 +1,11 @@
 -- How the rule that stops a packet is printed.
 use Rattle.std.specs.Prelude.{List, codes, decimal, ℕ}
 use Rattle.prefix_text.specs.Block.{block_text}
-use Rattle.block_report.specs.declared.stops.StopRule.{StopRule}
-use Rattle.block_report.specs.declared.stops.StopRule.TheVariants as rules
+use Rattle.block_report.specs.declared.stops.RuleWord.{RuleWord}
+use Rattle.block_report.specs.declared.stops.RuleWord.TheVariants as rules
 
-abbrev pub rule_text : StopRule → List ℕ
-rule_text (rules.Row number) = decimal number
-rule_text (rules.Block block) = block_text block.now
-rule_text (rules.List id) = id.now
-rule_text rules.None = codes "-"
+abbrev pub rule_word : RuleWord → List ℕ
+rule_word (rules.Row number) = decimal number
+rule_word (rules.Block block) = block_text block.now
+rule_word (rules.List id) = id.now
+rule_word rules.None = codes "-"

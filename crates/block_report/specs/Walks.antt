@@ -1,50 +1,12 @@
 -- How stops, the ends of walks and whole walks are printed.
 use Rattle.std.specs.Prelude.{◌++◌, List, codes, ℕ}
 use Rattle.vpc_laws.specs.Types.{Description, Hop, Outcome, Phase, Stop, StopName, StopText}
-use Rattle.vpc_model.specs.declared.stops.StopName.TheVariants as names
 use Rattle.vpc_model.specs.declared.outcomes.Outcome.TheVariants as outcomes
 use Rattle.vpc_model.specs.declared.outcomes.Phase.TheVariants as phases
+use Rattle.vpc_model.specs.Names.{name_text}
 use Rattle.vpc_model.specs.Told.{end_id, name_of, stop_id, stop_rule}
 use Rattle.block_report.specs.Hops.{hop_lines}
 use Rattle.block_report.specs.Words.{line_end, word}
-
--- a name as it is printed
-abbrev pub name_text : StopName → List ℕ
-name_text names.Detached = codes "Detached"
-name_text names.SourceCheck = codes "SourceCheck"
-name_text names.DestCheck = codes "DestCheck"
-name_text names.GroupsOut = codes "GroupsOut"
-name_text names.GroupsIn = codes "GroupsIn"
-name_text names.NotAHost = codes "NotAHost"
-name_text names.ApplianceDrop = codes "ApplianceDrop"
-name_text names.NoRoute = codes "NoRoute"
-name_text names.Blackhole = codes "Blackhole"
-name_text names.AclOut = codes "AclOut"
-name_text names.AclIn = codes "AclIn"
-name_text names.NoHost = codes "NoHost"
-name_text names.NoGateway = codes "NoGateway"
-name_text names.GatewayDetached = codes "GatewayDetached"
-name_text names.NoPublic = codes "NoPublic"
-name_text names.PrivateAddress = codes "PrivateAddress"
-name_text names.NatNotAvailable = codes "NatNotAvailable"
-name_text names.NatAnswer = codes "NatAnswer"
-name_text names.NatProtocol = codes "NatProtocol"
-name_text names.NatFull = codes "NatFull"
-name_text names.NatUnsolicited = codes "NatUnsolicited"
-name_text names.PeerNotActive = codes "PeerNotActive"
-name_text names.PeerSource = codes "PeerSource"
-name_text names.PeerDestination = codes "PeerDestination"
-name_text names.TgwNoAttachment = codes "TgwNoAttachment"
-name_text names.TgwNoZone = codes "TgwNoZone"
-name_text names.TgwNoTable = codes "TgwNoTable"
-name_text names.TgwNoRoute = codes "TgwNoRoute"
-name_text names.TgwBlackhole = codes "TgwBlackhole"
-name_text names.Unmodelled = codes "Unmodelled"
-name_text names.Loop = codes "Loop"
-name_text names.TooFar = codes "TooFar"
-name_text names.WrongPlace = codes "WrongPlace"
-name_text names.WrongReturn = codes "WrongReturn"
-name_text names.NoReply = codes "NoReply"
 
 -- a name, a component and a rule, or a dash for no rule
 abbrev pub stop_words : List ℕ → List ℕ → List ℕ → List ℕ

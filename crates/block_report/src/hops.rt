@@ -10,7 +10,6 @@ ghost use Rattle.vpc_model.specs.Told.{place_id};
 ghost use Rattle.vpc_model.specs.declared.outcomes.By.TheVariants as bys;
 
 use crate::places::{place_id, place_kind};
-use crate::rows::group_id;
 use crate::words::{put, put_end, put_header_word, put_number_word, put_word};
 use reference_check::Network;
 use std::alloc::Global;
@@ -58,7 +57,7 @@ fn permission_at<'a>(n: &'a Network, r: &RuleRef) -> &'a Permission
     requires { IsTrue (is_rule n.now r.now) }
     ensures { let g = group_at n.now r.now.group in result.now ≡ slice_index_or (permissions_of r.now.dir g) (r.now.number - 1) no_permission }
 {
-    let group = &n.description().groups.as_slice()[r.group.0 as usize];
+    let group = n.group_at(r.group);
     &permissions_of(group, r.dir)[r.number as usize - 1]
 }
 
@@ -86,7 +85,7 @@ fn put_rule(out: &mut Vec<u8>, n: &Network, r: &RuleRef) -> Result<(), NoMemory>
     requires { IsTrue (is_rule n.now r.now) }
     ensures { OnOk result (out.new.items ≡ out.old.items ++ by_text n.now (bys.Rule r.now)) }
 {
-    put_by_group(out, group_id(n, r.group), r.dir)?;
+    put_by_group(out, n.group_at(r.group).id.bytes(), r.dir)?;
     put_rule_name(out, n, r)
 }
 

@@ -2,12 +2,11 @@
 ghost use Rattle.std.specs.Prelude.{◌≡◌, IsTrue};
 ghost use Rattle.block_report.specs.Hops.{place_kind};
 ghost use Rattle.vpc_model.specs.Id.{is_id};
-ghost use Rattle.vpc_model.specs.Sound.{is_end, is_sound};
-ghost use Rattle.vpc_model.specs.Told.{end_id, place_id};
+ghost use Rattle.vpc_model.specs.Sound.{has_gateway, is_end, is_sound};
+ghost use Rattle.vpc_model.specs.Told.{end_id, gateway_id, place_id};
 
-use crate::rows::{attachment_id, eni_id, gateway_id, nat_id, peering_id, subnet_id, vpc_id};
 use reference_check::Network;
-use vpc_model::{End, Place};
+use vpc_model::{End, Place, VpcNo};
 
 pub fn place_kind(p: &Place) -> &'static [u8]
     ensures { result.now ≡ place_kind p.now }
@@ -28,24 +27,36 @@ pub fn place_kind(p: &Place) -> &'static [u8]
     }
 }
 
+// The id of the internet gateway that is attached to a VPC.
+fn gateway_id<'a>(n: &'a Network, v: VpcNo) -> &'a [u8]
+    requires { IsTrue (has_gateway n.now v) }
+    ensures value { result.now ≡ gateway_id n.now v }
+    ensures visible { IsTrue (is_id result.now) }
+{
+    match n.gateway_of(v) {
+        Some(g) => n.igw_at(g).id.bytes(),
+        None => unreachable!(),
+    }
+}
+
 pub fn place_id<'a>(n: &'a Network, p: &Place) -> &'a [u8]
     requires { IsTrue (is_sound n.now p.now) }
     ensures value { result.now ≡ place_id n.now p.now }
     ensures visible { IsTrue (is_id result.now) }
 {
     match *p {
-        Place::OutOf(i) => eni_id(n, i),
-        Place::Router(s, _) => subnet_id(n, s),
-        Place::Enter(v, _) => vpc_id(n, v),
-        Place::Into(i) => eni_id(n, i),
+        Place::OutOf(i) => n.interface_at(i).id.bytes(),
+        Place::Router(s, _) => n.subnet_at(s).id.bytes(),
+        Place::Enter(v, _) => n.vpc_at(v).id.bytes(),
+        Place::Into(i) => n.interface_at(i).id.bytes(),
         Place::IgwOut(v) => gateway_id(n, v),
         Place::Internet => b"internet",
         Place::IgwIn(v) => gateway_id(n, v),
-        Place::NatOut(g) => nat_id(n, g),
-        Place::NatIn(g) => nat_id(n, g),
-        Place::Peer(x, _) => peering_id(n, x),
-        Place::Tgw(a, _) => attachment_id(n, a),
-        Place::TgwLeave(a, _) => attachment_id(n, a),
+        Place::NatOut(g) => n.nat_at(g).id.bytes(),
+        Place::NatIn(g) => n.nat_at(g).id.bytes(),
+        Place::Peer(x, _) => n.peering_at(x).id.bytes(),
+        Place::Tgw(a, _) => n.attachment_at(a).id.bytes(),
+        Place::TgwLeave(a, _) => n.attachment_at(a).id.bytes(),
     }
 }
 
@@ -56,7 +67,7 @@ pub fn end_id<'a>(n: &'a Network, end: &End) -> &'a [u8]
     ensures visible { IsTrue (is_id result.now) }
 {
     match *end {
-        End::Interface(i) => eni_id(n, i),
+        End::Interface(i) => n.interface_at(i).id.bytes(),
         End::Internet => b"internet",
     }
 }

@@ -1,11 +1,11 @@
 // Reports: a query with its rows.
 ghost use Rattle.std.specs.Prelude.{◌≡◌, ◌++◌, All, IfOk, IsTrue, OnOk};
-ghost use Rattle.block_report.specs.Reports.{AreIds, HasIds, HaveText, addresses_text, box_line, box_text, ends_line, more_of, more_text, query_text, report_of, report_text, row_line, row_lines_from, told_row, told_rows};
+ghost use Rattle.block_report.specs.Reports.{AreIds, HasIds, HaveText, box_line, ends_line, more_of, more_text, query_text, report_of, report_text, row_line, row_lines_from, told_row, told_rows};
 ghost use Rattle.block_report.specs.Walks.{phase_text, told_text};
 ghost use Rattle.block_report.specs.Words.{word};
-ghost use Rattle.prefix_text.specs.Range.{range_text};
 ghost use Rattle.vpc_model.specs.Sound.{has_text, is_end};
 
+use crate::boxes::put_box_word;
 use crate::places::end_id;
 use crate::stops::stop_text;
 use crate::walks::put_stop_words;
@@ -13,61 +13,12 @@ use crate::words::{
     put, put_end, put_header_line, put_line, put_number_line, put_number_word, put_word,
 };
 use header_boxes::{Box5, Row};
-use prefix_text::{put_addr, put_number};
 use reference_check::Network;
 use std::alloc::Global;
 use vpc_base::{Header, NoMemory};
 use vpc_model::{End, Phase, Stop, StopText};
 
-// ---- boxes
-
-fn put_range(out: &mut Vec<u8>, first: u128, last: u128) -> Result<(), NoMemory>
-    ensures { OnOk result (out.new.items ≡ out.old.items ++ range_text (first, last)) }
-{
-    put_number(out, first)?;
-    put(out, b"-")?;
-    put_number(out, last)
-}
-
-fn put_addresses(out: &mut Vec<u8>, first: u32, last: u32) -> Result<(), NoMemory>
-    ensures { OnOk result (out.new.items ≡ out.old.items ++ addresses_text (first, last)) }
-{
-    put_addr(out, first)?;
-    put(out, b"-")?;
-    put_addr(out, last)
-}
-
-fn put_ports_word(out: &mut Vec<u8>, ports: (u16, u16)) -> Result<(), NoMemory>
-    ensures { OnOk result (out.new.items ≡ out.old.items ++ word (range_text ports)) }
-{
-    put(out, b" ")?;
-    put_range(out, u128::from(ports.0), u128::from(ports.1))
-}
-
-fn put_addresses_word(out: &mut Vec<u8>, addresses: (u32, u32)) -> Result<(), NoMemory>
-    ensures { OnOk result (out.new.items ≡ out.old.items ++ word (addresses_text addresses)) }
-{
-    put(out, b" ")?;
-    put_addresses(out, addresses.0, addresses.1)
-}
-
-fn put_box(out: &mut Vec<u8>, b: &Box5) -> Result<(), NoMemory>
-    ensures { OnOk result (out.new.items ≡ out.old.items ++ box_text b.now) }
-{
-    put_range(out, u128::from(b.proto.0), u128::from(b.proto.1))?;
-    put_addresses_word(out, b.src)?;
-    put_addresses_word(out, b.dst)?;
-    put_ports_word(out, b.p)?;
-    put_ports_word(out, b.q)
-}
-
-/// Appends a blank and a box: five ranges.
-pub fn put_box_word(out: &mut Vec<u8>, b: &Box5) -> Result<(), NoMemory>
-    ensures { OnOk result (out.new.items ≡ out.old.items ++ word (box_text b.now)) }
-{
-    put(out, b" ")?;
-    put_box(out, b)
-}
+// ---- rows
 
 fn put_box_line(out: &mut Vec<u8>, b: &Box5) -> Result<(), NoMemory>
     ensures { OnOk result (out.new.items ≡ out.old.items ++ box_line b.now) }
@@ -76,8 +27,6 @@ fn put_box_line(out: &mut Vec<u8>, b: &Box5) -> Result<(), NoMemory>
     put_box_word(out, b)?;
     put_end(out)
 }
-
-// ---- rows
 
 fn phase_text(phase: Phase) -> &'static [u8]
     ensures { result.now ≡ phase_text phase }

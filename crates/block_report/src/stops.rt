@@ -1,72 +1,25 @@
 // What is told of stops: a name, a component and a rule.
 ghost use Rattle.std.specs.Prelude.{◌≡◌, ◌++◌, IfOk, IsTrue, OnOk, decimal, slice_index_or};
-ghost use Rattle.block_report.specs.Rules.{rule_text};
-ghost use Rattle.block_report.specs.Walks.{name_text};
+ghost use Rattle.block_report.specs.Rules.{rule_word};
 ghost use Rattle.prefix_text.specs.Block.{block_text};
 ghost use Rattle.vpc_model.specs.Id.{is_id};
 ghost use Rattle.vpc_model.specs.Lookup.{table_at, tgw_table_at};
-ghost use Rattle.vpc_model.specs.Sound.{has_foreign_text, has_text, is_route, is_tgw_route};
+ghost use Rattle.vpc_model.specs.Sound.{has_component, has_foreign_text, has_stop_rule, has_text, is_route, is_tgw_route};
 ghost use Rattle.vpc_model.specs.Step.Router.{no_route};
 ghost use Rattle.vpc_model.specs.Step.Transit.{no_tgw_route};
 ghost use Rattle.vpc_model.specs.declared.stops.Foreign.TheVariants as foreign;
-ghost use Rattle.vpc_model.specs.Told.{foreign_id, reach_text, stop_id, stop_rule, target_id, told_stop};
+ghost use Rattle.vpc_model.specs.Told.{component_id, foreign_id, reach_text, rule_text, stop_id, stop_rule, target_id, told_stop};
 
 use crate::places::{end_id, place_id};
-use crate::rows::{
-    acl_id, attachment_id, eni_id, igw_id, nat_id, peering_id, table_id, tgw_table_id, vpc_id,
-};
 use crate::words::put;
 use prefix_text::{Prefix, put_number, put_prefix};
 use reference_check::Network;
 use std::alloc::Global;
 use vpc_base::NoMemory;
 use vpc_model::{
-    Foreign, Id, Phase, Reach, Route, Stop, StopName, StopText, TableNo, Target, TgwRoute,
-    TgwTableNo,
+    Component, Foreign, Id, Phase, Reach, Route, Stop, StopRule, StopText, TableNo, Target,
+    TgwRoute, TgwTableNo,
 };
-
-/// The name of a stop, as it is printed.
-pub fn name_text(name: StopName) -> &'static [u8]
-    ensures { result.now ≡ name_text name }
-{
-    match name {
-        StopName::Detached => b"Detached",
-        StopName::SourceCheck => b"SourceCheck",
-        StopName::DestCheck => b"DestCheck",
-        StopName::GroupsOut => b"GroupsOut",
-        StopName::GroupsIn => b"GroupsIn",
-        StopName::NotAHost => b"NotAHost",
-        StopName::ApplianceDrop => b"ApplianceDrop",
-        StopName::NoRoute => b"NoRoute",
-        StopName::Blackhole => b"Blackhole",
-        StopName::AclOut => b"AclOut",
-        StopName::AclIn => b"AclIn",
-        StopName::NoHost => b"NoHost",
-        StopName::NoGateway => b"NoGateway",
-        StopName::GatewayDetached => b"GatewayDetached",
-        StopName::NoPublic => b"NoPublic",
-        StopName::PrivateAddress => b"PrivateAddress",
-        StopName::NatNotAvailable => b"NatNotAvailable",
-        StopName::NatAnswer => b"NatAnswer",
-        StopName::NatProtocol => b"NatProtocol",
-        StopName::NatFull => b"NatFull",
-        StopName::NatUnsolicited => b"NatUnsolicited",
-        StopName::PeerNotActive => b"PeerNotActive",
-        StopName::PeerSource => b"PeerSource",
-        StopName::PeerDestination => b"PeerDestination",
-        StopName::TgwNoAttachment => b"TgwNoAttachment",
-        StopName::TgwNoZone => b"TgwNoZone",
-        StopName::TgwNoTable => b"TgwNoTable",
-        StopName::TgwNoRoute => b"TgwNoRoute",
-        StopName::TgwBlackhole => b"TgwBlackhole",
-        StopName::Unmodelled => b"Unmodelled",
-        StopName::Loop => b"Loop",
-        StopName::TooFar => b"TooFar",
-        StopName::WrongPlace => b"WrongPlace",
-        StopName::WrongReturn => b"WrongReturn",
-        StopName::NoReply => b"NoReply",
-    }
-}
 
 // ---- the component
 
@@ -75,8 +28,7 @@ fn route_at<'a>(n: &'a Network, t: TableNo, k: u32) -> &'a Route
     requires { IsTrue (is_route n.now t k) }
     ensures { let table = table_at n.now t in result.now ≡ slice_index_or table.routes k no_route }
 {
-    let table = &n.description().tables.as_slice()[t.0 as usize];
-    &table.routes.as_slice()[k as usize]
+    &n.table_at(t).routes.as_slice()[k as usize]
 }
 
 // A route of a transit gateway route table by its number there.
@@ -84,8 +36,7 @@ fn tgw_route_at<'a>(n: &'a Network, t: TgwTableNo, k: u32) -> &'a TgwRoute
     requires { IsTrue (is_tgw_route n.now t k) }
     ensures { let table = tgw_table_at n.now t in result.now ≡ slice_index_or table.routes k no_tgw_route }
 {
-    let table = &n.description().tgw_tables.as_slice()[t.0 as usize];
-    &table.routes.as_slice()[k as usize]
+    &n.tgw_table_at(t).routes.as_slice()[k as usize]
 }
 
 fn target_id(target: &Target) -> &[u8]
@@ -122,11 +73,33 @@ fn foreign_id<'a>(n: &'a Network, f: &Foreign) -> &'a [u8]
 {
     match *f {
         Foreign::Target(t, k) => target_id(&route_at(n, t, k).target),
-        Foreign::Nat(g) => nat_id(n, g),
-        Foreign::Peering(x) => peering_id(n, x),
-        Foreign::Attachment(a) => attachment_id(n, a),
-        Foreign::Table(t) => tgw_table_id(n, t),
+        Foreign::Nat(g) => n.nat_at(g).id.bytes(),
+        Foreign::Peering(x) => n.peering_at(x).id.bytes(),
+        Foreign::Attachment(a) => n.attachment_at(a).id.bytes(),
+        Foreign::Table(t) => n.tgw_table_at(t).id.bytes(),
         Foreign::FarAttachment(t, k) => far_attachment_id(n, t, k),
+    }
+}
+
+fn component_id<'a>(n: &'a Network, component: Component) -> &'a [u8]
+    requires { IsTrue (has_component n.now component) }
+    ensures value { result.now ≡ component_id n.now component }
+    ensures visible { IsTrue (is_id result.now) }
+{
+    match component {
+        Component::Interface(i) => n.interface_at(i).id.bytes(),
+        Component::Table(t) => n.table_at(t).id.bytes(),
+        Component::Target(t, k) => target_id(&route_at(n, t, k).target),
+        Component::Acl(a) => n.acl_at(a).id.bytes(),
+        Component::Vpc(v) => n.vpc_at(v).id.bytes(),
+        Component::InternetGateway(g) => n.igw_at(g).id.bytes(),
+        Component::NatGateway(g) => n.nat_at(g).id.bytes(),
+        Component::Peering(x) => n.peering_at(x).id.bytes(),
+        Component::Attachment(a) => n.attachment_at(a).id.bytes(),
+        Component::TransitTable(t) => n.tgw_table_at(t).id.bytes(),
+        Component::Foreign(f) => foreign_id(n, &f),
+        Component::Place(p) => place_id(n, &p),
+        Component::End(end) => end_id(n, &end),
     }
 }
 
@@ -136,107 +109,47 @@ pub fn stop_id<'a>(n: &'a Network, s: &Stop) -> &'a [u8]
     ensures value { result.now ≡ stop_id n.now s.now }
     ensures visible { IsTrue (is_id result.now) }
 {
-    match s {
-        Stop::Detached(i) => eni_id(n, *i),
-        Stop::SourceCheck(i) => eni_id(n, *i),
-        Stop::DestCheck(i) => eni_id(n, *i),
-        Stop::GroupsOut(i) => eni_id(n, *i),
-        Stop::GroupsIn(i) => eni_id(n, *i),
-        Stop::NotAHost(i) => eni_id(n, *i),
-        Stop::ApplianceDrop(i) => eni_id(n, *i),
-        Stop::NoRoute(t) => table_id(n, *t),
-        Stop::Blackhole(t, _) => table_id(n, *t),
-        Stop::AclOut(a, _) => acl_id(n, *a),
-        Stop::AclIn(a, _) => acl_id(n, *a),
-        Stop::NoHost(v) => vpc_id(n, *v),
-        Stop::NoGateway(v) => vpc_id(n, *v),
-        Stop::GatewayDetached(g) => igw_id(n, *g),
-        Stop::NoPublic(g) => igw_id(n, *g),
-        Stop::PrivateAddress => b"internet",
-        Stop::NatNotAvailable(g) => nat_id(n, *g),
-        Stop::NatAnswer(g) => nat_id(n, *g),
-        Stop::NatProtocol(g) => nat_id(n, *g),
-        Stop::NatFull(g) => nat_id(n, *g),
-        Stop::NatUnsolicited(g) => nat_id(n, *g),
-        Stop::PeerNotActive(x) => peering_id(n, *x),
-        Stop::PeerSource(x) => peering_id(n, *x),
-        Stop::PeerDestination(x) => peering_id(n, *x),
-        Stop::TgwNoAttachment(t, k) => target_id(&route_at(n, *t, *k).target),
-        Stop::TgwNoZone(a) => attachment_id(n, *a),
-        Stop::TgwNoTable(a) => attachment_id(n, *a),
-        Stop::TgwNoRoute(t) => tgw_table_id(n, *t),
-        Stop::TgwBlackhole(t, _) => tgw_table_id(n, *t),
-        Stop::Unmodelled(f) => foreign_id(n, f),
-        Stop::Loop(p) => place_id(n, p),
-        Stop::TooFar(p) => place_id(n, p),
-        Stop::WrongPlace(end) => end_id(n, end),
-        Stop::WrongReturn(end) => end_id(n, end),
-        Stop::NoReply(end) => end_id(n, end),
-    }
+    component_id(n, s.component())
 }
 
 // ---- the rule
 
-/// The rule that stops a packet: the number of an ACL's row, the block or the prefix list of a route, or none.
+/// The rule that stops a packet, as it is printed: the number of an ACL's row, the block or the prefix list of a route, or none.
 #[derive(Clone, Copy)]
-pub enum StopRule<'a> {
+pub enum RuleWord<'a> {
     Row(u16),
     Block(&'a Prefix),
     List(&'a Id),
     None,
 }
 
-fn rule_of_reach(reach: &Reach) -> StopRule
-    ensures { rule_text result ≡ reach_text reach.now }
+fn word_of_reach(reach: &Reach) -> RuleWord
+    ensures { rule_word result ≡ reach_text reach.now }
 {
     match reach {
-        Reach::Block(block) => StopRule::Block(block),
-        Reach::List(id) => StopRule::List(id),
+        Reach::Block(block) => RuleWord::Block(block),
+        Reach::List(id) => RuleWord::List(id),
+    }
+}
+
+fn word_of_rule<'a>(n: &'a Network, rule: StopRule) -> RuleWord<'a>
+    requires { IsTrue (has_stop_rule n.now rule) }
+    ensures { rule_word result ≡ rule_text n.now rule }
+{
+    match rule {
+        StopRule::None => RuleWord::None,
+        StopRule::AclRow(number) => RuleWord::Row(number),
+        StopRule::Route(t, k) => word_of_reach(&route_at(n, t, k).reach),
+        StopRule::TransitRoute(t, k) => RuleWord::Block(&tgw_route_at(n, t, k).block),
     }
 }
 
 /// The rule of a stop.
-pub fn rule_of<'a>(n: &'a Network, s: &Stop) -> StopRule<'a>
+pub fn rule_of<'a>(n: &'a Network, s: &Stop) -> RuleWord<'a>
     requires { IsTrue (has_text n.now s.now) }
-    ensures { rule_text result ≡ stop_rule n.now s.now }
+    ensures { rule_word result ≡ stop_rule n.now s.now }
 {
-    match s {
-        Stop::Blackhole(t, k) => rule_of_reach(&route_at(n, *t, *k).reach),
-        Stop::AclOut(_, number) => StopRule::Row(*number),
-        Stop::AclIn(_, number) => StopRule::Row(*number),
-        Stop::TgwBlackhole(t, k) => StopRule::Block(&tgw_route_at(n, *t, *k).block),
-        Stop::Detached(_)
-        | Stop::SourceCheck(_)
-        | Stop::DestCheck(_)
-        | Stop::GroupsOut(_)
-        | Stop::GroupsIn(_)
-        | Stop::NotAHost(_)
-        | Stop::ApplianceDrop(_)
-        | Stop::NoRoute(_)
-        | Stop::NoHost(_)
-        | Stop::NoGateway(_)
-        | Stop::GatewayDetached(_)
-        | Stop::NoPublic(_)
-        | Stop::PrivateAddress
-        | Stop::NatNotAvailable(_)
-        | Stop::NatAnswer(_)
-        | Stop::NatProtocol(_)
-        | Stop::NatFull(_)
-        | Stop::NatUnsolicited(_)
-        | Stop::PeerNotActive(_)
-        | Stop::PeerSource(_)
-        | Stop::PeerDestination(_)
-        | Stop::TgwNoAttachment(_, _)
-        | Stop::TgwNoZone(_)
-        | Stop::TgwNoTable(_)
-        | Stop::TgwNoRoute(_)
-        | Stop::Unmodelled(_)
-        | Stop::Loop(_)
-        | Stop::TooFar(_)
-        | Stop::WrongPlace(_)
-        | Stop::WrongReturn(_)
-        | Stop::NoReply(_) => StopRule::None,
-    }
+    word_of_rule(n, s.rule())
 }
 
 fn put_row_number(out: &mut Vec<u8>, number: u16) -> Result<(), NoMemory>
@@ -261,15 +174,15 @@ fn put_id(out: &mut Vec<u8>, id: &Id) -> Result<(), NoMemory>
     put(out, id.bytes())
 }
 
-fn put_rule(out: &mut Vec<u8>, rule: StopRule) -> Result<(), NoMemory>
-    ensures text { OnOk result (out.new.items ≡ out.old.items ++ rule_text rule.entry) }
-    ensures visible { IsTrue (is_id (rule_text rule.entry)) }
+fn put_rule(out: &mut Vec<u8>, rule: RuleWord) -> Result<(), NoMemory>
+    ensures text { OnOk result (out.new.items ≡ out.old.items ++ rule_word rule.entry) }
+    ensures visible { IsTrue (is_id (rule_word rule.entry)) }
 {
     match rule {
-        StopRule::Row(number) => put_row_number(out, number),
-        StopRule::Block(block) => put_block(out, block),
-        StopRule::List(id) => put_id(out, id),
-        StopRule::None => put(out, b"-"),
+        RuleWord::Row(number) => put_row_number(out, number),
+        RuleWord::Block(block) => put_block(out, block),
+        RuleWord::List(id) => put_id(out, id),
+        RuleWord::None => put(out, b"-"),
     }
 }
 

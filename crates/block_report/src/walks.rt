@@ -1,14 +1,16 @@
 // Stops, the ends of walks, and whole walks.
 ghost use Rattle.std.specs.Prelude.{◌≡◌, ◌++◌, All, IsTrue, OnOk};
-ghost use Rattle.block_report.specs.Walks.{arrived_line, name_text, outcome_line, stop_text, stop_words, stopped_line, walk_text};
+ghost use Rattle.block_report.specs.Walks.{arrived_line, outcome_line, stop_text, stop_words, stopped_line, walk_text};
 ghost use Rattle.block_report.specs.Words.{word};
 ghost use Rattle.vpc_laws.specs.Sound.{EndsWell, IsSoundHop};
+ghost use Rattle.vpc_model.specs.Names.{name_text};
 ghost use Rattle.vpc_model.specs.Sound.{has_text};
 ghost use Rattle.vpc_model.specs.Told.{name_of, stop_id, stop_rule};
 
 use crate::hops::put_hops;
+use crate::names::name_text;
 use crate::places::end_id;
-use crate::stops::{name_text, put_stop_rule, stop_id};
+use crate::stops::{put_stop_rule, stop_id};
 use crate::words::{put, put_end, put_word};
 use reference_check::Network;
 use vpc_base::NoMemory;

@@ -4,22 +4,24 @@ use Rattle.std.specs.Fmt.{digit_glyph, digits, digits_onto}
 use Rattle.std.specs.List.{slice_index_or}
 use Rattle.std.proofs.lemmas.List.Elements.{All-append, All-cons, All-head, All-nil, All-tail}
 use Rattle.block_report.specs.Words.{word}
-use Rattle.block_report.specs.Walks.{name_text, phase_text, stop_text}
+use Rattle.block_report.specs.Walks.{phase_text, stop_text}
 use Rattle.listing_reader.specs.ReadsBack.{IsOneLine}
 use Rattle.prefix_text.specs.Addr.{addr_text}
 use Rattle.prefix_text.specs.Block.{Block, block_text}
-use Rattle.vpc_laws.specs.Types.{Acl, AclNo, AttNo, Attachment, Description, End, EniNo, Foreign, IgwNo, InternetGateway, NatGateway, NatNo, PeerNo, Peering, Subnet, SubnetNo, Vpc, Phase, Place, Reach, Route, RouteTable, Stop, StopName, TableNo, TgwRoute, TgwTable, TgwTableNo, VpcNo}
+use Rattle.vpc_laws.specs.Types.{Acl, AclNo, AttNo, Attachment, Component, Description, End, EniNo, Foreign, IgwNo, InternetGateway, NatGateway, NatNo, PeerNo, Peering, Subnet, SubnetNo, Vpc, Phase, Place, Reach, Route, RouteTable, Stop, StopRule, TableNo, TgwRoute, TgwTable, TgwTableNo, VpcNo}
 use Rattle.vpc_model.specs.Id.{is_id}
 use Rattle.vpc_model.specs.Lookup.{acl_at, attachment_at, igw_at, interface_at, nat_at, peering_at, subnet_at, table_at, tgw_table_at, vpc_at}
+use Rattle.vpc_model.specs.Names.{name_text}
 use Rattle.vpc_model.specs.Step.Router.{no_route}
 use Rattle.vpc_model.specs.Step.Transit.{no_tgw_route}
-use Rattle.vpc_model.specs.Told.{end_id, foreign_id, name_of, place_id, reach_text, route_target_id, stop_id, stop_rule, target_id, tgw_route_attachment}
+use Rattle.vpc_model.specs.Told.{component_id, component_of, end_id, foreign_id, name_of, place_id, reach_text, route_target_id, rule_of, rule_text, stop_id, stop_rule, target_id, tgw_route_attachment}
 use Rattle.vpc_model.specs.declared.outcomes.Phase.TheVariants as phases
 use Rattle.vpc_model.specs.declared.places.Place.TheVariants as places
 use Rattle.vpc_model.specs.declared.rows.Reach.TheVariants as reaches
 use Rattle.vpc_model.specs.declared.stops.Foreign.TheVariants as foreign
-use Rattle.vpc_model.specs.declared.stops.StopName.TheVariants as names
-use Rattle.vpc_model.specs.declared.stops.Stop.TheVariants as stops
+use Rattle.vpc_model.specs.declared.stops.Component.TheVariants as at
+use Rattle.vpc_model.specs.declared.stops.StopRule.TheVariants as rules
+use Rattle.vpc_model.proofs.Names.{visible_name}
 use Rattle.listing_laws.proofs.ShortWords.{IsShortWord, IsShortWord-id}
 use Rattle.listing_laws.specs.Typed.{HasListId, HasTypedRows, IsTypedRoute, IsTypedTable, IsTypedTgwRoute, IsTypedTgwTable}
 use Rattle.listing_laws.proofs.Typing.{IsShortWord-end_id, known}
@@ -173,12 +175,6 @@ tgw_lines d t typed =
     })
     typed.tgw_tables (record { id = no_piece; routes = λ k. no_piece })
 
--- ---- names
-
-name_is_id : (n : StopName) → is_id (name_text n) ≡ true
-name_is_id names.Detached = refl
-name_is_id _ = refl
-
 -- ---- components
 
 module _ (d : Description) (typed : HasTypedRows d) where
@@ -243,49 +239,26 @@ module _ (d : Description) (typed : HasTypedRows d) where
   foreign_line (foreign.Table t) = tgw_table_line t
   foreign_line (foreign.FarAttachment t k) = far_line t k
 
-  component_line : (s : Stop) → IsPiece (stop_id d s)
-  component_line (stops.Detached i) = interface_line i
-  component_line (stops.SourceCheck i) = interface_line i
-  component_line (stops.DestCheck i) = interface_line i
-  component_line (stops.GroupsOut i) = interface_line i
-  component_line (stops.GroupsIn i) = interface_line i
-  component_line (stops.NotAHost i) = interface_line i
-  component_line (stops.ApplianceDrop i) = interface_line i
-  component_line (stops.NoRoute t) = table_line t
-  component_line (stops.Blackhole t k) = table_line t
-  component_line (stops.AclOut a n) = acl_line a
-  component_line (stops.AclIn a n) = acl_line a
-  component_line (stops.NoHost v) = vpc_line v
-  component_line (stops.NoGateway v) = vpc_line v
-  component_line (stops.GatewayDetached g) = igw_line g
-  component_line (stops.NoPublic g) = igw_line g
-  component_line stops.PrivateAddress = id_piece (codes "internet") refl
-  component_line (stops.NatNotAvailable n) = nat_line n
-  component_line (stops.NatAnswer n) = nat_line n
-  component_line (stops.NatProtocol n) = nat_line n
-  component_line (stops.NatFull n) = nat_line n
-  component_line (stops.NatUnsolicited n) = nat_line n
-  component_line (stops.PeerNotActive x) = peering_line x
-  component_line (stops.PeerSource x) = peering_line x
-  component_line (stops.PeerDestination x) = peering_line x
-  component_line (stops.TgwNoAttachment t k) = target_line t k
-  component_line (stops.TgwNoZone a) = attachment_line a
-  component_line (stops.TgwNoTable a) = attachment_line a
-  component_line (stops.TgwNoRoute t) = tgw_table_line t
-  component_line (stops.TgwBlackhole t k) = tgw_table_line t
-  component_line (stops.Unmodelled f) = foreign_line f
-  component_line (stops.Loop p) = place_line p
-  component_line (stops.TooFar p) = place_line p
-  component_line (stops.WrongPlace e) = end_line e
-  component_line (stops.WrongReturn e) = end_line e
-  component_line (stops.NoReply e) = end_line e
+  component_line : (c : Component) → IsPiece (component_id d c)
+  component_line (at.Interface i) = interface_line i
+  component_line (at.Table t) = table_line t
+  component_line (at.Target t k) = target_line t k
+  component_line (at.Acl a) = acl_line a
+  component_line (at.Vpc v) = vpc_line v
+  component_line (at.InternetGateway g) = igw_line g
+  component_line (at.NatGateway n) = nat_line n
+  component_line (at.Peering x) = peering_line x
+  component_line (at.Attachment a) = attachment_line a
+  component_line (at.TransitTable t) = tgw_table_line t
+  component_line (at.Foreign f) = foreign_line f
+  component_line (at.Place p) = place_line p
+  component_line (at.End e) = end_line e
 
-  rule_line : (s : Stop) → IsPiece (stop_rule d s)
-  rule_line (stops.Blackhole t k) = let lines = table_lines d t typed in let route = lines.routes k in route.reach
-  rule_line (stops.AclOut a n) = decimal_piece n
-  rule_line (stops.AclIn a n) = decimal_piece n
-  rule_line (stops.TgwBlackhole t k) = block_piece _
-  rule_line _ = id_piece (codes "-") refl
+  rule_line : (r : StopRule) → IsPiece (rule_text d r)
+  rule_line rules.None = id_piece (codes "-") refl
+  rule_line (rules.AclRow n) = decimal_piece n
+  rule_line (rules.Route t k) = let lines = table_lines d t typed in let route = lines.routes k in route.reach
+  rule_line (rules.TransitRoute t k) = block_piece _
 
   -- ---- stops
 
@@ -293,7 +266,7 @@ module _ (d : Description) (typed : HasTypedRows d) where
   stop_line s =
       let name = name_text (name_of s) in
       line_word 801 400 1202 (name ++ word (stop_id d s)) (stop_rule d s)
-      (line_word 400 400 801 name (stop_id d s) (id_piece name (name_is_id (name_of s))) (component_line s) (omega arith)) (rule_line s)
+      (line_word 400 400 801 name (stop_id d s) (id_piece name (visible_name (name_of s))) (component_line (component_of s)) (omega arith)) (rule_line (rule_of s))
       (omega arith)
 
 pub phase_line : (p : Phase) → IsPiece (phase_text p)

@@ -21,19 +21,19 @@ use Rattle.report_reader.specs.ReadsBack.{AreNamed, IsNamed}
 -- ---- what is read after a word that was taken
 
 -- it was taken, and what follows is the answer
-record WasTaken {A B : Type 0} (r : Result A QueryRefusal) (next : A → Result B QueryRefusal) (b : B) : Type 0 where
+pub record WasTaken {A B : Type 0} (r : Result A QueryRefusal) (next : A → Result B QueryRefusal) (b : B) : Type 0 where
   pub value : A
   pub taken : r ≡ Ok value
   pub follows : next value ≡ Ok b
 
-was_taken : {A B : Type 0} (r : Result A QueryRefusal) (next : A → Result B QueryRefusal) (b : B) → (r >>= next) ≡ Ok b → WasTaken r next b
+pub was_taken : {A B : Type 0} (r : Result A QueryRefusal) (next : A → Result B QueryRefusal) (b : B) → (r >>= next) ≡ Ok b → WasTaken r next b
 was_taken (Ok a) next b is = record { value = a; taken = refl; follows = is }
 was_taken (Err cause) next b is = absurd (cc)
 
-abbrev taken_as : {A : Type 0} → A → Result A QueryRefusal
+abbrev pub taken_as : {A : Type 0} → A → Result A QueryRefusal
 taken_as a = Ok a
 
-ok_is : {A : Type 0} (a b : A) → taken_as a ≡ Ok b → a ≡ b
+pub ok_is : {A : Type 0} (a b : A) → taken_as a ≡ Ok b → a ≡ b
 ok_is a b is = cc
 
 -- ---- an end

@@ -4,7 +4,9 @@ use Rattle.std.proofs.lemmas.Bool.{and_parts, leb-true}
 use Rattle.std.proofs.lemmas.Fmt.{length-decimal-le}
 use Rattle.std.proofs.lemmas.List.Elements.{All-head, All-tail}
 use Rattle.header_boxes.specs.Boxes.{IsValid}
+use Rattle.header_boxes.proofs.Held.{valid_if_within}
 use Rattle.prefix_text.proofs.AddrLaws.{length-addr_text-le}
+use Rattle.prefix_text.proofs.RangeLaws.{length-range_text-le}
 use Rattle.prefix_text.specs.Addr.{addr_text}
 use Rattle.prefix_text.specs.Range.{range_text}
 use Rattle.vpc_laws.specs.Types.{Box5, Description, Row, StopText}
@@ -12,12 +14,14 @@ use Rattle.vpc_model.specs.Accepted.{IsAccepted}
 use Rattle.vpc_model.specs.Id.{is_id}
 use Rattle.vpc_model.specs.Told.{end_id}
 use Rattle.block_report.specs.Reports.{addresses_text, box_line, box_text, ends_line, report_of, report_text, row_line, row_lines_from}
-use Rattle.block_report.specs.Walks.{name_text, phase_text}
+use Rattle.vpc_model.specs.Names.{name_text}
+use Rattle.vpc_model.proofs.Names.{visible_name}
+use Rattle.block_report.specs.Walks.{phase_text}
 use Rattle.report_reader.specs.declared.report.Report.{Report}
 use Rattle.report_reader.specs.ReadsBack.{Fits, IsPrintable, length_limit}
 use Rattle.report_reader.proofs.RowsOf.{IsRowOf, rows_of}
-use Rattle.report_reader.proofs.ReadLines.{visible_name, visible_phase}
-use Rattle.report_reader.proofs.ReadWords.{fits-within, valid-within}
+use Rattle.report_reader.proofs.ReadLines.{visible_phase}
+use Rattle.report_reader.proofs.ReadWords.{fits-within}
 
 -- ---- words
 
@@ -27,13 +31,7 @@ length-id-le id h = leb-true (length id) 256 (and_parts _ _ (and_parts _ _ h).1)
 length-number-le : (n : ℕ) → n < 2 ^ 16 → length (decimal n) ≤ 5
 length-number-le n fits = length-decimal-le 5 n (lit< tt) (omega arith) (omega arith)
 
-length-range_text-le : (r : ℕ × ℕ) → r.0 < 2 ^ 16 → r.1 < 2 ^ 16 → length (range_text r) ≤ 11
-length-range_text-le r first last =
-    let a = length-number-le r.0 first in
-    let b = length-number-le r.1 last in
-    simp length-append (omega arith)
-
-length-addresses_text-le : (r : ℕ × ℕ) → r.0 < 2 ^ 32 → r.1 < 2 ^ 32 → length (addresses_text r) ≤ 31
+pub length-addresses_text-le : (r : ℕ × ℕ) → r.0 < 2 ^ 32 → r.1 < 2 ^ 32 → length (addresses_text r) ≤ 31
 length-addresses_text-le r first last =
     let a = length-addr_text-le r.0 first in
     let b = length-addr_text-le r.1 last in
@@ -44,7 +42,7 @@ length-addresses_text-le r first last =
 five_words : (a b c d e : List ℕ) → length a ≤ 11 → length b ≤ 31 → length c ≤ 31 → length d ≤ 11 → length e ≤ 11 → length ((((a ++ 32 ∷ b) ++ 32 ∷ c) ++ 32 ∷ d) ++ 32 ∷ e) ≤ 100
 five_words a b c d e la lb lc ld le = simp length-append (omega arith)
 
-length-box_text-le : (b : Box5) → IsValid b → Fits b → length (box_text b) ≤ 100
+pub length-box_text-le : (b : Box5) → IsValid b → Fits b → length (box_text b) ≤ 100
 length-box_text-le b valid fits =
     five_words (range_text b.proto) (addresses_text b.src) (addresses_text b.dst) (range_text b.p) (range_text b.q)
     (length-range_text-le b.proto (omega (arith, valid.proto, fits.proto)) (omega (arith, fits.proto)))
@@ -69,7 +67,7 @@ length-row_line-le whole n row few fits h =
     (length-id-le (name_text told.name) (visible_name told.name))
     (length-id-le told.id h.id)
     (length-id-le told.rule h.rule)
-    (length-box_text-le row.part (valid-within row.part whole h.within) (fits-within row.part whole h.within fits))
+    (length-box_text-le row.part (valid_if_within row.part whole h.within) (fits-within row.part whole h.within fits))
 
 line_more : (line lines : List ℕ) (n : ℕ) → length line ≤ 1200 → length lines ≤ n * 1200 → length (line ++ lines) ≤ suc n * 1200
 line_more line lines n short few = omega (arith, length-append line lines)

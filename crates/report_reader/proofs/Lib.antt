@@ -1,5 +1,4 @@
 pub mod AskedEnds
-pub mod Found
 pub mod Lengths
 pub mod Printed
 pub mod Printing
@@ -9,6 +8,5 @@ pub mod ReadReports
 pub mod ReadWords
 pub mod RowLemmas
 pub mod RowsOf
-pub mod Spelling
 pub mod Within
 pub mod WordLemmas

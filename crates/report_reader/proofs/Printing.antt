@@ -1,6 +1,5 @@
 -- What is printed about a query is read again.
-use Rattle.std.proofs.Common.{◌≡◌, ◌≤◌, Err, List, Ok, Result, length, refl, subst, sym, true, ℕ}
-use Rattle.std.specs.Prelude.{IfOk}
+use Rattle.std.proofs.Common.{◌≡◌, ◌≤◌, List, Ok, length, refl, subst, sym, true, ℕ}
 use Rattle.vpc_laws.specs.Types.{Description, End}
 use Rattle.vpc_model.specs.declared.places.End.TheVariants as ends
 use Rattle.vpc_model.specs.Accepted.{IsAccepted}
@@ -24,7 +23,3 @@ reads_if_printed d r text accepted printable is = subst (λ (t : List ℕ). repo
 -- and is short
 pub short_if_printed : (d : Description) (r : Report) (text : List ℕ) → IsAccepted d → IsPrintable d r → text ≡ report_text d r.start r.goal r.sides r.rows → length text ≤ length_limit
 short_if_printed d r text accepted printable is = subst (λ (t : List ℕ). length t ≤ length_limit) (sym is) (printed_reports_fit d r accepted printable)
-
-pub if_ok_two : {A E : Type 0} (P R Q : A → Type 0) (r : Result A E) → ((a : A) → P a → R a → Q a) → IfOk r P → IfOk r R → IfOk r Q
-if_ok_two P R Q (Ok a) follows p r = follows a p r
-if_ok_two P R Q (Err e) follows p r = tt

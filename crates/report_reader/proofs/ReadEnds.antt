@@ -3,8 +3,9 @@ use Rattle.std.proofs.Common.{◌≡◌, ◌∙◌, ◌&&◌, List, None, Option
 use Rattle.std.specs.Result.{result_ok}
 use Rattle.std.specs.Str.{bytes_eq}
 use Rattle.std.proofs.lemmas.Bool.{cond-false, cond-true}
-use Rattle.vpc_laws.proofs.Members.{member-list_any}
-use Rattle.vpc_laws.proofs.Numbering.{accepted_numbers_are_own, bytes_self, row-member}
+use Rattle.vpc_base.proofs.Bytes.{bytes_self}
+use Rattle.vpc_base.proofs.Members.{member-list_any, row-member}
+use Rattle.vpc_laws.proofs.Numbering.{accepted_numbers_are_own}
 use Rattle.vpc_laws.specs.Types.{Description, End, EniNo, Interface}
 use Rattle.vpc_model.specs.declared.places.End.TheVariants as ends
 use Rattle.vpc_model.specs.Accepted.{IsAccepted}

@@ -1,22 +1,24 @@
 -- The lines of a printed report read as what they were.
 use Rattle.std.proofs.Common.{◌≡◌, ◌∙◌, ◌+◌, ◌<◌, ◌≤◌, ◌++◌, ◌∷◌, [], Bool, List, None, Ok, Option, Some, ap, append_assoc, arith, codes, decimal, if◌then◌else◌, lt-ltb, refl, true, ℕ}
 use Rattle.std.proofs.lemmas.Bool.{cond-true}
+use Rattle.vpc_base.proofs.Bytes.{bytes_self}
 use Rattle.header_boxes.specs.Boxes.{IsValid}
+use Rattle.header_boxes.proofs.Held.{valid_if_within}
 use Rattle.prefix_text.specs.Range.{range_text}
-use Rattle.vpc_laws.proofs.Numbering.{bytes_self}
-use Rattle.vpc_laws.specs.Types.{Box5, Phase, Row, StopName, StopText}
-use Rattle.vpc_model.specs.declared.stops.StopName.TheVariants as names
+use Rattle.vpc_laws.specs.Types.{Box5, Phase, Row, StopText}
 use Rattle.vpc_model.specs.declared.outcomes.Phase.TheVariants as phases
 use Rattle.vpc_model.specs.Id.{is_id}
+use Rattle.vpc_model.specs.Names.{name_text}
+use Rattle.vpc_model.proofs.Names.{visible_name}
 use Rattle.block_report.specs.Reports.{addresses_text, box_line, box_text, row_line}
-use Rattle.block_report.specs.Walks.{name_text, phase_text}
+use Rattle.block_report.specs.Walks.{phase_text}
 use Rattle.report_reader.specs.Boxes.{◌>>=◌, box_at, is_inside}
 use Rattle.report_reader.specs.Lines.{part_of, row_in, row_of, sides_of, told_in}
 use Rattle.report_reader.specs.ReadsBack.{Fits}
 use Rattle.report_reader.specs.Reports.{next_row, row_or_end}
 use Rattle.report_reader.proofs.Printed.{AreWords, IsWord, IsWord-addresses_text, IsWord-decimal, IsWord-id, IsWord-range_text, joined, words_of-joined}
 use Rattle.report_reader.proofs.RowsOf.{IsRowOf}
-use Rattle.report_reader.proofs.ReadWords.{box_of-texts, fits-within, is_inside-within, told_of-texts, valid-within}
+use Rattle.report_reader.proofs.ReadWords.{box_of-texts, fits-within, is_inside-within, told_of-texts}
 
 -- ---- boxes
 
@@ -82,7 +84,7 @@ part_from whole read part is inside = rw is (cond-true _ _ _ inside)
 row_in-words : (whole : Box5) (n : ℕ) (row : Row StopText) → Fits whole → IsRowOf whole row → row_in whole (codes "row" ∷ row_words n row) ≡ Some row
 row_in-words whole n row fits h =
     let words = codes "row" ∷ row_words n row in
-    let box = box_of-texts row.part (valid-within row.part whole h.within) (fits-within row.part whole h.within fits) in
+    let box = box_of-texts row.part (valid_if_within row.part whole h.within) (fits-within row.part whole h.within fits) in
     row_from (part_of whole words) (told_in words) row
     (part_from whole (box_at words 6) row.part box (is_inside-within row.part whole h.within))
     (told_of-texts row.word h.id h.rule)
@@ -90,44 +92,7 @@ row_in-words whole n row fits h =
 pub row_of-words : (whole : Box5) (n : ℕ) (row : Row StopText) → Fits whole → IsRowOf whole row → row_of whole n (codes "row" ∷ row_words n row) ≡ Some row
 row_of-words whole n row fits h = cond-true _ _ _ (bytes_self (decimal n)) ∙ row_in-words whole n row fits h
 
--- names and phases are words
-pub visible_name : (name : StopName) → is_id (name_text name) ≡ true
-visible_name names.Detached = refl
-visible_name names.SourceCheck = refl
-visible_name names.DestCheck = refl
-visible_name names.GroupsOut = refl
-visible_name names.GroupsIn = refl
-visible_name names.NotAHost = refl
-visible_name names.ApplianceDrop = refl
-visible_name names.NoRoute = refl
-visible_name names.Blackhole = refl
-visible_name names.AclOut = refl
-visible_name names.AclIn = refl
-visible_name names.NoHost = refl
-visible_name names.NoGateway = refl
-visible_name names.GatewayDetached = refl
-visible_name names.NoPublic = refl
-visible_name names.PrivateAddress = refl
-visible_name names.NatNotAvailable = refl
-visible_name names.NatAnswer = refl
-visible_name names.NatProtocol = refl
-visible_name names.NatFull = refl
-visible_name names.NatUnsolicited = refl
-visible_name names.PeerNotActive = refl
-visible_name names.PeerSource = refl
-visible_name names.PeerDestination = refl
-visible_name names.TgwNoAttachment = refl
-visible_name names.TgwNoZone = refl
-visible_name names.TgwNoTable = refl
-visible_name names.TgwNoRoute = refl
-visible_name names.TgwBlackhole = refl
-visible_name names.Unmodelled = refl
-visible_name names.Loop = refl
-visible_name names.TooFar = refl
-visible_name names.WrongPlace = refl
-visible_name names.WrongReturn = refl
-visible_name names.NoReply = refl
-
+-- phases are words
 pub visible_phase : (phase : Phase) → is_id (phase_text phase) ≡ true
 visible_phase phases.Request = refl
 visible_phase phases.Reply = refl
@@ -139,7 +104,7 @@ AreWords-row whole n row few fits h = (
     IsWord-id _ (visible_phase row.word.phase),
     (
       IsWord-id _ (visible_name row.word.name),
-      (IsWord-id _ h.id, (IsWord-id _ h.rule, AreWords-box row.part (valid-within row.part whole h.within) (fits-within row.part whole h.within fits))),
+      (IsWord-id _ h.id, (IsWord-id _ h.rule, AreWords-box row.part (valid_if_within row.part whole h.within) (fits-within row.part whole h.within fits))),
     ),
   ),
 )

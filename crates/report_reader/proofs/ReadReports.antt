@@ -27,7 +27,7 @@ abbrev row_texts : ℕ → List (Row StopText) → List (List ℕ)
 row_texts count [] = []
 row_texts count (row ∷ rows) = joined (codes "row") (row_words (count + 1) row) ∷ row_texts (count + 1) rows
 
-line_before : (line rows rest : List ℕ) → ((line ++ 10 ∷ []) ++ rows) ++ rest ≡ line ++ 10 ∷ (rows ++ rest)
+pub line_before : (line rows rest : List ℕ) → ((line ++ 10 ∷ []) ++ rows) ++ rest ≡ line ++ 10 ∷ (rows ++ rest)
 line_before line rows rest = simp append_assoc
 
 pieces_of-rows : (whole : Box5) (count : ℕ) (rows : List (Row StopText)) (rest : List ℕ) → count + length rows ≤ 20000 → Fits whole → All (IsRowOf whole) rows

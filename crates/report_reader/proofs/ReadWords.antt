@@ -13,11 +13,12 @@ use Rattle.vpc_laws.specs.Types.{Box5, Phase, StopName, StopText}
 use Rattle.vpc_model.specs.declared.outcomes.Phase.TheVariants as phases
 use Rattle.vpc_model.specs.Id.{is_id}
 use Rattle.block_report.specs.Reports.{addresses_text}
-use Rattle.block_report.specs.Walks.{name_text, phase_text}
+use Rattle.vpc_model.specs.Names.{name_spelled, name_text}
+use Rattle.vpc_model.proofs.Names.{name_spelled-name_text}
+use Rattle.block_report.specs.Walks.{phase_text}
 use Rattle.report_reader.specs.Boxes.{◌>>=◌, addresses_of, box_of, is_inside, lies_in, ports_of, protos_of, range_between}
 use Rattle.report_reader.specs.ReadsBack.{Fits}
-use Rattle.report_reader.specs.Stops.{id_of, name_spelled, phase_of, told_of}
-use Rattle.report_reader.proofs.Spelling.{name_spelled-name_text}
+use Rattle.report_reader.specs.Stops.{id_of, phase_of, told_of}
 
 -- ---- ranges
 
@@ -87,9 +88,6 @@ fits-within part whole h fits = record {
   p = omega (arith, h.p.ends, fits.p);
   q = omega (arith, h.q.ends, fits.q);
 }
-
-pub valid-within : (part whole : Box5) → IsWithin part whole → IsValid part
-valid-within part whole h = record { proto = h.proto.valid; src = h.src.valid; dst = h.dst.valid; p = h.p.valid; q = h.q.valid }
 
 -- ---- stops
 

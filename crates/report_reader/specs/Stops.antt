@@ -1,11 +1,9 @@
 -- What is told of a stop, read from its words.
-use Rattle.std.specs.Prelude.{◌∷◌, [], if◌then◌else◌, List, None, Option, Some, bytes_eq, codes, ℕ}
-use Rattle.std.specs.List.{find}
+use Rattle.std.specs.Prelude.{if◌then◌else◌, List, None, Option, Some, bytes_eq, codes, ℕ}
 use Rattle.vpc_laws.specs.Types.{Phase, StopName, StopText}
 use Rattle.vpc_model.specs.declared.outcomes.Phase.TheVariants as phases
-use Rattle.vpc_model.specs.declared.stops.StopName.TheVariants as names
 use Rattle.vpc_model.specs.Id.{is_id}
-use Rattle.block_report.specs.Walks.{name_text}
+use Rattle.vpc_model.specs.Names.{name_spelled}
 use Rattle.report_reader.specs.Boxes.{◌>>=◌}
 
 -- a phase by its word
@@ -13,21 +11,6 @@ abbrev pub phase_of : List ℕ → Option Phase
 phase_of word =
     if bytes_eq word (codes "request") then Some phases.Request
     else (if bytes_eq word (codes "reply") then Some phases.Reply else None)
-
--- all names of stops
-abbrev pub all_names : List StopName
-all_names =
-    names.Detached ∷ names.SourceCheck ∷ names.DestCheck ∷ names.GroupsOut ∷ names.GroupsIn ∷ names.NotAHost
-    ∷ names.ApplianceDrop ∷ names.NoRoute ∷ names.Blackhole ∷ names.AclOut ∷ names.AclIn ∷ names.NoHost ∷ names.NoGateway
-    ∷ names.GatewayDetached ∷ names.NoPublic ∷ names.PrivateAddress ∷ names.NatNotAvailable ∷ names.NatAnswer
-    ∷ names.NatProtocol ∷ names.NatFull ∷ names.NatUnsolicited ∷ names.PeerNotActive ∷ names.PeerSource
-    ∷ names.PeerDestination ∷ names.TgwNoAttachment ∷ names.TgwNoZone ∷ names.TgwNoTable ∷ names.TgwNoRoute
-    ∷ names.TgwBlackhole ∷ names.Unmodelled ∷ names.Loop ∷ names.TooFar ∷ names.WrongPlace ∷ names.WrongReturn
-    ∷ names.NoReply ∷ []
-
--- the name that a word spells
-abbrev pub name_spelled : List ℕ → Option StopName
-name_spelled word = find (λ name. bytes_eq (name_text name) word) all_names
 
 -- a component or a rule: 1 to 256 visible characters
 abbrev pub id_of : List ℕ → Option (List ℕ)

@@ -7,7 +7,6 @@
 mod boxes;
 mod laws;
 mod lines;
-mod names;
 mod readable;
 mod reading;
 mod report;

@@ -4,17 +4,15 @@ ghost use Rattle.prefix_text.specs.Block.{block_text};
 ghost use Rattle.vpc_model.specs.Sound.{has_text};
 ghost use Rattle.vpc_model.specs.Told.{name_of, stop_id, stop_rule, told_stop};
 
-use block_report::{StopRule, name_text, rule_of, stop_id};
+use block_report::{RuleWord, rule_of, stop_id};
 use prefix_text::{Prefix, cidr_notation, decimal_digits};
 use reference_check::Network;
 use vpc_model::{Phase, Stop, StopName, StopText};
 
-// Names are alike where they are spelled alike.
-#[tactic(auto, using(crate::proofs::Spelling::name_text_tells))]
 fn is_name(a: StopName, b: StopName) -> bool
     ensures { IsTrue result ↔ (a ≡ b) }
 {
-    name_text(a) == name_text(b)
+    a == b
 }
 
 fn is_number(text: &[u8], number: u16) -> bool
@@ -41,10 +39,10 @@ pub fn is_rule(n: &Network, text: &[u8], s: &Stop) -> bool
     ensures { result ≡ bytes_eq text.now (stop_rule n.now s.now) }
 {
     match rule_of(n, s) {
-        StopRule::Row(number) => is_number(text, number),
-        StopRule::Block(block) => is_block(text, block),
-        StopRule::List(id) => text == id.bytes(),
-        StopRule::None => is_dash(text),
+        RuleWord::Row(number) => is_number(text, number),
+        RuleWord::Block(block) => is_block(text, block),
+        RuleWord::List(id) => text == id.bytes(),
+        RuleWord::None => is_dash(text),
     }
 }
 

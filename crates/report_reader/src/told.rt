@@ -2,7 +2,7 @@
 ghost use Rattle.std.specs.Prelude.{◌≡◌, IfOk};
 ghost use Rattle.report_reader.specs.Stops.{id_of, ids_of, phase_of, told_by, told_of};
 
-use crate::names::name_spelled;
+use block_report::name_spelled;
 use std::alloc::Global;
 use vpc_base::NoMemory;
 use vpc_model::{Id, Phase, StopName, StopText};

@@ -4,10 +4,11 @@ use Rattle.std.specs.List.{flat_map, list_any}
 use Rattle.std.specs.Prelude.{bytes_eq, nat_le, nat_lt}
 use Rattle.std.proofs.lemmas.Bool.{or_from, or_parts}
 use Rattle.std.proofs.lemmas.Bool.Decides.{nat_tests}
+use Rattle.std.proofs.lemmas.List.Elements.{filter_agree}
+use Rattle.vpc_base.proofs.Members.{append-nothing}
 use Rattle.copied_rows.specs.Filters.{with_filters}
 use Rattle.vpc_laws.specs.Types.{Acl, Appliance, Association, Attachment, Description, Group, Interface, InternetGateway, NatGateway, Peering, Permission, PrefixList, RouteTable, Subnet, TgwTable, Vpc}
 use Rattle.vpc_laws.proofs.Accepting.{accepted_is_faultless}
-use Rattle.vpc_laws.proofs.Members.{append-nothing}
 use Rattle.vpc_model.specs.Accepted.{IsAccepted, duplicates_in, holds_twice, ids_by_list, is_long, is_long_group, is_long_rule, missing_of_acl, missing_of_appliance, missing_of_attachment, missing_of_group, missing_of_igw, missing_of_interface, missing_of_life, missing_of_subnet, missing_of_table, missing_references, too_long, too_many_rows, two_acls, wanted, without_acl}
 use Rattle.vpc_model.specs.Lookup.{has_group, is_listed}
 use Rattle.vpc_model.specs.declared.refusals.ListName.{ListName}
@@ -16,7 +17,7 @@ use Rattle.vpc_model.specs.declared.refusals.Refusal.{Refusal}
 use Rattle.vpc_model.specs.declared.refusals.Refusal.TheVariants as refusals
 use Rattle.unused_rules.proofs.Fewer.{FewerRows, FewerRules, none-fewer, nothing-fewer}
 use Rattle.unused_rules.proofs.Parts.{length-part}
-use Rattle.unused_rules.proofs.Alike.{Alike, count-alike, filter-same, flat_map-alike, flat_map-same, length-alike, list_any-alike, map-alike, none-alike, nothing-alike}
+use Rattle.unused_rules.proofs.Alike.{Alike, count-alike, flat_map-alike, flat_map-same, length-alike, list_any-alike, map-alike, none-alike, nothing-alike}
 
 -- ---- the length of lists
 
@@ -141,13 +142,13 @@ listed-same s a b r = ap (λ (subnets : List (List ℕ)). is_listed s subnets) r
 without_acl-same : (d : Description) (acls : List Acl) (groups : List Group) → Alike FewerRows d.acls acls → without_acl (with_filters d acls groups) ≡ without_acl d
 without_acl-same d acls groups rows =
     ap (map (λ (s : Subnet). refusals.NoAcl s.id))
-    (filter-same (λ (s : Subnet). not (list_any (λ (a : Acl). is_listed s.id a.subnets) acls)) (λ (s : Subnet). not (list_any (λ (a : Acl). is_listed s.id a.subnets) d.acls))
+    (filter_agree (λ (s : Subnet). not (list_any (λ (a : Acl). is_listed s.id a.subnets) acls)) (λ (s : Subnet). not (list_any (λ (a : Acl). is_listed s.id a.subnets) d.acls))
     (λ s. ap not (sym (list_any-alike FewerRows (λ (a : Acl). is_listed s.id a.subnets) (listed-same s.id) d.acls acls rows))) d.subnets)
 
 two_acls-same : (d : Description) (acls : List Acl) (groups : List Group) → Alike FewerRows d.acls acls → two_acls (with_filters d acls groups) ≡ two_acls d
 two_acls-same d acls groups rows =
     ap (map (λ (s : Subnet). refusals.TwoAcls s.id))
-    (filter-same (λ (s : Subnet). holds_twice (λ (a : Acl). is_listed s.id a.subnets) acls) (λ (s : Subnet). holds_twice (λ (a : Acl). is_listed s.id a.subnets) d.acls)
+    (filter_agree (λ (s : Subnet). holds_twice (λ (a : Acl). is_listed s.id a.subnets) acls) (λ (s : Subnet). holds_twice (λ (a : Acl). is_listed s.id a.subnets) d.acls)
     (λ s. ap (nat_le 2) (sym (count-alike FewerRows (λ (a : Acl). is_listed s.id a.subnets) (listed-same s.id) d.acls acls rows))) d.subnets)
 
 lengths-same : (d : Description) (acls : List Acl) (groups : List Group) → Alike FewerRows d.acls acls → Alike FewerRules d.groups groups

@@ -1,10 +1,10 @@
 -- Lists that are alike item by item.
 use Rattle.std.proofs.Common.{◌≡◌, ◌+◌, ◌∙◌, ◌||◌, ◌++◌, ◌∷◌, [], Bool, List, None, Some, ap, ap₂, cond, false, get_or, length, map, not, refl, slice_set, suc, sym, zero, ℕ}
-use Rattle.std.specs.List.{count_by, filter, flat_map, list_any, position, position_or_len}
+use Rattle.std.specs.List.{count_by, flat_map, list_any, position, position_or_len}
 use Rattle.std.specs.Prelude.{nat_lt}
 use Rattle.std.proofs.lemmas.Bool.{or_from, or_parts}
-use Rattle.std.proofs.lemmas.List.Sums.{sum_by-cons}
-use Rattle.vpc_laws.proofs.Members.{append-nothing}
+use Rattle.vpc_base.proofs.Members.{append-nothing}
+use Rattle.vpc_base.proofs.Tests.{count_by-cons}
 
 -- ---- alike
 
@@ -56,13 +56,10 @@ list_any-alike R p same (x ∷ xs) (y ∷ ys) alike = ap₂ (λ a b. a || b) (sa
 list_any-alike R p same [] (y ∷ ys) alike = absurd alike
 list_any-alike R p same (x ∷ xs) [] alike = absurd alike
 
-count-cons : {X : Type 0} (p : X → Bool) (x : X) (xs : List X) → count_by p (x ∷ xs) ≡ cond (p x) 1 0 + count_by p xs
-count-cons p x xs = sum_by-cons (λ a. cond (p a) 1 0) x xs
-
 pub count-alike : {X : Type 0} (R : X → X → Type 0) (p : X → Bool) → ((x y : X) → R x y → p x ≡ p y) → (xs ys : List X) → Alike R xs ys → count_by p xs ≡ count_by p ys
 count-alike R p same [] [] alike = refl
 count-alike R p same (x ∷ xs) (y ∷ ys) alike =
-    count-cons p x xs ∙ (ap₂ (λ b n. cond b 1 0 + n) (same x y alike.0) (count-alike R p same xs ys alike.1) ∙ sym (count-cons p y ys))
+    count_by-cons p x xs ∙ (ap₂ (λ b n. cond b 1 0 + n) (same x y alike.0) (count-alike R p same xs ys alike.1) ∙ sym (count_by-cons p y ys))
 count-alike R p same [] (y ∷ ys) alike = absurd alike
 count-alike R p same (x ∷ xs) [] alike = absurd alike
 
@@ -109,11 +106,3 @@ none-alike R p less (x ∷ xs) [] alike none = absurd alike
 pub flat_map-same : {X Y : Type 0} (f g : X → List Y) → ((x : X) → f x ≡ g x) → (xs : List X) → flat_map f xs ≡ flat_map g xs
 flat_map-same f g same [] = refl
 flat_map-same f g same (x ∷ xs) = ap₂ (λ a rest. a ++ rest) (same x) (flat_map-same f g same xs)
-
-pub list_any-same : {X : Type 0} (p q : X → Bool) → ((x : X) → p x ≡ q x) → (xs : List X) → list_any p xs ≡ list_any q xs
-list_any-same p q same [] = refl
-list_any-same p q same (x ∷ xs) = ap₂ (λ a b. a || b) (same x) (list_any-same p q same xs)
-
-pub filter-same : {X : Type 0} (p q : X → Bool) → ((x : X) → p x ≡ q x) → (xs : List X) → filter p xs ≡ filter q xs
-filter-same p q same [] = refl
-filter-same p q same (x ∷ xs) = ap₂ (λ b rest. cond b (x ∷ rest) rest) (same x) (filter-same p q same xs)

@@ -5,15 +5,17 @@ use Rattle.std.specs.Prelude.{bytes_eq, nat_lt, option_and_then, option_map}
 use Rattle.std.proofs.lemmas.Bool.{both_ways, cases_Bool, ltb-true}
 use Rattle.std.proofs.lemmas.List.Folds.{list_any_at}
 use Rattle.std.proofs.lemmas.List.Sums.{passes_at_first}
+use Rattle.vpc_base.proofs.Options.{option_map-None}
+use Rattle.vpc_base.proofs.Positions.{found-at}
+use Rattle.vpc_base.proofs.Tests.{list_any-agree}
 use Rattle.copied_rows.specs.Filters.{with_filters}
-use Rattle.vpc_laws.proofs.Numbering.{found-at}
 use Rattle.vpc_laws.specs.Types.{Description, Dir, Group, GroupNo, Header, Interface, Permission}
 use Rattle.vpc_model.specs.Choice.{or_else}
 use Rattle.vpc_model.specs.Filter.{far_address, is_between, matches_proto}
 use Rattle.vpc_model.specs.Groups.{are_peers, first_rule, first_rule_of, is_member, names_address, permission_allows, permissions_of, reference_counts, rule_of_group}
 use Rattle.vpc_model.specs.Lookup.{entries_of, group_at, group_of_id, no_group}
 use Rattle.prefix_text.specs.Block.{holds}
-use Rattle.unused_rules.proofs.Alike.{Alike, get_or-alike, list_any-alike, list_any-same, position-alike}
+use Rattle.unused_rules.proofs.Alike.{Alike, get_or-alike, list_any-alike, position-alike}
 use Rattle.unused_rules.proofs.Fewer.{FewerRules, rules-part, same-rules}
 use Rattle.unused_rules.proofs.Parts.{none-part}
 
@@ -43,10 +45,6 @@ none-found p none xs e =
     no-place : (below : Bool) (k : ℕ) → below ≡ false → cond below (Some k) None ≡ None
     no-place true k is = absurd (cc)
     no-place false k is = refl
-
-map-none : {X Y : Type 0} (f : X → Y) (o : Option X) → option_map f o ≡ None → o ≡ None
-map-none f None e = refl
-map-none f (Some x) e = absurd (cc)
 
 no-map : {X Y : Type 0} (f : X → Y) (o : Option X) → o ≡ None → option_map f o ≡ None
 no-map f None e = refl
@@ -78,7 +76,7 @@ module _ (d : Description) (more less : List Group) (fewer : Alike FewerRules mo
   names-same : (vpc : List ℕ) (a : ℕ) (p : Permission) → names_address one vpc a p ≡ names_address other vpc a p
   names-same vpc a p =
       ap (λ (b : Bool). list_any (holds a) p.blocks || (list_any (λ l. list_any (holds a) (entries_of d l)) p.lists || b))
-      (list_any-same (λ g. reference_counts one vpc g && is_member d g a) (λ g. reference_counts other vpc g && is_member d g a)
+      (list_any-agree (λ g. reference_counts one vpc g && is_member d g a) (λ g. reference_counts other vpc g && is_member d g a)
       (λ g. ap (λ (b : Bool). b && is_member d g a) (counts-same vpc g)) p.groups)
 
   allows-same : (vpc : List ℕ) (dir : Dir) (h : Header) (p : Permission)
@@ -106,13 +104,13 @@ module _ (d : Description) (more less : List Group) (fewer : Alike FewerRules mo
       let r = group-fewer n in
       let no_permission : Permission = record { id = None; proto = None; q_from = 1; q_to = 0; blocks = []; lists = []; groups = [] } in
       let before : list_any (permission_allows one a.vpc dir h) (permissions_of dir a) ≡ false = none-passes _ no_permission
-      (permissions_of dir a) (map-none _ _ none) in
+      (permissions_of dir a) (option_map-None _ _ none) in
       let part : list_any (permission_allows one a.vpc dir h) (permissions_of dir b) ≡ false = none-part (permission_allows one a.vpc dir h)
       (rules-part dir a b r) before in
       let moved : list_any (permission_allows one b.vpc dir h) (permissions_of dir b) ≡ false = subst
       (λ (v : List ℕ). list_any (permission_allows one v dir h) (permissions_of dir b) ≡ false) r.vpc part in
       let after : list_any (permission_allows other b.vpc dir h) (permissions_of dir b) ≡ false =
-      sym (list_any-same (permission_allows one b.vpc dir h) (permission_allows other b.vpc dir h) (allows-same b.vpc dir h)
+      sym (list_any-agree (permission_allows one b.vpc dir h) (permission_allows other b.vpc dir h) (allows-same b.vpc dir h)
       (permissions_of dir b)) ∙ moved in
       no-map _ _ (none-found (permission_allows other b.vpc dir h) no_permission (permissions_of dir b) after)
 

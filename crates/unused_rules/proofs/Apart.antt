@@ -1,27 +1,28 @@
 -- The tests of what stops requests decide whether it is one.
 use Rattle.std.proofs.Common.{◌≡◌, ◌==◌, ◌&&◌, None, Option, Some, ap, ap₂, refl, subst, true, ℕ}
 use Rattle.std.specs.Bool.{Decides}
+use Rattle.std.specs.Prelude.{bytes_eq}
 use Rattle.std.proofs.lemmas.Bool.{and_from, and_parts, eqb-true, false≢true}
-use Rattle.vpc_laws.proofs.Same.{EniNo-same, NatNo-same, VpcNo-same, ends_are_told_apart, itself, same_place-refl, same_place-true}
-use Rattle.vpc_laws.specs.Types.{AclNo, AttNo, Foreign, IgwNo, PeerNo, Phase, Stop, TableNo, TgwTableNo}
+use Rattle.vpc_base.proofs.Bytes.{bytes_self, same_bytes}
+use Rattle.vpc_model.proofs.Names.{name_text_tells}
+use Rattle.vpc_model.proofs.Parts.{same_parts}
+use Rattle.vpc_laws.proofs.Same.{AttNo-same, EniNo-same, NatNo-same, PeerNo-same, VpcNo-same, ends_are_told_apart, itself, same_place-refl, same_place-true}
+use Rattle.vpc_laws.specs.Types.{AclNo, Component, Foreign, IgwNo, Phase, Stop, StopRule, TableNo, TgwTableNo}
 use Rattle.vpc_model.specs.declared.outcomes.Phase.TheVariants as phases
 use Rattle.vpc_model.specs.declared.stops.Foreign.TheVariants as foreign
-use Rattle.vpc_model.specs.declared.stops.Stop.TheVariants as stops
-use Rattle.unused_rules.specs.Same.{same_foreign, same_phase, same_stop, same_told}
+use Rattle.vpc_model.specs.declared.stops.Component.TheVariants as at
+use Rattle.vpc_model.specs.declared.stops.StopRule.TheVariants as rules
+use Rattle.vpc_model.specs.Names.{name_text}
+use Rattle.vpc_model.specs.Told.{component_of, name_of, parts_of, rule_of}
+use Rattle.unused_rules.specs.Same.{same_component, same_foreign, same_phase, same_rule, same_stop, same_told}
 
 -- ---- numbers
 
 AclNo-same : (a b : AclNo) → (a.0 == b.0) ≡ true → a ≡ b
 AclNo-same a b e = let make : ℕ → AclNo = λ k. record { 0 = k } in ap make (eqb-true a.0 b.0 e)
 
-AttNo-same : (a b : AttNo) → (a.0 == b.0) ≡ true → a ≡ b
-AttNo-same a b e = let make : ℕ → AttNo = λ k. record { 0 = k } in ap make (eqb-true a.0 b.0 e)
-
 IgwNo-same : (a b : IgwNo) → (a.0 == b.0) ≡ true → a ≡ b
 IgwNo-same a b e = let make : ℕ → IgwNo = λ k. record { 0 = k } in ap make (eqb-true a.0 b.0 e)
-
-PeerNo-same : (a b : PeerNo) → (a.0 == b.0) ≡ true → a ≡ b
-PeerNo-same a b e = let make : ℕ → PeerNo = λ k. record { 0 = k } in ap make (eqb-true a.0 b.0 e)
 
 TableNo-same : (a b : TableNo) → (a.0 == b.0) ≡ true → a ≡ b
 TableNo-same a b e = let make : ℕ → TableNo = λ k. record { 0 = k } in ap make (eqb-true a.0 b.0 e)
@@ -55,80 +56,69 @@ same_foreign-refl (foreign.Attachment x) = itself x.0
 same_foreign-refl (foreign.Table x) = itself x.0
 same_foreign-refl (foreign.FarAttachment x j) = both x.0 j
 
+same_component-true : (a b : Component) → same_component a b ≡ true → a ≡ b
+same_component-true (at.Interface x) (at.Interface y) e = ap at.Interface (EniNo-same x y e)
+same_component-true (at.Table x) (at.Table y) e = ap at.Table (TableNo-same x y e)
+same_component-true (at.Target x j) (at.Target y k) e = placed at.Target (λ t. t.0) TableNo-same x y j k e
+same_component-true (at.Acl x) (at.Acl y) e = ap at.Acl (AclNo-same x y e)
+same_component-true (at.Vpc x) (at.Vpc y) e = ap at.Vpc (VpcNo-same x y e)
+same_component-true (at.InternetGateway x) (at.InternetGateway y) e = ap at.InternetGateway (IgwNo-same x y e)
+same_component-true (at.NatGateway x) (at.NatGateway y) e = ap at.NatGateway (NatNo-same x y e)
+same_component-true (at.Peering x) (at.Peering y) e = ap at.Peering (PeerNo-same x y e)
+same_component-true (at.Attachment x) (at.Attachment y) e = ap at.Attachment (AttNo-same x y e)
+same_component-true (at.TransitTable x) (at.TransitTable y) e = ap at.TransitTable (TgwTableNo-same x y e)
+same_component-true (at.Foreign x) (at.Foreign y) e = ap at.Foreign (same_foreign-true x y e)
+same_component-true (at.Place x) (at.Place y) e = ap at.Place (same_place-true x y e)
+same_component-true (at.End x) (at.End y) e = let decides = ends_are_told_apart x y in ap at.End (decides.0 e)
+same_component-true _ _ e = absurd (false≢true e)
+
+same_component-refl : (a : Component) → same_component a a ≡ true
+same_component-refl (at.Interface x) = itself x.0
+same_component-refl (at.Table x) = itself x.0
+same_component-refl (at.Target x j) = both x.0 j
+same_component-refl (at.Acl x) = itself x.0
+same_component-refl (at.Vpc x) = itself x.0
+same_component-refl (at.InternetGateway x) = itself x.0
+same_component-refl (at.NatGateway x) = itself x.0
+same_component-refl (at.Peering x) = itself x.0
+same_component-refl (at.Attachment x) = itself x.0
+same_component-refl (at.TransitTable x) = itself x.0
+same_component-refl (at.Foreign x) = same_foreign-refl x
+same_component-refl (at.Place x) = same_place-refl x
+same_component-refl (at.End x) = let decides = ends_are_told_apart x x in decides.1 refl
+
+same_rule-true : (a b : StopRule) → same_rule a b ≡ true → a ≡ b
+same_rule-true rules.None rules.None e = refl
+same_rule-true (rules.AclRow j) (rules.AclRow k) e = ap rules.AclRow (eqb-true j k e)
+same_rule-true (rules.Route x j) (rules.Route y k) e = placed rules.Route (λ t. t.0) TableNo-same x y j k e
+same_rule-true (rules.TransitRoute x j) (rules.TransitRoute y k) e = placed rules.TransitRoute (λ t. t.0) TgwTableNo-same x y j k e
+same_rule-true _ _ e = absurd (false≢true e)
+
+same_rule-refl : (a : StopRule) → same_rule a a ≡ true
+same_rule-refl rules.None = refl
+same_rule-refl (rules.AclRow j) = itself j
+same_rule-refl (rules.Route x j) = both x.0 j
+same_rule-refl (rules.TransitRoute x j) = both x.0 j
+
 same_stop-true : (a b : Stop) → same_stop a b ≡ true → a ≡ b
-same_stop-true (stops.Detached x) (stops.Detached y) e = ap stops.Detached (EniNo-same x y e)
-same_stop-true (stops.SourceCheck x) (stops.SourceCheck y) e = ap stops.SourceCheck (EniNo-same x y e)
-same_stop-true (stops.DestCheck x) (stops.DestCheck y) e = ap stops.DestCheck (EniNo-same x y e)
-same_stop-true (stops.GroupsOut x) (stops.GroupsOut y) e = ap stops.GroupsOut (EniNo-same x y e)
-same_stop-true (stops.GroupsIn x) (stops.GroupsIn y) e = ap stops.GroupsIn (EniNo-same x y e)
-same_stop-true (stops.NotAHost x) (stops.NotAHost y) e = ap stops.NotAHost (EniNo-same x y e)
-same_stop-true (stops.ApplianceDrop x) (stops.ApplianceDrop y) e = ap stops.ApplianceDrop (EniNo-same x y e)
-same_stop-true (stops.NoRoute x) (stops.NoRoute y) e = ap stops.NoRoute (TableNo-same x y e)
-same_stop-true (stops.Blackhole x j) (stops.Blackhole y k) e = placed stops.Blackhole (λ t. t.0) TableNo-same x y j k e
-same_stop-true (stops.AclOut x j) (stops.AclOut y k) e = placed stops.AclOut (λ t. t.0) AclNo-same x y j k e
-same_stop-true (stops.AclIn x j) (stops.AclIn y k) e = placed stops.AclIn (λ t. t.0) AclNo-same x y j k e
-same_stop-true (stops.NoHost x) (stops.NoHost y) e = ap stops.NoHost (VpcNo-same x y e)
-same_stop-true (stops.NoGateway x) (stops.NoGateway y) e = ap stops.NoGateway (VpcNo-same x y e)
-same_stop-true (stops.GatewayDetached x) (stops.GatewayDetached y) e = ap stops.GatewayDetached (IgwNo-same x y e)
-same_stop-true (stops.NoPublic x) (stops.NoPublic y) e = ap stops.NoPublic (IgwNo-same x y e)
-same_stop-true stops.PrivateAddress stops.PrivateAddress e = refl
-same_stop-true (stops.NatNotAvailable x) (stops.NatNotAvailable y) e = ap stops.NatNotAvailable (NatNo-same x y e)
-same_stop-true (stops.NatAnswer x) (stops.NatAnswer y) e = ap stops.NatAnswer (NatNo-same x y e)
-same_stop-true (stops.NatProtocol x) (stops.NatProtocol y) e = ap stops.NatProtocol (NatNo-same x y e)
-same_stop-true (stops.NatFull x) (stops.NatFull y) e = ap stops.NatFull (NatNo-same x y e)
-same_stop-true (stops.NatUnsolicited x) (stops.NatUnsolicited y) e = ap stops.NatUnsolicited (NatNo-same x y e)
-same_stop-true (stops.PeerNotActive x) (stops.PeerNotActive y) e = ap stops.PeerNotActive (PeerNo-same x y e)
-same_stop-true (stops.PeerSource x) (stops.PeerSource y) e = ap stops.PeerSource (PeerNo-same x y e)
-same_stop-true (stops.PeerDestination x) (stops.PeerDestination y) e = ap stops.PeerDestination (PeerNo-same x y e)
-same_stop-true (stops.TgwNoAttachment x j) (stops.TgwNoAttachment y k) e = placed stops.TgwNoAttachment (λ t. t.0) TableNo-same x y j k e
-same_stop-true (stops.TgwNoZone x) (stops.TgwNoZone y) e = ap stops.TgwNoZone (AttNo-same x y e)
-same_stop-true (stops.TgwNoTable x) (stops.TgwNoTable y) e = ap stops.TgwNoTable (AttNo-same x y e)
-same_stop-true (stops.TgwNoRoute x) (stops.TgwNoRoute y) e = ap stops.TgwNoRoute (TgwTableNo-same x y e)
-same_stop-true (stops.TgwBlackhole x j) (stops.TgwBlackhole y k) e = placed stops.TgwBlackhole (λ t. t.0) TgwTableNo-same x y j k e
-same_stop-true (stops.Unmodelled x) (stops.Unmodelled y) e = ap stops.Unmodelled (same_foreign-true x y e)
-same_stop-true (stops.Loop x) (stops.Loop y) e = ap stops.Loop (same_place-true x y e)
-same_stop-true (stops.TooFar x) (stops.TooFar y) e = ap stops.TooFar (same_place-true x y e)
-same_stop-true (stops.WrongPlace x) (stops.WrongPlace y) e = let decides = ends_are_told_apart x y in ap stops.WrongPlace (decides.0 e)
-same_stop-true (stops.WrongReturn x) (stops.WrongReturn y) e = let decides = ends_are_told_apart x y in ap stops.WrongReturn (decides.0 e)
-same_stop-true (stops.NoReply x) (stops.NoReply y) e = let decides = ends_are_told_apart x y in ap stops.NoReply (decides.0 e)
-same_stop-true _ _ e = absurd (false≢true e)
+same_stop-true a b e =
+    let name = name_text (name_of a) in
+    let other = name_text (name_of b) in
+    let component = same_component (component_of a) (component_of b) in
+    let rule = same_rule (rule_of a) (rule_of b) in
+    let parts = and_parts (bytes_eq name other) (component && rule) e in
+    let more = and_parts component rule parts.1 in
+    same_parts a b (parts_of a) (parts_of b) refl refl
+    (name_text_tells (name_of a) (name_of b) (same_bytes name other parts.0))
+    (same_component-true (component_of a) (component_of b) more.0) (same_rule-true (rule_of a) (rule_of b) more.1)
 
 same_stop-refl : (a : Stop) → same_stop a a ≡ true
-same_stop-refl (stops.Detached x) = itself x.0
-same_stop-refl (stops.SourceCheck x) = itself x.0
-same_stop-refl (stops.DestCheck x) = itself x.0
-same_stop-refl (stops.GroupsOut x) = itself x.0
-same_stop-refl (stops.GroupsIn x) = itself x.0
-same_stop-refl (stops.NotAHost x) = itself x.0
-same_stop-refl (stops.ApplianceDrop x) = itself x.0
-same_stop-refl (stops.NoRoute x) = itself x.0
-same_stop-refl (stops.Blackhole x j) = both x.0 j
-same_stop-refl (stops.AclOut x j) = both x.0 j
-same_stop-refl (stops.AclIn x j) = both x.0 j
-same_stop-refl (stops.NoHost x) = itself x.0
-same_stop-refl (stops.NoGateway x) = itself x.0
-same_stop-refl (stops.GatewayDetached x) = itself x.0
-same_stop-refl (stops.NoPublic x) = itself x.0
-same_stop-refl stops.PrivateAddress = refl
-same_stop-refl (stops.NatNotAvailable x) = itself x.0
-same_stop-refl (stops.NatAnswer x) = itself x.0
-same_stop-refl (stops.NatProtocol x) = itself x.0
-same_stop-refl (stops.NatFull x) = itself x.0
-same_stop-refl (stops.NatUnsolicited x) = itself x.0
-same_stop-refl (stops.PeerNotActive x) = itself x.0
-same_stop-refl (stops.PeerSource x) = itself x.0
-same_stop-refl (stops.PeerDestination x) = itself x.0
-same_stop-refl (stops.TgwNoAttachment x j) = both x.0 j
-same_stop-refl (stops.TgwNoZone x) = itself x.0
-same_stop-refl (stops.TgwNoTable x) = itself x.0
-same_stop-refl (stops.TgwNoRoute x) = itself x.0
-same_stop-refl (stops.TgwBlackhole x j) = both x.0 j
-same_stop-refl (stops.Unmodelled x) = same_foreign-refl x
-same_stop-refl (stops.Loop x) = same_place-refl x
-same_stop-refl (stops.TooFar x) = same_place-refl x
-same_stop-refl (stops.WrongPlace x) = let decides = ends_are_told_apart x x in decides.1 refl
-same_stop-refl (stops.WrongReturn x) = let decides = ends_are_told_apart x x in decides.1 refl
-same_stop-refl (stops.NoReply x) = let decides = ends_are_told_apart x x in decides.1 refl
+same_stop-refl a =
+    let name = name_text (name_of a) in
+    let component = component_of a in
+    let rule = rule_of a in
+    and_from (bytes_eq name name) (same_component component component && same_rule rule rule) (bytes_self name)
+    (and_from (same_component component component) (same_rule rule rule) (same_component-refl component) (same_rule-refl rule))
 
 same_phase-true : (a b : Phase) → same_phase a b ≡ true → a ≡ b
 same_phase-true phases.Request phases.Request e = refl

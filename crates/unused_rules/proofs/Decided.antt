@@ -1,5 +1,6 @@
 -- What an answer to `unused` decides, and that it tells of no device.
-use Rattle.std.proofs.Common.{◌≡◌, ◌∙◌, ◌<◌, ◌≤◌, Err, List, Ok, arith, length, sym, ℕ}
+use Rattle.std.proofs.Common.{◌≡◌, ◌∙◌, Err, List, Ok, length, sym, ℕ}
+use Rattle.vpc_base.proofs.Numbers.{few-or-many}
 use Rattle.command_job.proofs.Devices.{no_device, query_is_none, yes_is_none}
 use Rattle.command_job.specs.Status.{IsOfDevice}
 use Rattle.command_job.specs.declared.status.Status.{Status}
@@ -8,9 +9,6 @@ use Rattle.vpc_laws.specs.Types.{Description}
 use Rattle.unused_rules.specs.Answered as unused
 use Rattle.unused_rules.specs.Answered.{IsUnusedAnswered, IsUnusedDecided, rule_limit}
 use Rattle.unused_rules.specs.Rules.{rules_of}
-
-few-or-many : (count limit : ℕ) → limit < count → count ≤ limit → ⊥
-few-or-many count limit many few = omega arith
 
 -- where the words are right and the rules few enough, it ends well
 pub unused_is_decided : (d : Description) (words : List (List ℕ)) (status : Status) (text : List ℕ) → IsUnusedAnswered d words status text → IsUnusedDecided d words status

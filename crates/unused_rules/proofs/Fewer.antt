@@ -5,8 +5,8 @@ use Rattle.std.proofs.lemmas.Bool.{or_from, or_parts}
 use Rattle.std.proofs.lemmas.Grind.{flat_map-append}
 use Rattle.std.proofs.lemmas.List.Folds.{list_any-append}
 use Rattle.vpc_base.specs.declared.headers.Dir.TheVariants as dirs
+use Rattle.vpc_base.proofs.Members.{append-nothing}
 use Rattle.vpc_laws.specs.Types.{Acl, Dir, Group, Permission}
-use Rattle.vpc_laws.proofs.Members.{append-nothing}
 use Rattle.vpc_model.specs.Groups.{permissions_of}
 use Rattle.vpc_model.specs.declared.refusals.Refusal.{Refusal}
 use Rattle.unused_rules.proofs.Parts.{IsPart, none-part, nothing-part, part-itself}

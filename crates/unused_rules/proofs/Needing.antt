@@ -1,10 +1,10 @@
 -- What a search of two networks says of a rule that one of them lacks.
-use Rattle.std.proofs.Common.{◌≡◌, ◌≢◌, ◌∙◌, Bool, Err, IfOk, None, Ok, Option, Result, Some, ap, ap₂, arith, false, if◌then◌else◌, inl, inr, refl, subst, sym, true, ℕ}
+use Rattle.std.proofs.Common.{◌≡◌, ◌≢◌, ◌∙◌, Bool, Err, IfOk, None, Ok, Option, Result, Some, ap, ap₂, false, if◌then◌else◌, inl, inr, refl, subst, sym, true}
 use Rattle.std.proofs.lemmas.Bool.{cases_Bool}
 use Rattle.box_walk.specs.Asking.{Asking, asked, stop_of, word_of}
 use Rattle.header_boxes.proofs.CellNumbers.{aligned_through, aligned_to_more}
 use Rattle.header_boxes.proofs.Held.{holds_whole}
-use Rattle.header_boxes.specs.Boxes.{IsRangeWithin, IsWithin, holds}
+use Rattle.header_boxes.specs.Boxes.{IsWithin, holds}
 use Rattle.header_boxes.specs.Cells.{IsAligned}
 use Rattle.header_boxes.specs.Rows.{IsFirst}
 use Rattle.cut_laws.proofs.Among.{left_among, right_among}
@@ -32,22 +32,6 @@ use Rattle.unused_rules.specs.declared.rules.RuleName.TheVariants as rules
 pub aligned_to_both : (a b : CutLists) (part first whole : Box5) → IsAligned a first whole → IsAligned b part first → IsAligned (joined_cuts a b) part whole
 aligned_to_both a b part first whole one other =
     aligned_through (joined_cuts a b) part first whole (aligned_to_more b (joined_cuts a b) part first (right_among a b) other) (aligned_to_more a (joined_cuts a b) first whole (left_among a b) one)
-
-range_through : (part first whole : ℕ × ℕ) → IsRangeWithin part first → IsRangeWithin first whole → IsRangeWithin part whole
-range_through part first whole one other = record {
-  begins = omega (arith, one.begins, other.begins);
-  valid = one.valid;
-  ends = omega (arith, one.ends, other.ends);
-}
-
-pub within_through : (part first whole : Box5) → IsWithin part first → IsWithin first whole → IsWithin part whole
-within_through part first whole one other = record {
-  proto = range_through part.proto first.proto whole.proto one.proto other.proto;
-  src = range_through part.src first.src whole.src one.src other.src;
-  dst = range_through part.dst first.dst whole.dst one.dst other.dst;
-  p = range_through part.p first.p whole.p one.p other.p;
-  q = range_through part.q first.q whole.q one.q other.q;
-}
 
 -- what is told of a part of a part
 pub told-both : (a b : Asking) (part first : Box5) (one other : Option (Phase × Stop)) (told : Option (Unit {0})) → told ≡ unless_apart one other → IsWithin part first
@@ -106,6 +90,9 @@ stop_of-same (verdicts.Stopped p s) verdicts.Through same = absurd (cc)
 pub appliances-same : (d : Description) (rule : RuleName) → appliances_of (without d rule) ≡ appliances_of d
 appliances-same d (rules.Permission r) = refl
 appliances-same d (rules.AclRow a k) = refl
+
+pub appliances-kept : (d : Description) (c : Chunk) → appliances_of (without_chunk d c) ≡ appliances_of d
+appliances-kept d c = refl
 
 pub is_end-same : (d : Description) (rule : RuleName) (end : End) → is_end (without d rule) end ≡ is_end d end
 is_end-same d (rules.Permission r) end = refl

@@ -16,6 +16,7 @@ use Rattle.vpc_model.specs.declared.outcomes.By.TheVariants as bys
 use Rattle.vpc_model.specs.declared.places.Came.TheVariants as from
 use Rattle.vpc_model.specs.declared.places.Place.TheVariants as places
 use Rattle.vpc_model.specs.declared.stops.Stop.TheVariants as stops
+use Rattle.vpc_model.proofs.Nexts.{go≢stop, stop-same}
 use Rattle.unused_rules.proofs.Alike.{Alike}
 use Rattle.unused_rules.proofs.Allowing.{none_allows}
 use Rattle.unused_rules.proofs.Fewer.{FewerRules}
@@ -66,14 +67,8 @@ passed m s x p =
       | Some by ↦ record { next = x; by = by; conns = p.conns; nats = m.nats }
     ]
 
-go-no_stop : (s : Stop) (p : Place) (h : Header) → go p h ≡ stop s → ⊥
-go-no_stop s p h e = cc
-
 arrive-no_stop : (s : Stop) (end : End) → arrive end ≡ stop s → ⊥
 arrive-no_stop s end e = cc
-
-stop-same : (s t : Stop) → stop s ≡ stop t → s ≡ t
-stop-same s t e = cc
 
 pub no-door : (s : Stop) (p : Place) → door_of s ≡ None → door_of s ≡ Some p → ⊥
 no-door s p none some = cc
@@ -85,7 +80,7 @@ taken-no_stop d appliances i h e = other (taken_in d appliances i h) (taken_in-o
   where
     other : (x : Next) → (elim x as (λ _. Type 0) [ go q k ↦ Unit {0} | arrive end ↦ Unit {0} | stop s ↦ door_of s ≡ None ])
         → x ≡ stop (stops.GroupsIn i) → ⊥
-    other (go q k) is e = go-no_stop (stops.GroupsIn i) q k e
+    other (go q k) is e = go≢stop q k (stops.GroupsIn i) e
     other (arrive end) is e = arrive-no_stop (stops.GroupsIn i) end e
     other (stop s) is e =
         no-door (stops.GroupsIn i) (places.Into i) (subst (λ (t : Stop). door_of t ≡ None) (stop-same s (stops.GroupsIn i) e) is) refl
@@ -140,7 +135,7 @@ module _ (d : Description) (more between fewer : List Group) (first : Alike Fewe
       let e = interface_at d i in
       nested-cond (places.OutOf i) e.idle _ _ _ _ (nested-cond (places.OutOf i) (e.checked && not (has_address e m.header.src)) _ _ _ _
       (nested-groups (places.OutOf i) (stops.GroupsOut i) (go (places.Router (subnet_of d i) (from.Host i)) m.header) refl
-      (go-no_stop (stops.GroupsOut i) (places.Router (subnet_of d i) (from.Host i)) m.header) label i dirs.Outward m e.groups))
+      (go≢stop (places.Router (subnet_of d i) (from.Host i)) m.header (stops.GroupsOut i)) label i dirs.Outward m e.groups))
   nested-at appliances label (places.Into i) m =
       let e = interface_at d i in
       nested-cond (places.Into i) e.idle _ _ _ _ (nested-cond (places.Into i) (e.checked && not (has_address e m.header.dst)) _ _ _ _

@@ -1,9 +1,9 @@
 -- Walks in three descriptions that differ in the rules of their groups alone, each with fewer than the one before.
 use Rattle.std.proofs.Common.{◌≡◌, ◌∙◌, ◌||◌, ◌++◌, ◌∷◌, [], Bool, List, None, Option, Some, ap, ap₂, cond, false, refl, subst, suc, sym, true, zero, ℕ}
-use Rattle.std.proofs.lemmas.Bool.{both_ways, cond_both, or_left, or_right}
+use Rattle.std.proofs.lemmas.Bool.{both_ways, cond_both}
 use Rattle.std.proofs.lemmas.List.Folds.{list_any-append}
 use Rattle.copied_rows.specs.Filters.{with_filters}
-use Rattle.vpc_laws.proofs.Same.{same_place-refl}
+use Rattle.vpc_laws.proofs.Adding.{is_visited-last, is_visited-more}
 use Rattle.vpc_laws.proofs.Walking.{hop_at, moment}
 use Rattle.vpc_laws.specs.Types.{Description, End, Group, Header, Hop, Label, Outcome, Place, Stop}
 use Rattle.vpc_model.specs.Appliances.{Appliances}
@@ -32,14 +32,6 @@ visited-push hops h p = list_any-append (λ (g : Hop). same_place g.place p) hop
 seen-push : (g h : List Hop) (a b : Hop) → SameSeen g h → a.place ≡ b.place → SameSeen (g ++ a ∷ []) (h ++ b ∷ [])
 seen-push g h a b seen place p =
     visited-push g a p ∙ (ap₂ (λ (x : Bool) (q : Place). x || (same_place q p || false)) (seen p) place ∙ sym (visited-push h b p))
-
-visited-kept : (hops : List Hop) (h : Hop) (p : Place) → is_visited hops p ≡ true → is_visited (hops ++ h ∷ []) p ≡ true
-visited-kept hops h p there = visited-push hops h p ∙ or_left (is_visited hops p) (same_place h.place p || false) there
-
-visited-here : (hops : List Hop) (h : Hop) → is_visited (hops ++ h ∷ []) h.place ≡ true
-visited-here hops h =
-    visited-push hops h h.place ∙ or_right (is_visited hops h.place) (same_place h.place h.place || false)
-    (or_left (same_place h.place h.place) false (same_place-refl h.place))
 
 -- ---- a place that groups let a packet pass
 
@@ -78,7 +70,7 @@ passed-for_good d appliances label s p door (suc n) hops h (go q k) conns nats t
     (λ (w : Walk). w.outcome ≡ outcomes.Stopped s → ⊥)
     (λ _. not-by_groups (stops.Loop q) s p door refl)
     (λ new. passed-for_good d appliances label s p door n (hops ++ hop_at d appliances label m ∷ []) k t.next t.conns t.nats
-    (visited-kept hops (hop_at d appliances label m) p there)
+    (is_visited-more hops (hop_at d appliances label m) p there)
     (λ e. both_ways (is_visited hops p)
     (subst (λ (r : Place). is_visited hops r ≡ false) (door-here s p q t.next door (stops_at_door d appliances label q m) e) new) there))
 
@@ -175,7 +167,7 @@ module _ (d : Description) (more between fewer : List Group) (first : Alike Fewe
       (ended-nested f g h (outcomes.Stopped (stops.Loop p)) conns nats)
       (after-step most middle fewest appliances label n p (f ++ a ∷ []) (g ++ b ∷ []) (h ++ c ∷ []) j s (step_of middle appliances label m)
       (step_of fewest appliances label m)
-      (nested_steps d more between fewer first second appliances label m) (visited-here f a)
+      (nested_steps d more between fewer first second appliances label m) (is_visited-last f a)
       (nested-on label n (f ++ a ∷ []) (g ++ b ∷ []) (h ++ c ∷ []) (seen-push g f b a seen refl) (seen-push h f c a told refl)
       j s.next s.conns s.nats))
 
@@ -188,5 +180,5 @@ module _ (d : Description) (more between fewer : List Group) (first : Alike Fewe
       let c = hop_at fewest appliances label m in
       after-step most middle fewest appliances label 63 m.place (a ∷ []) (b ∷ []) (c ∷ []) m.header s (step_of middle appliances label m)
       (step_of fewest appliances label m)
-      (nested_steps d more between fewer first second appliances label m) (visited-here [] a)
+      (nested_steps d more between fewer first second appliances label m) (is_visited-last [] a)
       (nested-on label 63 (a ∷ []) (b ∷ []) (c ∷ []) (λ p. refl) (λ p. refl) m.header s.next s.conns s.nats)

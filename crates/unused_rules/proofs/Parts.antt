@@ -3,7 +3,7 @@ use Rattle.std.proofs.Common.{◌≡◌, ◌≤◌, ◌++◌, ◌∷◌, [], Boo
 use Rattle.std.specs.List.{flat_map, list_any, remove, remove_range}
 use Rattle.std.proofs.lemmas.Bool.{or_from, or_parts}
 use Rattle.std.proofs.lemmas.List.{take-append-drop}
-use Rattle.vpc_laws.proofs.Members.{append-nothing}
+use Rattle.vpc_base.proofs.Members.{append-nothing}
 
 -- the second has some of the items of the first, in their order
 pub data IsPart {X : Type 0} : List X → List X → Type 0 where

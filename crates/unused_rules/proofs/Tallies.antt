@@ -1,9 +1,8 @@
 -- Rules judged one after another.
-use Rattle.std.proofs.Common.{◌+◌, ◌≡◌, ◌<◌, ◌∙◌, ◌++◌, ◌∷◌, [], List, Option, ap, append_assoc, get_or, length, refl, sym, take, ℕ}
-use Rattle.std.specs.List.{flat_map}
-use Rattle.std.proofs.lemmas.Grind.{flat_map-append}
+use Rattle.std.proofs.Common.{◌+◌, ◌<◌, ◌∙◌, ◌++◌, ◌∷◌, [], List, Option, ap, get_or, length, refl, sym, take, ℕ}
 use Rattle.std.proofs.lemmas.List.{append-nil, map-append, take_more}
 use Rattle.std.proofs.lemmas.List.Elements.{All-append, All-cons, All-nil}
+use Rattle.vpc_base.proofs.Steps.{pushed-flat_map}
 use Rattle.query_words.specs.declared.queries.Query.{Query}
 use Rattle.vpc_laws.specs.Types.{Description}
 use Rattle.unused_rules.specs.Chunks.{IsIdle}
@@ -13,16 +12,6 @@ use Rattle.unused_rules.specs.declared.rules.RuleName.{RuleName}
 
 abbrev of_rule : Judged → RuleName
 of_rule j = j.rule
-
-lines-one : (d : Description) (judged : List Judged) (j : Judged) → flat_map (judged_line d) (judged ++ j ∷ []) ≡ flat_map (judged_line d) judged ++ judged_line d j
-lines-one d judged j =
-    flat_map-append (judged_line d) judged (j ∷ []) ∙ ap (λ (t : List ℕ). flat_map (judged_line d) judged ++ t) (append-nil (judged_line d j))
-
-text_more : (d : Description) (judged : List Judged) (j : Judged) (old mid new : List ℕ)
-    → mid ≡ old ++ flat_map (judged_line d) judged → new ≡ mid ++ judged_line d j → new ≡ old ++ flat_map (judged_line d) (judged ++ j ∷ [])
-text_more d judged j old mid new before adds =
-    adds ∙ (ap (λ (t : List ℕ). t ++ judged_line d j) before
-    ∙ (append_assoc old (flat_map (judged_line d) judged) (judged_line d j) ∙ ap (λ (t : List ℕ). old ++ t) (sym (lines-one d judged j))))
 
 -- what holds while rules are judged: their lines were added, and the chunk that is kept decides nothing
 pub record AreUnderWay (d : Description) (query : Query) (rules : List RuleName) (chunk : Option Chunk) (old new : List ℕ) : Type 0 where
@@ -45,5 +34,5 @@ adds_more d query rules i e old mid new below before adds =
       of_rules = map-append of_rule before.judged (j ∷ [])
           ∙ (ap (λ (rs : List RuleName). rs ++ rule ∷ []) before.of_rules ∙ sym (take_more rules i e below));
       each = All-append (IsJudged d query) before.judged (j ∷ []) before.each (All-cons (IsJudged d query) j [] adds.is_need (All-nil (IsJudged d query)));
-      text_is = text_more d before.judged j old mid new before.text_is adds.text_is;
+      text_is = pushed-flat_map (judged_line d) before.judged j old mid new before.text_is adds.text_is;
     }

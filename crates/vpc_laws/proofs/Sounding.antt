@@ -5,6 +5,9 @@ use Rattle.std.specs.Str.{bytes_eq}
 use Rattle.std.proofs.lemmas.Bool.{and_from, and_parts, both_ways, cases_Bool, cond_both, false≢true, le-leb, ltb-true, or_cases}
 use Rattle.vpc_base.specs.declared.headers.Dir.TheVariants.{Inward, Outward}
 use Rattle.vpc_base.specs.declared.headers.Label.TheVariants.{Answer, Opening}
+use Rattle.vpc_base.proofs.Bytes.{same_bytes}
+use Rattle.vpc_base.proofs.Members.{Contains-cases, Contains-here, Contains-none, find-member, flat_map-member, row-member}
+use Rattle.vpc_base.proofs.Positions.{position-at}
 use Rattle.vpc_laws.specs.Types.{Association, AttNo, Attachment, Box5, By, Description, Dir, EniNo, Group, GroupNo, Header, IgwNo, Interface, InternetGateway, Label, NatGateway, NatLife, NatNo, PeerNo, Place, RuleRef, Stop, SubnetNo, TableNo, Target, TgwRoute, TgwTable, TgwTableNo, VpcNo}
 use Rattle.vpc_model.specs.declared.outcomes.By.TheVariants as bys
 use Rattle.vpc_model.specs.declared.places.End.TheVariants as ends
@@ -42,8 +45,7 @@ use Rattle.vpc_laws.specs.Sound.{LeadsWell}
 use Rattle.vpc_laws.specs.Step.{AsksGroups, LetsPass, own_connection}
 use Rattle.vpc_laws.proofs.Accepting.{accepted_has_all_named}
 use Rattle.vpc_laws.proofs.Flow.{taken_by}
-use Rattle.vpc_laws.proofs.Members.{Contains-cases, Contains-here, Contains-none, find-member, flat_map-member}
-use Rattle.vpc_laws.proofs.Numbering.{accepted_numbers_are_in_range, ids_are_found, no_igw, no_nat, no_subnet, no_table, position-at, row-member, same_bytes}
+use Rattle.vpc_laws.proofs.Numbering.{accepted_numbers_are_in_range, ids_are_found, no_igw, no_nat, no_subnet, no_table}
 use Rattle.vpc_laws.proofs.Passing.{packets_pass_by_groups}
 
 -- what is known of a description
@@ -323,7 +325,7 @@ by_route-well d known s h (Some k) inside found =
     let table = table_at d t in
     let r = slice_index_or table.routes k no_route in
     let parts = and_parts (is_table d t) (ltb k (length table.routes)) found in
-    cond_both r.blackhole (stop (stops.Blackhole t k)) (to_target d s h t k r.target) (LeadsWell d) (λ _. found)
+    cond_both r.blackhole (stop (stops.Blackhole t k)) (to_target d s h t k r.target) (LeadsWell d) (λ _. and_from (is_route d t k) (is_table d t) found parts.0)
     (λ alive. to_target-well d known s h t k r.target inside found
     (subst (λ v. HasTarget d v r.target) (range.vpc_of_table s inside ∙ sym (subnet-vpc d known s inside).1)
     (named.target_of_route table r (row-member d.tables t.0 no_table parts.0) (row-member table.routes k no_route parts.1) alive)))
@@ -455,7 +457,7 @@ by_tgw_route-well d s h t None inside within found = within
 by_tgw_route-well d s h t (Some k) inside within found =
     let table = tgw_table_at d t in
     let r = slice_index_or table.routes k no_tgw_route in
-    cond_both r.blackhole (stop (stops.TgwBlackhole t k)) (by_attachment d s h t k r.attachment) (LeadsWell d) (λ _. found) (λ _. by_attachment-well d s h t k r.attachment inside found refl)
+    cond_both r.blackhole (stop (stops.TgwBlackhole t k)) (by_attachment d s h t k r.attachment) (LeadsWell d) (λ _. and_from (is_tgw_route d t k) (is_tgw_table d t) found within) (λ _. by_attachment-well d s h t k r.attachment inside found refl)
 
 tgw_route-found : (d : Description) (t : TgwTableNo) → is_tgw_table d t ≡ true → (a : ℕ) (o : Option ℕ) → (let table = tgw_table_at d t in chosen_tgw_route table.routes a ≡ o) → IfFound (is_tgw_route d t) o
 tgw_route-found d t within a None e = tt
@@ -563,7 +565,7 @@ rule_by-found : (d : Description) (dir : Dir) (h : Header) (o : Option GroupNo) 
 rule_by-found d dir h None found = tt
 rule_by-found d dir h (Some n) found = rule-found d dir h n found
 
-first_rule-found : (d : Description) (dir : Dir) (h : Header) (ids : List (List ℕ)) → IfFound (is_rule d) (first_rule_of d dir h ids)
+pub first_rule-found : (d : Description) (dir : Dir) (h : Header) (ids : List (List ℕ)) → IfFound (is_rule d) (first_rule_of d dir h ids)
 first_rule-found d dir h [] = tt
 first_rule-found d dir h (id ∷ ids) =
     if_found-else (is_rule d) (option_and_then (rule_of_group d dir h) (group_of_id d id)) (first_rule_of d dir h ids) (rule_by-found d dir h (group_of_id d id) (group-found d id)) (first_rule-found d dir h ids)

@@ -54,6 +54,8 @@ pub use Rattle.vpc_model.specs.declared.outcomes.Event.{Event}
 pub use Rattle.vpc_model.specs.declared.stops.Foreign.{Foreign}
 pub use Rattle.vpc_model.specs.declared.stops.Stop.{Stop}
 pub use Rattle.vpc_model.specs.declared.stops.StopName.{StopName}
+pub use Rattle.vpc_model.specs.declared.stops.Component.{Component}
+pub use Rattle.vpc_model.specs.declared.stops.StopRule.{StopRule}
 pub use Rattle.vpc_model.specs.declared.stop_texts.StopText.{StopText}
 pub use Rattle.vpc_model.specs.declared.refusals.ListName.{ListName}
 pub use Rattle.vpc_model.specs.declared.refusals.Refusal.{Refusal}

@@ -21,6 +21,6 @@ pub mod Accepted
 pub mod Cuts
 pub mod Near
 pub mod Sound
+pub mod Names
 pub mod Told
 pub mod Report
-pub mod Same

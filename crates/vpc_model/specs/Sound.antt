@@ -1,17 +1,19 @@
 -- Numbers in range, places where a packet can be, and stops that can be told.
 use Rattle.std.specs.Prelude.{◌&&◌, ◌||◌, Bool, List, None, Option, Some, bytes_eq, false, is_some, length, nat_le, nat_lt, slice_index_or, true, ℕ}
-use Rattle.vpc_model.specs.Types.{AclNo, AttNo, By, Came, Description, End, EniNo, EnterBy, Foreign, GroupNo, IgwNo, NatLife, NatNo, PeerNo, Place, RuleRef, Stop, SubnetNo, TableNo, TgwTableNo, VpcNo}
+use Rattle.vpc_model.specs.Types.{AclNo, AttNo, By, Came, Component, Description, End, EniNo, EnterBy, Foreign, GroupNo, IgwNo, NatLife, NatNo, PeerNo, Place, RuleRef, Stop, StopRule, SubnetNo, TableNo, TgwTableNo, VpcNo}
 use Rattle.vpc_model.specs.declared.outcomes.By.TheVariants as bys
 use Rattle.vpc_model.specs.declared.places.End.TheVariants as ends
 use Rattle.vpc_model.specs.declared.stops.Foreign.TheVariants as foreign
 use Rattle.vpc_model.specs.declared.places.Came.TheVariants as from
 use Rattle.vpc_model.specs.declared.rows.NatLife.TheVariants as lives
 use Rattle.vpc_model.specs.declared.places.Place.TheVariants as places
-use Rattle.vpc_model.specs.declared.stops.Stop.TheVariants as stops
+use Rattle.vpc_model.specs.declared.stops.Component.TheVariants as at
+use Rattle.vpc_model.specs.declared.stops.StopRule.TheVariants as by
 use Rattle.vpc_model.specs.declared.places.EnterBy.TheVariants as through
 use Rattle.vpc_model.specs.Groups.{permissions_of}
 use Rattle.vpc_model.specs.Lookup.{gateway_of, group_at, has_vpc, nat_at, peering_at, table_at, tgw_table_at, vpc_at}
 use Rattle.vpc_model.specs.Step.Transit.{no_tgw_route}
+use Rattle.vpc_model.specs.Told.{component_of, rule_of}
 
 -- ---- numbers in range
 
@@ -134,43 +136,32 @@ has_foreign_text d (foreign.FarAttachment t k) =
     let r = slice_index_or table.routes k no_tgw_route in
     is_tgw_route d t k && is_some r.attachment
 
+-- the component is described
+abbrev pub has_component : Description → Component → Bool
+has_component d (at.Interface i) = is_eni d i
+has_component d (at.Table t) = is_table d t
+has_component d (at.Target t k) = is_route d t k
+has_component d (at.Acl a) = is_acl d a
+has_component d (at.Vpc v) = is_vpc d v
+has_component d (at.InternetGateway g) = is_igw d g
+has_component d (at.NatGateway n) = is_nat d n
+has_component d (at.Peering x) = is_peering d x
+has_component d (at.Attachment a) = is_attachment d a
+has_component d (at.TransitTable t) = is_tgw_table d t
+has_component d (at.Foreign f) = has_foreign_text d f
+has_component d (at.Place p) = is_sound d p
+has_component d (at.End e) = is_end d e
+
+-- the rule is there: an ACL's row is told by its number alone
+abbrev pub has_stop_rule : Description → StopRule → Bool
+has_stop_rule d by.None = true
+has_stop_rule d (by.AclRow n) = true
+has_stop_rule d (by.Route t k) = is_route d t k
+has_stop_rule d (by.TransitRoute t k) = is_tgw_route d t k
+
 -- the rows and places that a stop carries give its id and rule
 abbrev pub has_text : Description → Stop → Bool
-has_text d (stops.Detached i) = is_eni d i
-has_text d (stops.SourceCheck i) = is_eni d i
-has_text d (stops.DestCheck i) = is_eni d i
-has_text d (stops.GroupsOut i) = is_eni d i
-has_text d (stops.GroupsIn i) = is_eni d i
-has_text d (stops.NotAHost i) = is_eni d i
-has_text d (stops.ApplianceDrop i) = is_eni d i
-has_text d (stops.NoRoute t) = is_table d t
-has_text d (stops.Blackhole t k) = is_route d t k
-has_text d (stops.AclOut a n) = is_acl d a
-has_text d (stops.AclIn a n) = is_acl d a
-has_text d (stops.NoHost v) = is_vpc d v
-has_text d (stops.NoGateway v) = is_vpc d v
-has_text d (stops.GatewayDetached g) = is_igw d g
-has_text d (stops.NoPublic g) = is_igw d g
-has_text d stops.PrivateAddress = true
-has_text d (stops.NatNotAvailable n) = is_nat d n
-has_text d (stops.NatAnswer n) = is_nat d n
-has_text d (stops.NatProtocol n) = is_nat d n
-has_text d (stops.NatFull n) = is_nat d n
-has_text d (stops.NatUnsolicited n) = is_nat d n
-has_text d (stops.PeerNotActive x) = is_peering d x
-has_text d (stops.PeerSource x) = is_peering d x
-has_text d (stops.PeerDestination x) = is_peering d x
-has_text d (stops.TgwNoAttachment t k) = is_route d t k
-has_text d (stops.TgwNoZone a) = is_attachment d a
-has_text d (stops.TgwNoTable a) = is_attachment d a
-has_text d (stops.TgwNoRoute t) = is_tgw_table d t
-has_text d (stops.TgwBlackhole t k) = is_tgw_route d t k
-has_text d (stops.Unmodelled f) = has_foreign_text d f
-has_text d (stops.Loop p) = is_sound d p
-has_text d (stops.TooFar p) = is_sound d p
-has_text d (stops.WrongPlace e) = is_end d e
-has_text d (stops.WrongReturn e) = is_end d e
-has_text d (stops.NoReply e) = is_end d e
+has_text d s = has_stop_rule d (rule_of s) && has_component d (component_of s)
 
 -- by what a packet passed groups: a rule that is there
 abbrev pub has_rule : Description → By → Bool

@@ -1,12 +1,14 @@
 -- What is told of a stop: its name, its component, and the rule of the component that stopped the packet.
 use Rattle.std.specs.Prelude.{[], List, codes, decimal, slice_index_or, unwrap_or, ℕ}
-use Rattle.vpc_model.specs.Types.{Description, End, Foreign, Phase, Place, Reach, Stop, StopName, StopText, TableNo, Target, TgwTableNo, VpcNo}
+use Rattle.vpc_model.specs.Types.{Component, Description, End, Foreign, Phase, Place, Reach, Stop, StopName, StopRule, StopText, TableNo, Target, TgwTableNo, VpcNo}
 use Rattle.vpc_model.specs.declared.places.End.TheVariants as ends
+use Rattle.vpc_model.specs.declared.stops.Component.TheVariants as at
 use Rattle.vpc_model.specs.declared.stops.Foreign.TheVariants as foreign
-use Rattle.vpc_model.specs.declared.stops.StopName.TheVariants as names
+use Rattle.vpc_model.specs.declared.stops.StopName.TheVariants as is
 use Rattle.vpc_model.specs.declared.places.Place.TheVariants as places
 use Rattle.vpc_model.specs.declared.rows.Reach.TheVariants as reaches
 use Rattle.vpc_model.specs.declared.stops.Stop.TheVariants as stops
+use Rattle.vpc_model.specs.declared.stops.StopRule.TheVariants as by
 use Rattle.vpc_model.specs.declared.rows.Target.TheVariants as targets
 use Rattle.prefix_text.specs.Block.{block_text}
 use Rattle.vpc_model.specs.Lookup.{acl_at, attached_gateway, attachment_at, igw_at, interface_at, nat_at, peering_at, subnet_at, table_at, tgw_table_at, vpc_at}
@@ -37,43 +39,55 @@ abbrev pub end_id : Description → End → List ℕ
 end_id d (ends.Interface i) = let e = interface_at d i in e.id
 end_id d ends.Internet = codes "internet"
 
--- the name of a stop, without what it carries
+-- a stop as it is told: its name, its component, and the rule of the component that stopped the packet
+abbrev pub parts_of : Stop → StopName × Component × StopRule
+parts_of (stops.Detached i) = (is.Detached, at.Interface i, by.None)
+parts_of (stops.SourceCheck i) = (is.SourceCheck, at.Interface i, by.None)
+parts_of (stops.DestCheck i) = (is.DestCheck, at.Interface i, by.None)
+parts_of (stops.GroupsOut i) = (is.GroupsOut, at.Interface i, by.None)
+parts_of (stops.GroupsIn i) = (is.GroupsIn, at.Interface i, by.None)
+parts_of (stops.NotAHost i) = (is.NotAHost, at.Interface i, by.None)
+parts_of (stops.ApplianceDrop i) = (is.ApplianceDrop, at.Interface i, by.None)
+parts_of (stops.NoRoute t) = (is.NoRoute, at.Table t, by.None)
+parts_of (stops.Blackhole t k) = (is.Blackhole, at.Table t, by.Route t k)
+parts_of (stops.AclOut a n) = (is.AclOut, at.Acl a, by.AclRow n)
+parts_of (stops.AclIn a n) = (is.AclIn, at.Acl a, by.AclRow n)
+parts_of (stops.NoHost v) = (is.NoHost, at.Vpc v, by.None)
+parts_of (stops.NoGateway v) = (is.NoGateway, at.Vpc v, by.None)
+parts_of (stops.GatewayDetached g) = (is.GatewayDetached, at.InternetGateway g, by.None)
+parts_of (stops.NoPublic g) = (is.NoPublic, at.InternetGateway g, by.None)
+parts_of stops.PrivateAddress = (is.PrivateAddress, at.End ends.Internet, by.None)
+parts_of (stops.NatNotAvailable g) = (is.NatNotAvailable, at.NatGateway g, by.None)
+parts_of (stops.NatAnswer g) = (is.NatAnswer, at.NatGateway g, by.None)
+parts_of (stops.NatProtocol g) = (is.NatProtocol, at.NatGateway g, by.None)
+parts_of (stops.NatFull g) = (is.NatFull, at.NatGateway g, by.None)
+parts_of (stops.NatUnsolicited g) = (is.NatUnsolicited, at.NatGateway g, by.None)
+parts_of (stops.PeerNotActive x) = (is.PeerNotActive, at.Peering x, by.None)
+parts_of (stops.PeerSource x) = (is.PeerSource, at.Peering x, by.None)
+parts_of (stops.PeerDestination x) = (is.PeerDestination, at.Peering x, by.None)
+parts_of (stops.TgwNoAttachment t k) = (is.TgwNoAttachment, at.Target t k, by.None)
+parts_of (stops.TgwNoZone a) = (is.TgwNoZone, at.Attachment a, by.None)
+parts_of (stops.TgwNoTable a) = (is.TgwNoTable, at.Attachment a, by.None)
+parts_of (stops.TgwNoRoute t) = (is.TgwNoRoute, at.TransitTable t, by.None)
+parts_of (stops.TgwBlackhole t k) = (is.TgwBlackhole, at.TransitTable t, by.TransitRoute t k)
+parts_of (stops.Unmodelled f) = (is.Unmodelled, at.Foreign f, by.None)
+parts_of (stops.Loop p) = (is.Loop, at.Place p, by.None)
+parts_of (stops.TooFar p) = (is.TooFar, at.Place p, by.None)
+parts_of (stops.WrongPlace e) = (is.WrongPlace, at.End e, by.None)
+parts_of (stops.WrongReturn e) = (is.WrongReturn, at.End e, by.None)
+parts_of (stops.NoReply e) = (is.NoReply, at.End e, by.None)
+
+-- its name, without what it carries
 abbrev pub name_of : Stop → StopName
-name_of (stops.Detached i) = names.Detached
-name_of (stops.SourceCheck i) = names.SourceCheck
-name_of (stops.DestCheck i) = names.DestCheck
-name_of (stops.GroupsOut i) = names.GroupsOut
-name_of (stops.GroupsIn i) = names.GroupsIn
-name_of (stops.NotAHost i) = names.NotAHost
-name_of (stops.ApplianceDrop i) = names.ApplianceDrop
-name_of (stops.NoRoute t) = names.NoRoute
-name_of (stops.Blackhole t k) = names.Blackhole
-name_of (stops.AclOut a n) = names.AclOut
-name_of (stops.AclIn a n) = names.AclIn
-name_of (stops.NoHost v) = names.NoHost
-name_of (stops.NoGateway v) = names.NoGateway
-name_of (stops.GatewayDetached g) = names.GatewayDetached
-name_of (stops.NoPublic g) = names.NoPublic
-name_of stops.PrivateAddress = names.PrivateAddress
-name_of (stops.NatNotAvailable n) = names.NatNotAvailable
-name_of (stops.NatAnswer n) = names.NatAnswer
-name_of (stops.NatProtocol n) = names.NatProtocol
-name_of (stops.NatFull n) = names.NatFull
-name_of (stops.NatUnsolicited n) = names.NatUnsolicited
-name_of (stops.PeerNotActive x) = names.PeerNotActive
-name_of (stops.PeerSource x) = names.PeerSource
-name_of (stops.PeerDestination x) = names.PeerDestination
-name_of (stops.TgwNoAttachment t k) = names.TgwNoAttachment
-name_of (stops.TgwNoZone a) = names.TgwNoZone
-name_of (stops.TgwNoTable a) = names.TgwNoTable
-name_of (stops.TgwNoRoute t) = names.TgwNoRoute
-name_of (stops.TgwBlackhole t k) = names.TgwBlackhole
-name_of (stops.Unmodelled f) = names.Unmodelled
-name_of (stops.Loop p) = names.Loop
-name_of (stops.TooFar p) = names.TooFar
-name_of (stops.WrongPlace e) = names.WrongPlace
-name_of (stops.WrongReturn e) = names.WrongReturn
-name_of (stops.NoReply e) = names.NoReply
+name_of s = let parts = parts_of s in parts.0
+
+-- the component that stopped the packet
+abbrev pub component_of : Stop → Component
+component_of s = let parts = parts_of s in parts.1
+
+-- the rule of the component
+abbrev pub rule_of : Stop → StopRule
+rule_of s = let parts = parts_of s in parts.2
 
 -- the id of a route's target
 abbrev pub target_id : Target → List ℕ
@@ -102,86 +116,41 @@ foreign_id d (foreign.Attachment a) = let row = attachment_at d a in row.id
 foreign_id d (foreign.Table t) = let table = tgw_table_at d t in table.id
 foreign_id d (foreign.FarAttachment t k) = tgw_route_attachment d t k
 
--- the component that stopped the packet
+-- the id of a component
+abbrev pub component_id : Description → Component → List ℕ
+component_id d (at.Interface i) = let e = interface_at d i in e.id
+component_id d (at.Table t) = let table = table_at d t in table.id
+component_id d (at.Target t k) = route_target_id d t k
+component_id d (at.Acl a) = let row = acl_at d a in row.id
+component_id d (at.Vpc v) = let row = vpc_at d v in row.id
+component_id d (at.InternetGateway g) = let row = igw_at d g in row.id
+component_id d (at.NatGateway n) = let row = nat_at d n in row.id
+component_id d (at.Peering x) = let row = peering_at d x in row.id
+component_id d (at.Attachment a) = let row = attachment_at d a in row.id
+component_id d (at.TransitTable t) = let table = tgw_table_at d t in table.id
+component_id d (at.Foreign f) = foreign_id d f
+component_id d (at.Place p) = place_id d p
+component_id d (at.End e) = end_id d e
+
+-- the id of the component that stopped the packet
 abbrev pub stop_id : Description → Stop → List ℕ
-stop_id d (stops.Detached i) = let e = interface_at d i in e.id
-stop_id d (stops.SourceCheck i) = let e = interface_at d i in e.id
-stop_id d (stops.DestCheck i) = let e = interface_at d i in e.id
-stop_id d (stops.GroupsOut i) = let e = interface_at d i in e.id
-stop_id d (stops.GroupsIn i) = let e = interface_at d i in e.id
-stop_id d (stops.NotAHost i) = let e = interface_at d i in e.id
-stop_id d (stops.ApplianceDrop i) = let e = interface_at d i in e.id
-stop_id d (stops.NoRoute t) = let table = table_at d t in table.id
-stop_id d (stops.Blackhole t k) = let table = table_at d t in table.id
-stop_id d (stops.AclOut a n) = let row = acl_at d a in row.id
-stop_id d (stops.AclIn a n) = let row = acl_at d a in row.id
-stop_id d (stops.NoHost v) = let row = vpc_at d v in row.id
-stop_id d (stops.NoGateway v) = let row = vpc_at d v in row.id
-stop_id d (stops.GatewayDetached g) = let row = igw_at d g in row.id
-stop_id d (stops.NoPublic g) = let row = igw_at d g in row.id
-stop_id d stops.PrivateAddress = codes "internet"
-stop_id d (stops.NatNotAvailable n) = let row = nat_at d n in row.id
-stop_id d (stops.NatAnswer n) = let row = nat_at d n in row.id
-stop_id d (stops.NatProtocol n) = let row = nat_at d n in row.id
-stop_id d (stops.NatFull n) = let row = nat_at d n in row.id
-stop_id d (stops.NatUnsolicited n) = let row = nat_at d n in row.id
-stop_id d (stops.PeerNotActive x) = let row = peering_at d x in row.id
-stop_id d (stops.PeerSource x) = let row = peering_at d x in row.id
-stop_id d (stops.PeerDestination x) = let row = peering_at d x in row.id
-stop_id d (stops.TgwNoAttachment t k) = route_target_id d t k
-stop_id d (stops.TgwNoZone a) = let row = attachment_at d a in row.id
-stop_id d (stops.TgwNoTable a) = let row = attachment_at d a in row.id
-stop_id d (stops.TgwNoRoute t) = let table = tgw_table_at d t in table.id
-stop_id d (stops.TgwBlackhole t k) = let table = tgw_table_at d t in table.id
-stop_id d (stops.Unmodelled f) = foreign_id d f
-stop_id d (stops.Loop p) = place_id d p
-stop_id d (stops.TooFar p) = place_id d p
-stop_id d (stops.WrongPlace e) = end_id d e
-stop_id d (stops.WrongReturn e) = end_id d e
-stop_id d (stops.NoReply e) = end_id d e
+stop_id d s = component_id d (component_of s)
 
 -- a route's prefix, or the id of its prefix list
 abbrev pub reach_text : Reach → List ℕ
 reach_text (reaches.Block b) = block_text b
 reach_text (reaches.List id) = id
 
+-- a rule, or a dash
+abbrev pub rule_text : Description → StopRule → List ℕ
+rule_text d by.None = codes "-"
+rule_text d (by.AclRow n) = decimal n
+rule_text d (by.Route t k) = let table = table_at d t in let r = slice_index_or table.routes k no_route in reach_text r.reach
+rule_text d (by.TransitRoute t k) = let table = tgw_table_at d t in let r = slice_index_or table.routes k no_tgw_route in block_text r.block
+
 -- the rule that stopped the packet, or a dash
 abbrev pub stop_rule : Description → Stop → List ℕ
-stop_rule d (stops.Detached i) = codes "-"
-stop_rule d (stops.SourceCheck i) = codes "-"
-stop_rule d (stops.DestCheck i) = codes "-"
-stop_rule d (stops.GroupsOut i) = codes "-"
-stop_rule d (stops.GroupsIn i) = codes "-"
-stop_rule d (stops.NotAHost i) = codes "-"
-stop_rule d (stops.ApplianceDrop i) = codes "-"
-stop_rule d (stops.NoRoute t) = codes "-"
-stop_rule d (stops.Blackhole t k) = let table = table_at d t in let r = slice_index_or table.routes k no_route in reach_text r.reach
-stop_rule d (stops.AclOut a n) = decimal n
-stop_rule d (stops.AclIn a n) = decimal n
-stop_rule d (stops.NoHost v) = codes "-"
-stop_rule d (stops.NoGateway v) = codes "-"
-stop_rule d (stops.GatewayDetached g) = codes "-"
-stop_rule d (stops.NoPublic g) = codes "-"
-stop_rule d stops.PrivateAddress = codes "-"
-stop_rule d (stops.NatNotAvailable n) = codes "-"
-stop_rule d (stops.NatAnswer n) = codes "-"
-stop_rule d (stops.NatProtocol n) = codes "-"
-stop_rule d (stops.NatFull n) = codes "-"
-stop_rule d (stops.NatUnsolicited n) = codes "-"
-stop_rule d (stops.PeerNotActive x) = codes "-"
-stop_rule d (stops.PeerSource x) = codes "-"
-stop_rule d (stops.PeerDestination x) = codes "-"
-stop_rule d (stops.TgwNoAttachment t k) = codes "-"
-stop_rule d (stops.TgwNoZone a) = codes "-"
-stop_rule d (stops.TgwNoTable a) = codes "-"
-stop_rule d (stops.TgwNoRoute t) = codes "-"
-stop_rule d (stops.TgwBlackhole t k) = let table = tgw_table_at d t in let r = slice_index_or table.routes k no_tgw_route in block_text r.block
-stop_rule d (stops.Unmodelled f) = codes "-"
-stop_rule d (stops.Loop p) = codes "-"
-stop_rule d (stops.TooFar p) = codes "-"
-stop_rule d (stops.WrongPlace e) = codes "-"
-stop_rule d (stops.WrongReturn e) = codes "-"
-stop_rule d (stops.NoReply e) = codes "-"
+stop_rule d s = rule_text d (rule_of s)
 
 -- what is told of a stop in a phase
 abbrev pub told_stop : Description → Phase → Stop → StopText

@@ -30,4 +30,4 @@ pub use rows::{
 };
 pub use same::{same_stop, same_verdict};
 pub use stop_texts::StopText;
-pub use stops::{Foreign, Stop, StopName};
+pub use stops::{Component, Foreign, Stop, StopName, StopRule};

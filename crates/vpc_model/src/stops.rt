@@ -1,6 +1,6 @@
 // Why a packet is stopped.
 ghost use Rattle.std.specs.Prelude.{◌≡◌};
-ghost use Rattle.vpc_model.specs.Told.{name_of};
+ghost use Rattle.vpc_model.specs.Told.{component_of, name_of, parts_of, rule_of};
 
 use crate::{AclNo, AttNo, End, EniNo, IgwNo, NatNo, PeerNo, Place, TableNo, TgwTableNo, VpcNo};
 
@@ -93,7 +93,7 @@ pub enum Stop {
 }
 
 /// The name of a stop, without what it carries.
-#[derive(Clone, Copy)]
+#[derive(Clone, Copy, PartialEq, Eq)]
 pub enum StopName {
     Detached,
     SourceCheck,
@@ -132,47 +132,106 @@ pub enum StopName {
     NoReply,
 }
 
+/// The component that stops a packet, as it is told.
+#[derive(Clone, Copy, PartialEq, Eq)]
+pub enum Component {
+    Interface(EniNo),
+    Table(TableNo),
+    /// The target of a route, by its table and its number there, from 0.
+    Target(TableNo, u32),
+    Acl(AclNo),
+    Vpc(VpcNo),
+    InternetGateway(IgwNo),
+    NatGateway(NatNo),
+    Peering(PeerNo),
+    Attachment(AttNo),
+    TransitTable(TgwTableNo),
+    Foreign(Foreign),
+    Place(Place),
+    End(End),
+}
+
+/// The rule of the component that stops a packet, where one does.
+#[derive(Clone, Copy, PartialEq, Eq)]
+pub enum StopRule {
+    None,
+    /// The number of an ACL's row.
+    AclRow(u16),
+    /// A route, by its table and its number there, from 0.
+    Route(TableNo, u32),
+    /// A route of a transit gateway's table, likewise.
+    TransitRoute(TgwTableNo, u32),
+}
+
 impl Stop {
+    /// Its name, the component and the rule that stop the packet: all that it carries.
+    pub fn parts(&self) -> (StopName, Component, StopRule)
+        ensures { result ≡ parts_of self.now }
+    {
+        use Component as at;
+        use StopName as is;
+        use StopRule as by;
+        match *self {
+            Stop::Detached(i) => (is::Detached, at::Interface(i), by::None),
+            Stop::SourceCheck(i) => (is::SourceCheck, at::Interface(i), by::None),
+            Stop::DestCheck(i) => (is::DestCheck, at::Interface(i), by::None),
+            Stop::GroupsOut(i) => (is::GroupsOut, at::Interface(i), by::None),
+            Stop::GroupsIn(i) => (is::GroupsIn, at::Interface(i), by::None),
+            Stop::NotAHost(i) => (is::NotAHost, at::Interface(i), by::None),
+            Stop::ApplianceDrop(i) => (is::ApplianceDrop, at::Interface(i), by::None),
+            Stop::NoRoute(t) => (is::NoRoute, at::Table(t), by::None),
+            Stop::Blackhole(t, k) => (is::Blackhole, at::Table(t), by::Route(t, k)),
+            Stop::AclOut(a, n) => (is::AclOut, at::Acl(a), by::AclRow(n)),
+            Stop::AclIn(a, n) => (is::AclIn, at::Acl(a), by::AclRow(n)),
+            Stop::NoHost(v) => (is::NoHost, at::Vpc(v), by::None),
+            Stop::NoGateway(v) => (is::NoGateway, at::Vpc(v), by::None),
+            Stop::GatewayDetached(g) => (is::GatewayDetached, at::InternetGateway(g), by::None),
+            Stop::NoPublic(g) => (is::NoPublic, at::InternetGateway(g), by::None),
+            Stop::PrivateAddress => (is::PrivateAddress, at::End(End::Internet), by::None),
+            Stop::NatNotAvailable(g) => (is::NatNotAvailable, at::NatGateway(g), by::None),
+            Stop::NatAnswer(g) => (is::NatAnswer, at::NatGateway(g), by::None),
+            Stop::NatProtocol(g) => (is::NatProtocol, at::NatGateway(g), by::None),
+            Stop::NatFull(g) => (is::NatFull, at::NatGateway(g), by::None),
+            Stop::NatUnsolicited(g) => (is::NatUnsolicited, at::NatGateway(g), by::None),
+            Stop::PeerNotActive(x) => (is::PeerNotActive, at::Peering(x), by::None),
+            Stop::PeerSource(x) => (is::PeerSource, at::Peering(x), by::None),
+            Stop::PeerDestination(x) => (is::PeerDestination, at::Peering(x), by::None),
+            Stop::TgwNoAttachment(t, k) => (is::TgwNoAttachment, at::Target(t, k), by::None),
+            Stop::TgwNoZone(a) => (is::TgwNoZone, at::Attachment(a), by::None),
+            Stop::TgwNoTable(a) => (is::TgwNoTable, at::Attachment(a), by::None),
+            Stop::TgwNoRoute(t) => (is::TgwNoRoute, at::TransitTable(t), by::None),
+            Stop::TgwBlackhole(t, k) => (
+                is::TgwBlackhole,
+                at::TransitTable(t),
+                by::TransitRoute(t, k),
+            ),
+            Stop::Unmodelled(f) => (is::Unmodelled, at::Foreign(f), by::None),
+            Stop::Loop(p) => (is::Loop, at::Place(p), by::None),
+            Stop::TooFar(p) => (is::TooFar, at::Place(p), by::None),
+            Stop::WrongPlace(e) => (is::WrongPlace, at::End(e), by::None),
+            Stop::WrongReturn(e) => (is::WrongReturn, at::End(e), by::None),
+            Stop::NoReply(e) => (is::NoReply, at::End(e), by::None),
+        }
+    }
+
     /// Its name, without what it carries.
     pub fn name(&self) -> StopName
         ensures { result ≡ name_of self.now }
     {
-        match self {
-            Stop::Detached(_) => StopName::Detached,
-            Stop::SourceCheck(_) => StopName::SourceCheck,
-            Stop::DestCheck(_) => StopName::DestCheck,
-            Stop::GroupsOut(_) => StopName::GroupsOut,
-            Stop::GroupsIn(_) => StopName::GroupsIn,
-            Stop::NotAHost(_) => StopName::NotAHost,
-            Stop::ApplianceDrop(_) => StopName::ApplianceDrop,
-            Stop::NoRoute(_) => StopName::NoRoute,
-            Stop::Blackhole(_, _) => StopName::Blackhole,
-            Stop::AclOut(_, _) => StopName::AclOut,
-            Stop::AclIn(_, _) => StopName::AclIn,
-            Stop::NoHost(_) => StopName::NoHost,
-            Stop::NoGateway(_) => StopName::NoGateway,
-            Stop::GatewayDetached(_) => StopName::GatewayDetached,
-            Stop::NoPublic(_) => StopName::NoPublic,
-            Stop::PrivateAddress => StopName::PrivateAddress,
-            Stop::NatNotAvailable(_) => StopName::NatNotAvailable,
-            Stop::NatAnswer(_) => StopName::NatAnswer,
-            Stop::NatProtocol(_) => StopName::NatProtocol,
-            Stop::NatFull(_) => StopName::NatFull,
-            Stop::NatUnsolicited(_) => StopName::NatUnsolicited,
-            Stop::PeerNotActive(_) => StopName::PeerNotActive,
-            Stop::PeerSource(_) => StopName::PeerSource,
-            Stop::PeerDestination(_) => StopName::PeerDestination,
-            Stop::TgwNoAttachment(_, _) => StopName::TgwNoAttachment,
-            Stop::TgwNoZone(_) => StopName::TgwNoZone,
-            Stop::TgwNoTable(_) => StopName::TgwNoTable,
-            Stop::TgwNoRoute(_) => StopName::TgwNoRoute,
-            Stop::TgwBlackhole(_, _) => StopName::TgwBlackhole,
-            Stop::Unmodelled(_) => StopName::Unmodelled,
-            Stop::Loop(_) => StopName::Loop,
-            Stop::TooFar(_) => StopName::TooFar,
-            Stop::WrongPlace(_) => StopName::WrongPlace,
-            Stop::WrongReturn(_) => StopName::WrongReturn,
-            Stop::NoReply(_) => StopName::NoReply,
-        }
+        self.parts().0
+    }
+
+    /// The component that stops the packet.
+    pub fn component(&self) -> Component
+        ensures { result ≡ component_of self.now }
+    {
+        self.parts().1
+    }
+
+    /// The rule of the component that stops the packet.
+    pub fn rule(&self) -> StopRule
+        ensures { result ≡ rule_of self.now }
+    {
+        self.parts().2
     }
 }

@@ -1,7 +1,8 @@
 use Rattle.std.proofs.Common.{◌≤◌, subst, sym, ℕ}
 use Rattle.std.proofs.lemmas.List.{length-map}
+use Rattle.vpc_base.proofs.Results.{if_ok_two}
 use Rattle.block_report.specs.Reports.{AreIds, told_row, told_rows}
-use Rattle.report_reader.proofs.Printing.{if_ok_two, named_is_described, reads_if_printed, short_if_printed}
+use Rattle.report_reader.proofs.Printing.{named_is_described, reads_if_printed, short_if_printed}
 use Rattle.report_reader.specs.ReadsBack.{IsPrintable}
 use Rattle.report_reader.specs.Reports.{row_limit}
 use Rattle.report_reader.specs.declared.report.Report.{Report}

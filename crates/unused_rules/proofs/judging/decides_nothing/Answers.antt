@@ -1,9 +1,16 @@
-use Rattle.std.proofs.Common.{◌≡◌, ◌∙◌, ap, refl}
+use Rattle.std.proofs.Common.{◌≡◌, ◌∙◌, ap, refl, sym}
 use Rattle.std.proofs.lemmas.Bool.{false≢true}
 use Rattle.vpc_laws.specs.Types.{Description}
+use Rattle.vpc_model.specs.Appliances.{appliances_of}
 use Rattle.unused_rules.specs.Chunks.{without_chunk}
-use Rattle.unused_rules.proofs.Needing.{none_needs, one_needs}
+use Rattle.unused_rules.proofs.Needing.{appliances-kept, none_needs, one_needs}
 use Rattle.unused_rules.proofs.judging.decides_nothing.Goals as goal
+
+pub of-after-requires-clause-appliances : goal.of-after-requires-clause-appliances
+of-after-requires-clause-appliances g c =
+    let less : c.in_ok-fabric.fabric ≡ without_chunk c.args.f.now c.args.c.now =
+    c.in_ok-fabric.ensures ∙ ap (λ (d : Description). without_chunk d c.args.c.now) c.network.ensures in
+    c.requires.appliances ∙ sym (ap appliances_of less ∙ appliances-kept c.args.f.now c.args.c.now)
 
 pub returns-in-None : goal.returns-in-None
 returns-in-None g c =

@@ -1,13 +1,14 @@
 use Rattle.std.proofs.Common.{◌∙◌, subst}
 use Rattle.box_walk.specs.Asking.{asked}
 use Rattle.header_boxes.specs.Cells.{IsAligned}
+use Rattle.header_boxes.proofs.Held.{within_trans}
 use Rattle.vpc_laws.specs.Types.{Header}
 use Rattle.unused_rules.specs.Probe.{near_cuts_of}
-use Rattle.unused_rules.proofs.Needing.{aligned_to_both, told-both, within_through}
+use Rattle.unused_rules.proofs.Needing.{aligned_to_both, told-both}
 use Rattle.unused_rules.proofs.probe.AgreementProbeProbe.probe.Goals as goal
 
 pub returns-clause-within : goal.returns-clause-within
-returns-clause-within g c = within_through c.probe-other.result.0 c.probe-one.result.0 c.args.sides.now c.probe-other.ensures.within c.probe-one.ensures.within
+returns-clause-within g c = within_trans c.probe-other.result.0 c.probe-one.result.0 c.args.sides.now c.probe-other.ensures.within c.probe-one.ensures.within
 
 pub returns-clause-low : goal.returns-clause-low
 returns-clause-low g c = c.probe-other.ensures.low ∙ c.probe-one.ensures.low
