@@ -6,9 +6,10 @@ use Rattle.std.proofs.lemmas.Bool.Decides.{nat_tests}
 use Rattle.std.proofs.lemmas.Iterator.Adapters.{position_from-zero}
 use Rattle.std.proofs.lemmas.List.Folds.{find_at}
 use Rattle.std.proofs.lemmas.Option.{slice_get_cases}
+use Rattle.vpc_base.proofs.Positions.{list_any-position, missing_number}
 use Rattle.appliances.specs.Passing.{boxes_of, number_of, passes_at}
 use Rattle.header_boxes.specs.declared.boxes.Box5.{Box5}
-use Rattle.reference_check.proofs.Maps.{found_number, list_any-position, missing_number}
+use Rattle.reference_check.proofs.Maps.{found_number}
 use Rattle.vpc_laws.specs.Types.{Description, EniNo, Header}
 use Rattle.vpc_model.specs.Appliances.{Appliances, boxes_at}
 use Rattle.vpc_model.specs.Lookup.{has_address, interface_at}

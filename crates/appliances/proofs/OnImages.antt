@@ -4,19 +4,18 @@ use Rattle.std.proofs.lemmas.List.{get_or_default}
 use Rattle.std.specs.List.{Contains}
 use Rattle.vpc_base.specs.Cuts.{CutLists}
 use Rattle.vpc_base.specs.declared.headers.Header.{Header}
+use Rattle.vpc_base.proofs.Members.{member-list_any}
 use Rattle.header_boxes.specs.Boxes.{holds, low_of}
 use Rattle.header_boxes.specs.declared.boxes.Box5.{Box5}
-use Rattle.header_boxes.proofs.Held.{holds_low, valid_if_within}
 use Rattle.box_images.specs.Answers.{Answers}
-use Rattle.box_images.specs.Bodies.{IsBody}
 use Rattle.box_images.specs.Images.{IsValidImage, KeepsKind, header_at}
 use Rattle.box_images.specs.declared.images.Image.{Image}
 use Rattle.box_images.specs.declared.images.Part.{Part}
+use Rattle.box_images.proofs.BodyLemmas.{low_in_body}
 use Rattle.cut_laws.proofs.Among.{among_through, on_sides_among, row_among}
 use Rattle.cut_laws.specs.Dividing.{Divide}
 use Rattle.image_tests.proofs.Answering.{answers_more, answers_same}
 use Rattle.image_tests.proofs.Trying.{IsTrying, header_of_rest, trying_next}
-use Rattle.vpc_laws.proofs.Members.{member-list_any}
 use Rattle.vpc_model.specs.Appliances.{passes}
 use Rattle.vpc_model.specs.Cuts.{all_cuts, cuts_of_box, on_sides}
 
@@ -59,10 +58,6 @@ pub box_left : (boxes : List Box5) (i rest next : Image) (k : ℕ) (d : Box5) (x
 box_left boxes i rest next k d x below fails image valid keeps t a =
     trying_next (divide_boxes boxes) (any_holds i boxes) (any_holds i) (box_test i) (not_held_yet i) boxes i k rest (get_or boxes k d) x next
     below (get_or_default boxes k d (get_or boxes k d) below) fails image valid keeps t (answer_at boxes i rest k d x below t a)
-
--- the low corner is in each body
-low_in_body : (body part : Box5) → IsBody body part → holds (low_of part) body ≡ true
-low_in_body body part b = subst (λ (l : Header). holds l body ≡ true) b.low (holds_low body (valid_if_within body part b.within))
 
 -- one that has it decides, for all headers of the image that it has
 pub box_decides : (boxes : List Box5) (i rest : Image) (k : ℕ) (d : Box5) (x y : Part Bool) → k < length boxes → x.told ≡ true

@@ -1,7 +1,7 @@
 // The appliances of a network.
 ghost use Rattle.std.specs.Prelude.{◌≡◌, ◌<◌, ◌^◌, ◌++◌, ◌∷◌, [], Contains, IfOk, IsTrue, OnOk, length, map};
 ghost use Rattle.vpc_model.specs.Appliances.{appliances_of, boxes_of_kind};
-ghost use Rattle.vpc_model.specs.Lookup.{eni_no, has_interface};
+ghost use Rattle.vpc_model.specs.Lookup.{eni_no};
 ghost use Rattle.appliances.specs.Passing.{kind_passes_at};
 
 use crate::kinds::{kind_boxes, kind_passes};
@@ -10,7 +10,7 @@ use reference_check::Network;
 use std::alloc::Global;
 use std::marker::Model;
 use vpc_base::{Header, NoMemory, OwnList};
-use vpc_model::{Appliance, ApplianceKind, EniNo, Id};
+use vpc_model::{Appliance, ApplianceKind, EniNo};
 
 fn copy_of(kind: &ApplianceKind) -> ApplianceKind
     ensures { result ≡ kind.now }
@@ -20,16 +20,6 @@ fn copy_of(kind: &ApplianceKind) -> ApplianceKind
         ApplianceKind::Nothing => ApplianceKind::Nothing,
         ApplianceKind::Service(from, to) => ApplianceKind::Service(*from, *to),
         ApplianceKind::Peer(block) => ApplianceKind::Peer(*block),
-    }
-}
-
-fn number_of(n: &Network, id: &Id) -> EniNo
-    requires { IsTrue (has_interface n.now id.now) }
-    ensures { result ≡ eni_no n.now id.now }
-{
-    match n.eni(id.bytes()) {
-        Some(e) => e,
-        None => unreachable!(),
     }
 }
 
@@ -43,7 +33,7 @@ fn row_of(
 {
     let _ = n.description();
     let boxes = kind_boxes(alloc, &appliance.kind)?;
-    Ok((number_of(n, &appliance.id), OwnList::of(boxes)))
+    Ok((n.eni_named(&appliance.id), OwnList::of(boxes)))
 }
 
 fn add<T: Drop>(rows: &mut Vec<T>, row: T) -> Result<(), NoMemory>

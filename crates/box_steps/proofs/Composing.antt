@@ -1,13 +1,11 @@
 -- Moments of a body of a body, and of the whole part; images of a moment.
-use Rattle.std.proofs.Common.{◌≡◌, ◌∙◌, ◌∷◌, [], All, List, ap, inl, inr, map, refl, subst, ℕ}
+use Rattle.std.proofs.Common.{◌≡◌, ◌∙◌, ◌∷◌, [], All, List, ap, map, refl, subst, ℕ}
 use Rattle.std.proofs.lemmas.List.Elements.{All-head, All-tail}
-use Rattle.vpc_base.specs.declared.headers.Label.TheVariants as labels
 use Rattle.header_boxes.specs.declared.boxes.Box5.{Box5}
-use Rattle.box_images.specs.Images.{IsImageOfWalk}
 use Rattle.conn_tracking.specs.declared.on_images.ImageEntry.{ImageEntry}
 use Rattle.vpc_laws.specs.Types.{Description, Label}
 use Rattle.vpc_model.specs.Lookup.{addresses_in}
-use Rattle.box_steps.specs.Moments.{IsBoxMoment, IsImageOf, IsNarrowed, IsOpenOver, IsTranslatedOver, entry_over, image_over, nat_over}
+use Rattle.box_steps.specs.Moments.{IsBoxMoment, IsNarrowed, IsOpenOver, IsTranslatedOver, entry_over, image_over, nat_over}
 use Rattle.box_steps.specs.declared.moment.BoxMoment.{BoxMoment}
 use Rattle.box_steps.specs.declared.moment.ImageNat.{ImageNat}
 
@@ -58,11 +56,3 @@ narrowed_itself d label m k = record {
   conns = entries-themselves (addresses_in d) m.header.part m.conns.items k.conns;
   nats = nats-themselves (addresses_in d) m.header.part m.nats.items k.nats;
 }
-
--- the packets of a moment are of a walk
-pub walk_of_moment : (d : Description) (label : Label) (m : BoxMoment) → IsBoxMoment d label m → IsImageOfWalk m.header
-walk_of_moment d label m k = by label k.kind
-  where
-    by : (label : Label) → IsImageOf label (addresses_in d) m.header → IsImageOfWalk m.header
-    by labels.Opening k = (addresses_in d, inl k)
-    by labels.Answer k = (addresses_in d, inr k)

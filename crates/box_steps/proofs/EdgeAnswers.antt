@@ -32,6 +32,7 @@ use Rattle.vpc_model.specs.Step.Words.{Next, go, stop}
 use Rattle.vpc_model.specs.declared.places.EnterBy.TheVariants as through
 use Rattle.vpc_model.specs.declared.places.Place.TheVariants as places
 use Rattle.vpc_model.specs.declared.stops.Stop.TheVariants as stops
+use Rattle.fabric.proofs.Owners.{owner-first}
 use Rattle.box_steps.proofs.RouteAnswers.{told_of_low}
 use Rattle.box_steps.proofs.Telling.{answers_then, answers_told}
 use Rattle.box_steps.specs.Cuts.{Standing}
@@ -116,16 +117,13 @@ pub owners-divide : (d : Description) (m : EdgeLists) → AreEdgesOf d m → (cu
 owners-divide d m are cuts standing a fits some =
     among_through (on_sides (cuts_of_blocks (address_cuts a))) (standing_cuts d) cuts (owners_are_cut_out d m are a fits some) standing
 
-owner-first : (d : Description) (m : EdgeLists) (public : ℕ) (o : Option (VpcNo × ℕ)) → AreEdgesOf d m → owner_in m public ≡ o → owner_of d public ≡ option_map (λ (x : VpcNo × ℕ). x.0) o
-owner-first d m public o are told = sym (are.pairs.owner public) ∙ ap (option_map (λ (x : VpcNo × ℕ). x.0)) told
-
 answers_of_owner : (d : Description) (m : EdgeLists) (j : Image) (y : Part (Option (VpcNo × ℕ))) (next : Onward) → AreEdgesOf d m
     → ((h : Header) → onward_of (to_owner d h (option_map (λ (x : VpcNo × ℕ). x.0) y.told)) ≡ next)
     → Answers (CutOut (λ public. is_some (owner_in m public))) (λ h. owner_in m (header_at j h).dst) j.part y
     → Answers (Standing d) (λ h. onward_of (to_owner d (header_at j h) (owner_of d (header_at j h).dst))) j.part (record { body = y.body; told = next })
 answers_of_owner d m j y next are leads k =
     answers_told (Standing d) (λ h. owner_in m (header_at j h).dst) (λ h. onward_of (to_owner d (header_at j h) (owner_of d (header_at j h).dst))) j.part y next
-    (λ h e. ap (λ (o : Option VpcNo). onward_of (to_owner d (header_at j h) o)) (owner-first d m (header_at j h).dst y.told are e) ∙ leads (header_at j h))
+    (λ h e. ap (λ (o : Option VpcNo). onward_of (to_owner d (header_at j h) o)) (owner-first d m (header_at j h).dst y.told are (sym e)) ∙ leads (header_at j h))
     (answers_more (CutOut (λ public. is_some (owner_in m public))) (Standing d) (λ h. owner_in m (header_at j h).dst) j.part y (owners-divide d m are) k)
 
 pub answers_routable : (d : Description) (m : EdgeLists) (i j : Image) (x : Part Bool) (y : Part (Option (VpcNo × ℕ))) (next : Onward) → IsValid i.part → AreEdgesOf d m → x.told ≡ false
@@ -142,7 +140,7 @@ answers_routable d m i j x y next valid are is within leads k l =
 owner-lies : (d : Description) (m : EdgeLists) (public : ℕ) (o : Option (VpcNo × ℕ)) → IsAccepted d → AreEdgesOf d m → owner_in m public ≡ o → IfSome o (λ x. is_vpc d x.0 ≡ true)
 owner-lies d m public None accepted are told = tt
 owner-lies d m public (Some x) accepted are told =
-    subst (λ (o : Option VpcNo). IfFound (is_vpc d) o) (owner-first d m public (Some x) are told)
+    subst (λ (o : Option VpcNo). IfFound (is_vpc d) o) (owner-first d m public (Some x) are (sym told))
     (owner-by d (known-accepted d accepted) public (find (λ (o : VpcNo × ℕ). o.1 == public) (flat_map (owned_by d) d.interfaces)) refl)
 
 -- the owner that was told is described

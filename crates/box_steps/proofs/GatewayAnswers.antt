@@ -5,6 +5,7 @@ use Rattle.std.proofs.lemmas.Bool.{and_parts, cases_eq, eq-eqb, ne_eqb}
 use Rattle.vpc_base.specs.Cuts.{CutLists}
 use Rattle.vpc_base.specs.declared.headers.Header.{Header}
 use Rattle.vpc_base.specs.declared.headers.Label.{Label}
+use Rattle.vpc_base.proofs.Members.{Contains-here, Contains-later, filter-member, filter_map-member, find-member, flat_map-member}
 use Rattle.header_boxes.specs.Boxes.{IsWithin, low_of}
 use Rattle.header_boxes.specs.declared.boxes.Box5.{Box5}
 use Rattle.box_images.proofs.ImageLemmas.{valid_over_body}
@@ -20,7 +21,6 @@ use Rattle.edge_gateways.proofs.Standing.{publics_are_cut_out}
 use Rattle.edge_gateways.specs.Edges.{AreEdgesOf, EdgeLists, owner_in, public_in}
 use Rattle.fabric.proofs.Owners.{private-none, private-other, private-own}
 use Rattle.image_tests.proofs.Answering.{answers_more}
-use Rattle.vpc_laws.proofs.Members.{Contains-here, Contains-later, filter-member, filter_map-member, find-member, flat_map-member}
 use Rattle.vpc_laws.specs.Types.{Description, Place, VpcNo}
 use Rattle.vpc_model.specs.Accepted.{IsAccepted}
 use Rattle.vpc_model.specs.Appliances.{Appliances}

@@ -6,10 +6,11 @@ use Rattle.std.proofs.lemmas.List.Elements.{All-from_recursion}
 use Rattle.vpc_base.specs.Cuts.{CutLists, joined_cuts}
 use Rattle.vpc_base.specs.declared.headers.Dir.{Dir}
 use Rattle.vpc_base.specs.declared.headers.Header.{Header}
+use Rattle.vpc_base.proofs.Members.{Contains-flat_map, Contains-here, all_members, list_any-member, row-member}
+use Rattle.vpc_base.proofs.Positions.{position-at}
 use Rattle.header_boxes.proofs.Held.{holds_whole}
 use Rattle.header_boxes.specs.Boxes.{holds, low_of}
 use Rattle.header_boxes.specs.declared.boxes.Box5.{Box5}
-use Rattle.block_pieces.proofs.Members.{Contains-flat_map}
 use Rattle.box_images.proofs.LawLemmas.{images_fit}
 use Rattle.box_images.specs.Answers.{Answers}
 use Rattle.box_images.specs.Fields.{number_of}
@@ -20,14 +21,11 @@ use Rattle.box_images.specs.declared.images.Part.{Part}
 use Rattle.cut_laws.proofs.Among.{among_through, on_sides_among, right_among}
 use Rattle.cut_laws.proofs.Places.{addresses_are_standing}
 use Rattle.cut_laws.specs.Dividing.{CutOut}
-use Rattle.edge_gateways.proofs.Numbers.{all_members}
 use Rattle.fabric.specs.Hosts.{AreHosts}
 use Rattle.image_tests.proofs.Answering.{answers_more, answers_same}
 use Rattle.number_tables.specs.Entries.{value_at}
 use Rattle.number_tables.specs.Keys.{key_of}
 use Rattle.number_tables.specs.declared.tables.Entry.{Entry}
-use Rattle.vpc_laws.proofs.Members.{Contains-here, list_any-member}
-use Rattle.vpc_laws.proofs.Numbering.{position-at, row-member}
 use Rattle.vpc_laws.specs.Types.{Description, EniNo, Interface, VpcNo}
 use Rattle.vpc_model.specs.Cuts.{address_cuts, cuts_of_blocks, fixed_cuts, on_sides, standing_cuts}
 use Rattle.vpc_model.specs.Lookup.{addresses_in, both_addresses, has_address, host_of, interface_at, is_in_vpc, no_interface}

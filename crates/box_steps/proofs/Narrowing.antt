@@ -51,7 +51,7 @@ connections_at-kept h body old new k = ap (connections_at h) k.conns ∙ connect
 pub translations_at-kept : (h : Header) (body : Box5) (old new : BoxMoment) → IsKept body old new → translations_at h new.nats.items ≡ translations_at h old.nats.items
 translations_at-kept h body old new k = ap (translations_at h) k.nats ∙ translations_at-over h body old.nats.items
 
-moments-same : (p q : Place) (a b : Header) (c e : List Connection) (t u : List Translation) → p ≡ q → a ≡ b → c ≡ e → t ≡ u
+pub moments-same : (p q : Place) (a b : Header) (c e : List Connection) (t u : List Translation) → p ≡ q → a ≡ b → c ≡ e → t ≡ u
     → (let m : Moment = record { place = p; header = a; conns = c; nats = t } in m) ≡ record { place = q; header = b; conns = e; nats = u }
 moments-same p q a b c e t u is_p is_a is_c is_t = cc
 

@@ -1,6 +1,6 @@
 -- Steps of all packets of a moment at NAT gateways.
 use Rattle.std.proofs.Common.{◌≡◌, ◌∙◌, ◌⊎◌, ◌==◌, ◌&&◌, ◌||◌, ◌++◌, ◌∷◌, [], All, Bool, Contains, IfSome, List, None, Option, Some, ap, arith, cond, false, find, inl, inr, length, map, option_and_then, option_map, refl, subst, sym, true, ℕ}
-use Rattle.std.proofs.lemmas.Bool.{and_parts, eqb-true, false≢true, or_cases}
+use Rattle.std.proofs.lemmas.Bool.{and_parts, eqb-true, false≢true, or_cases, or_from, or_parts}
 use Rattle.std.proofs.lemmas.Bool.Decides.{nat_tests}
 use Rattle.std.proofs.lemmas.List.{length-append, length-map}
 use Rattle.std.proofs.lemmas.List.Elements.{All-append, All-cons, All-contains, All-nil}
@@ -10,11 +10,11 @@ use Rattle.vpc_base.specs.declared.headers.Dir.TheVariants as dirs
 use Rattle.vpc_base.specs.declared.headers.Header.{Header}
 use Rattle.vpc_base.specs.declared.headers.Label.{Label}
 use Rattle.vpc_base.specs.declared.headers.Label.TheVariants as labels
+use Rattle.vpc_base.proofs.Members.{Contains-flat_map, Contains-here, find-member, list_any-member, row-member}
 use Rattle.header_boxes.proofs.Held.{holds_low, holds_whole, valid_if_within}
 use Rattle.header_boxes.specs.Boxes.{holds, low_of}
 use Rattle.header_boxes.specs.Cells.{IsAligned}
 use Rattle.header_boxes.specs.declared.boxes.Box5.{Box5}
-use Rattle.block_pieces.proofs.Members.{Contains-flat_map}
 use Rattle.box_images.proofs.ImageLemmas.{valid_over_body}
 use Rattle.box_images.proofs.LawLemmas.{images_fit}
 use Rattle.box_images.specs.Bodies.{IsBody}
@@ -28,8 +28,7 @@ use Rattle.nat_gateway.proofs.SentLemmas.{first_open_is_sent}
 use Rattle.nat_gateway.specs.OnImages.{AreAnswerAndTranslated, GivesInward, GivesSent, HasNone, IsSentFirst, from_gateway, sent_first}
 use Rattle.nat_gateway.specs.OnImages as pairs
 use Rattle.vpc_laws.proofs.Books.{find-none}
-use Rattle.vpc_laws.proofs.Members.{Contains-here, find-member, list_any-member}
-use Rattle.vpc_laws.proofs.Numbering.{nat_addresses_are_interfaces, row-member}
+use Rattle.vpc_laws.proofs.Numbering.{nat_addresses_are_interfaces}
 use Rattle.vpc_laws.specs.Types.{Description, Interface, NatLife, NatNo, Place}
 use Rattle.vpc_model.specs.Accepted.{IsAccepted}
 use Rattle.vpc_model.specs.Appliances.{Appliances}
@@ -73,14 +72,6 @@ has_nat-push (u ∷ ts) t n = ap (λ (b : Bool). (u.nat.0 == n.0) || b) (has_nat
     or-later true b c = refl
     or-later false b c = refl
 
-or-none : (a b : Bool) → (a || b) ≡ false → (a ≡ false) × (b ≡ false)
-or-none true b e = absurd (false≢true (sym e))
-or-none false b e = (refl, e)
-
-none-or : (a b : Bool) → a ≡ false → b ≡ false → (a || b) ≡ false
-none-or true b e f = e
-none-or false b e f = f
-
 same-number : (m n : ℕ) → (m == n) ≡ false → (n == m) ≡ false
 same-number m n e = grind (arith, nat_tests)
 
@@ -88,8 +79,8 @@ same-number m n e = grind (arith, nat_tests)
 apart-push : (ts : List ImageNat) (t : ImageNat) → AreApart ts → has_nat ts t.nat ≡ false → AreApart (ts ++ t ∷ [])
 apart-push [] t k none = (refl, tt)
 apart-push (u ∷ ts) t k none =
-    let each = or-none (u.nat.0 == t.nat.0) (has_nat ts t.nat) none in (
-      has_nat-push ts t u.nat ∙ none-or (has_nat ts u.nat) (t.nat.0 == u.nat.0) k.0 (same-number u.nat.0 t.nat.0 each.0),
+    let each = or_parts (u.nat.0 == t.nat.0) (has_nat ts t.nat) none in (
+      has_nat-push ts t u.nat ∙ or_from (has_nat ts u.nat) (t.nat.0 == u.nat.0) k.0 (same-number u.nat.0 t.nat.0 each.0),
       apart-push ts t k.1 each.1,
     )
 
@@ -336,7 +327,7 @@ one_of n ts = find (λ (t : ImageNat). t.nat.0 == n.0) ts
 
 none-sent : (h : Header) (ts : List ImageNat) (n : NatNo) (k : Header) → has_nat ts n ≡ false → find (sent_by n k) (translations_at h ts) ≡ None
 none-sent h [] n k none = refl
-none-sent h (t ∷ ts) n k none = let each = or-none (t.nat.0 == n.0) (has_nat ts n) none in rw each.0 (none-sent h ts n k each.1)
+none-sent h (t ∷ ts) n k none = let each = or_parts (t.nat.0 == n.0) (has_nat ts n) none in rw each.0 (none-sent h ts n k each.1)
 
 -- a gateway without a translation gives nothing back
 inward-none : (h : Header) (ts : List ImageNat) (n : NatNo) (k : Header) → one_of n ts ≡ None → inward (translations_at h ts) n k ≡ None

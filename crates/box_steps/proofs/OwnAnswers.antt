@@ -12,12 +12,12 @@ use Rattle.box_images.specs.Images.{IsImageOfWalk, IsValidImage, field_of, heade
 use Rattle.box_images.specs.declared.fields.Side.{Side}
 use Rattle.box_images.specs.declared.images.Image.{Image}
 use Rattle.box_images.specs.declared.images.Part.{Part}
-use Rattle.cut_laws.proofs.Among.{filter_in}
-use Rattle.image_tests.proofs.Answering.{answers_more, answers_same, side_answers}
+use Rattle.image_tests.proofs.Answering.{answers_more, answers_same, between_itself, side_answers}
 use Rattle.image_tests.proofs.Fields.{address_field, address_is_cut, greatest_address}
 use Rattle.image_tests.proofs.Trying.{header_of_rest}
 use Rattle.image_tests.specs.Tests.{IsAddressSide, TellsSide}
 use Rattle.vpc_base.specs.Cuts.{CutLists}
+use Rattle.vpc_base.proofs.Members.{Contains-filter}
 use Rattle.vpc_model.specs.Cuts.{address_cuts}
 use Rattle.vpc_model.specs.Filter.{is_between}
 use Rattle.box_steps.specs.Hosts.{DivideAddress, DivideOwn}
@@ -26,13 +26,10 @@ use Rattle.box_steps.specs.Hosts.{DivideAddress, DivideOwn}
 abbrev pub own_test : Side → Image → ℕ × Option ℕ → Header → Bool
 own_test s i x h = x.0 == number_of (header_at i h) s
 
-between_itself : (a n : ℕ) → is_between a a n ≡ (a == n)
-between_itself a n = grind (arith, nat_tests)
-
 address_cut : (cuts : CutLists) (i : Image) (s : Side) (a v : ℕ) → IsImageOfWalk i → IsAddressSide s → Contains (address_cuts a) v → DivideAddress a cuts → IsCut cuts 4294967295 (field_of i s) v
 address_cut cuts i s a v walk address has divide =
     address_is_cut cuts (field_of i s) v (address_field i s walk address)
-    (λ le. divide.addr v (filter_in (λ n. nat_le n 4294967295) (address_cuts a) v (grind (arith, nat_tests)) has))
+    (λ le. divide.addr v (Contains-filter (λ n. nat_le n 4294967295) (address_cuts a) v has (grind (arith, nat_tests))))
 
 -- one address, by the range from it to itself
 pub address_answers : (i : Image) (s : Side) (a : ℕ) (x : Part Bool) → IsValidImage i → IsImageOfWalk i → IsAddressSide s → TellsSide i s a a x

@@ -2,7 +2,7 @@
 use Rattle.std.proofs.Common.{◌≡◌, ◌∙◌, ◌≤◌, ◌<◌, ◌++◌, ◌∷◌, ◌||◌, ◌&&◌, ◌==◌, ◌⊎◌, ⊎_elim, [], All, Bool, List, None, Option, Some, ap, arith, cond, false, inl, inr, length, map, refl, subst, sym, true, ℕ}
 use Rattle.std.specs.List.{list_any}
 use Rattle.std.specs.Prelude.{is_some}
-use Rattle.std.proofs.lemmas.Bool.Decides.{nat_tests}
+use Rattle.std.proofs.lemmas.Bool.{or_from}
 use Rattle.std.proofs.lemmas.List.{append-nil, length-append, map-append}
 use Rattle.std.proofs.lemmas.List.Elements.{All-append, All-cons, All-nil}
 use Rattle.std.proofs.lemmas.List.Folds.{list_any-append}
@@ -10,6 +10,8 @@ use Rattle.vpc_base.specs.Cuts.{CutLists}
 use Rattle.vpc_base.specs.Dir.{same_dir}
 use Rattle.vpc_base.specs.declared.headers.Dir.TheVariants as dirs
 use Rattle.vpc_base.specs.declared.headers.Label.TheVariants as labels
+use Rattle.vpc_base.proofs.Bools.{and-fails_early}
+use Rattle.vpc_base.proofs.Numbers.{eqb-comm}
 use Rattle.header_boxes.proofs.Held.{holds_low, valid_if_within, within_itself}
 use Rattle.header_boxes.proofs.BoxLaws.{within_holds}
 use Rattle.header_boxes.specs.Boxes.{IsValid, IsWithin, holds, low_of}
@@ -24,6 +26,7 @@ use Rattle.box_images.specs.declared.images.Part.{Part}
 use Rattle.header_boxes.proofs.CellNumbers.{aligned_through}
 use Rattle.conn_tracking.specs.OnImages.{connection_at, connections_at}
 use Rattle.conn_tracking.specs.declared.on_images.ImageEntry.{ImageEntry}
+use Rattle.conn_tracking.proofs.Lookups.{same_dir-flip}
 use Rattle.image_tests.proofs.Answering.{answers_all}
 use Rattle.vpc_laws.specs.Types.{By, Description, Dir, End, EniNo, Header, Label, Place, Stop, SubnetNo}
 use Rattle.vpc_model.specs.Accepted.{IsAccepted}
@@ -124,40 +127,24 @@ stopped_step d appliances label i dir old new told x at m is k = record {
 
 -- ---- what opens leave behind
 
-eqb-sym : (a b : ℕ) → (a == b) ≡ (b == a)
-eqb-sym a b = grind (arith, nat_tests)
-
-same_dir-sym : (a b : Dir) → same_dir a b ≡ same_dir b a
-same_dir-sym dirs.Inward dirs.Inward = refl
-same_dir-sym dirs.Inward dirs.Outward = refl
-same_dir-sym dirs.Outward dirs.Inward = refl
-same_dir-sym dirs.Outward dirs.Outward = refl
-
 or-second : (a b : Bool) → (a || b) ≡ false → b ≡ false
 or-second true b h = absurd (let no : true ≡ false = h in cc)
 or-second false b h = h
 
-unlike-first : (a b c : Bool) → (a && b) ≡ false → (a && (b && c)) ≡ false
-unlike-first true b c h = ap (λ (v : Bool). v && c) h
-unlike-first false b c h = refl
-
 or-first : (a b : Bool) → (a || b) ≡ false → a ≡ false
 or-first true b h = absurd (let no : true ≡ false = h in cc)
 or-first false b h = refl
-
-neither : (a b : Bool) → a ≡ false → b ≡ false → (a || b) ≡ false
-neither a b x y = ap (λ (v : Bool). v || b) x ∙ y
 
 -- where no open has passed the interface in this direction, none of the connections is the new one
 fresh-none : (c : Connection) (es : List ImageEntry) (h : Header) → has_conn es c.eni c.dir ≡ false → list_any (same_connection c) (connections_at h es) ≡ false
 fresh-none c [] h fresh = refl
 fresh-none c (e ∷ es) h fresh =
     let differs : ((c.eni.0 == e.eni.0) && same_dir c.dir e.dir) ≡ false
-    = ap (λ (v : Bool). v && same_dir c.dir e.dir) (eqb-sym c.eni.0 e.eni.0)
-    ∙ ap (λ (v : Bool). (e.eni.0 == c.eni.0) && v) (same_dir-sym c.dir e.dir)
+    = ap (λ (v : Bool). v && same_dir c.dir e.dir) (eqb-comm c.eni.0 e.eni.0)
+    ∙ ap (λ (v : Bool). (e.eni.0 == c.eni.0) && v) (same_dir-flip c.dir e.dir)
     ∙ or-first ((e.eni.0 == c.eni.0) && same_dir e.dir c.dir) (has_conn es c.eni c.dir) fresh in
-    neither (same_connection c (connection_at h e)) (list_any (same_connection c) (connections_at h es))
-    (unlike-first (c.eni.0 == e.eni.0) (same_dir c.dir e.dir) (same_header c.header (header_at e.header h)) differs)
+    or_from (same_connection c (connection_at h e)) (list_any (same_connection c) (connections_at h es))
+    (and-fails_early (c.eni.0 == e.eni.0) (same_dir c.dir e.dir) (same_header c.header (header_at e.header h)) differs)
     (fresh-none c es h (or-second ((e.eni.0 == c.eni.0) && same_dir e.dir c.dir) (has_conn es c.eni c.dir) fresh))
 
 added-new : (conns : List Connection) (c : Connection) → list_any (same_connection c) conns ≡ false → added conns c ≡ conns ++ c ∷ []

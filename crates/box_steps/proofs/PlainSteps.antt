@@ -1,5 +1,5 @@
 -- Places that change no header and remember nothing: what was told of all headers is one step.
-use Rattle.std.proofs.Common.{◌≡◌, ◌∙◌, ◌||◌, Bool, ap, cond, false, inl, inr, refl, subst, sym, true}
+use Rattle.std.proofs.Common.{◌≡◌, ◌∙◌, ◌||◌, ap, cond, inl, inr, refl, subst, sym, true}
 use Rattle.vpc_base.specs.declared.headers.Header.{Header}
 use Rattle.vpc_base.specs.declared.headers.Label.{Label}
 use Rattle.vpc_base.specs.declared.headers.Label.TheVariants as labels
@@ -26,6 +26,7 @@ use Rattle.vpc_model.specs.declared.places.Came.{Came}
 use Rattle.vpc_model.specs.declared.places.EnterBy.{EnterBy}
 use Rattle.vpc_model.specs.declared.places.Place.TheVariants as places
 use Rattle.vpc_model.specs.declared.stops.Stop.TheVariants as stops
+use Rattle.vpc_model.proofs.Nexts.{plain-either}
 use Rattle.box_steps.proofs.Staying.{Stays, by_pair-stays, by_route-stays, by_tgw_table-stays, enter_host-stays, internet-stays, leave_by-stays}
 use Rattle.box_steps.proofs.Turning.{plain_step, standing_answers}
 use Rattle.box_steps.specs.Cuts.{AtPlace, Standing}
@@ -71,10 +72,6 @@ pub enter_step : (d : Description) (appliances : Appliances) (label : Label) (v 
 enter_step d appliances label v by x old new onward accepted moment is t k =
     at_plain d appliances label (places.Enter v by) (λ h. enter_host d v h (host_of d v h.dst)) x old new onward accepted moment is t (enter_host-stays d v) (λ m. refl)
     (standing_answers d (places.Enter v by) (λ h. let g = header_at old.header h in onward_of (enter_host d v g (host_of d v g.dst))) old.header.part x k)
-
-plain-either : (m : Moment) (b : Bool) (x y : Next) → cond b (plain m x) (plain m y) ≡ plain m (cond b x y)
-plain-either m true x y = refl
-plain-either m false x y = refl
 
 pub internet_step : (d : Description) (appliances : Appliances) (label : Label) (x : Part Onward) (old new : BoxMoment) (onward : Onward)
     → IsAccepted d → IsBoxMoment d label old → old.place ≡ places.Internet → IsTurned x old new onward

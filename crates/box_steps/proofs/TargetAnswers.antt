@@ -1,27 +1,17 @@
 -- What comes next for all headers of a body, by the targets of routes.
-use Rattle.std.proofs.Common.{◌≡◌, ◌∙◌, Bool, Err, List, None, Ok, Option, Result, Some, ap, cond, false, length, refl, subst, sym, true, ℕ}
-use Rattle.std.proofs.lemmas.Bool.{and_parts, ltb-true}
-use Rattle.std.proofs.lemmas.List.Elements.{Contains-get_or}
+use Rattle.std.proofs.Common.{◌≡◌, ◌∙◌, Bool, List, Option, Some, ap, cond, false, refl, sym, true, ℕ}
 use Rattle.vpc_base.specs.declared.headers.Header.{Header}
 use Rattle.box_images.specs.Answers.{Answers}
 use Rattle.box_images.specs.Images.{header_at}
 use Rattle.box_images.specs.declared.images.Image.{Image}
 use Rattle.box_images.specs.declared.images.Part.{Part}
 use Rattle.image_tests.proofs.Answering.{answers_same}
-use Rattle.transit_gateway.specs.Index.{enter_by, enter_zone, entered}
-use Rattle.transit_gateway.specs.declared.index.EnterStop.{EnterStop}
-use Rattle.vpc_laws.proofs.Accepting.{accepted_has_all_named}
-use Rattle.vpc_laws.proofs.Numbering.{no_subnet}
-use Rattle.vpc_laws.proofs.Sounding.{IfFound, attachment-found, is_inner, known-accepted, zone-found}
-use Rattle.vpc_laws.specs.Types.{AttNo, Description, IgwNo, PeerNo, Place, Stop, SubnetNo, VpcNo}
-use Rattle.vpc_model.specs.Accepted.{IsAccepted}
-use Rattle.vpc_model.specs.Lookup.{attachment_at, gateway_of, has_vpc, subnet_at, vpc_at, vpc_of_subnet}
+use Rattle.vpc_laws.specs.Types.{Description, IgwNo, PeerNo, Place, Stop, SubnetNo, VpcNo}
+use Rattle.vpc_model.specs.Lookup.{gateway_of, has_vpc, vpc_at, vpc_of_subnet}
 use Rattle.vpc_model.specs.Peerings.{other_side}
-use Rattle.vpc_model.specs.Sound.{is_attachment, is_subnet}
 use Rattle.vpc_model.specs.Step.Crossing.{leaving}
 use Rattle.vpc_model.specs.Step.Router.{is_attached, to_internet, to_peer}
 use Rattle.vpc_model.specs.Step.Words.{Next, go, stop, unless_stopped}
-use Rattle.vpc_model.specs.Transit.{attachment_for, zone_subnet}
 use Rattle.vpc_model.specs.declared.stops.Foreign.TheVariants as foreign
 use Rattle.vpc_model.specs.declared.places.Place.TheVariants as places
 use Rattle.vpc_model.specs.declared.stops.Stop.TheVariants as stops
@@ -61,25 +51,3 @@ to_peer-described d s v x pair o h own active is =
     ∙ holds-then (has_vpc d (other_side (vpc_at d (vpc_of_subnet d s)).id pair)) _ (stop (stops.Unmodelled (foreign.Peering x)))
     (ap (λ (w : VpcNo). has_vpc d (other_side (vpc_at d w).id pair)) (sym own) ∙ is)
     ∙ sym (ap (to_peer d s h x) active)
-
--- ---- transit gateways
-
--- where a packet comes in, it is into a described subnet
-abbrev InSubnet : Description → Result (AttNo × SubnetNo) EnterStop → Type 0
-InSubnet d (Ok x) = is_subnet d x.1 ≡ true
-InSubnet d (Err e) = Unit {0}
-
-zone-in : (d : Description) (a : AttNo) (z : Option SubnetNo) → IfFound (is_subnet d) z → InSubnet d (enter_zone a z)
-zone-in d a None k = tt
-zone-in d a (Some u) k = k
-
-attachment-in : (d : Description) (s : SubnetNo) (o : Option AttNo) → IsAccepted d → IfFound (is_inner d) o → InSubnet d (enter_by o (λ a. zone_subnet d a s))
-attachment-in d s None accepted k = tt
-attachment-in d s (Some a) accepted k =
-    let parts = and_parts (is_attachment d a) (has_vpc d (attachment_at d a).vpc) k in
-    zone-in d a (zone_subnet d a s) (zone-found d (known-accepted d accepted) a s parts.0 parts.1)
-
-pub zone-lies : (d : Description) (gateway : List ℕ) (s : SubnetNo) (a : AttNo) (t : SubnetNo) → IsAccepted d → is_subnet d s ≡ true → entered d gateway s ≡ Ok (a, t) → is_subnet d t ≡ true
-zone-lies d gateway s a t accepted lies is =
-    let there = (accepted_has_all_named d accepted).vpc_of_subnet (subnet_at d s) (Contains-get_or d.subnets s.0 no_subnet (ltb-true s.0 (length d.subnets) lies)) in
-    subst (InSubnet d) is (attachment-in d s (attachment_for d gateway s) accepted (attachment-found d gateway s there))

@@ -22,7 +22,7 @@ use crate::moment::BoxMoment;
 use appliances::Deciders;
 use box_images::Image;
 use fabric::Fabric;
-use fabric::rows::{eni_named, table_at, vpc_of};
+use fabric::rows::{table_at, vpc_of};
 use header_boxes::Box5;
 use vpc_model::{End, EniNo, Place, SubnetNo, TableNo, Target, VpcNo};
 
@@ -115,7 +115,7 @@ fn to_target_away(
     match target {
         Target::Local => host_away_on(f, deciders, goal, vpc_of(f, s), i),
         Target::Interface(id) => {
-            to_interface_away(f, deciders, goal, s, i, eni_named(f.network(), id))
+            to_interface_away(f, deciders, goal, s, i, f.network().eni_named(id))
         }
         _ => None,
     }

@@ -15,7 +15,7 @@ use crate::moment::{BoxMoment, ImageNat};
 use crate::onward::{Onward, stopped};
 use box_images::Part;
 use fabric::Fabric;
-use fabric::rows::{nat_at, subnet_named};
+use fabric::rows::nat_at;
 use nat_gateway::{inward_on, outward_on};
 use vpc_base::Label;
 use vpc_model::{Came, NatLife, NatNo, Place, Stop};
@@ -42,7 +42,7 @@ fn router_of(f: &Fabric, n: NatNo) -> Place
     let network = f.network();
     let _ = network.description();
     match &nat_at(f, n).life {
-        NatLife::Live { subnet, .. } => Place::Router(subnet_named(network, subnet), Came::Nat(n)),
+        NatLife::Live { subnet, .. } => Place::Router(network.subnet_named(subnet), Came::Nat(n)),
         NatLife::Gone => unreachable!(),
         NatLife::Unmodelled => unreachable!(),
     }

@@ -14,7 +14,7 @@ use crate::onward::{Onward, stopped};
 use box_images::{Image, Part};
 use edge_gateways::Carry;
 use fabric::Fabric;
-use fabric::rows::{peering_at, vpc_at, vpc_named};
+use fabric::rows::{peering_at, vpc_at};
 use vpc_model::{EnterBy, Id, PeerNo, Place, Stop, VpcNo};
 
 /// The id of the VPC at the other side; of a VPC that is peered with itself, its own.
@@ -54,7 +54,7 @@ pub fn peer_on(f: &Fabric, x: PeerNo, v: VpcNo, i: &Image) -> Part<Onward>
         return stopped(i, Stop::PeerNotActive(x));
     };
     let carry = f.edges().carries_on(x, v, i);
-    let other = vpc_named(n, other_side(vpc_at(f, v).id.bytes(), pair));
+    let other = n.vpc_named(other_side(vpc_at(f, v).id.bytes(), pair));
     Part {
         body: carry.body,
         told: after_carry(x, other, carry.told),

@@ -20,10 +20,7 @@ use crate::onward::{Onward, stopped, unless_stopped_on};
 use crate::peering::other_side;
 use box_images::{Image, Part};
 use fabric::Fabric;
-use fabric::rows::{
-    eni_named, igw_named, nat_at, nat_named, peering_at, peering_named, subnet_named, subnet_of,
-    table_at, vpc_at, vpc_of,
-};
+use fabric::rows::{nat_at, peering_at, subnet_of, table_at, vpc_at, vpc_of};
 use transit_gateway::EnterStop;
 use vpc_model::{
     AttNo, EniNo, Foreign, Id, IgwNo, NatLife, NatNo, PeerNo, Place, Stop, SubnetNo, TableNo,
@@ -121,7 +118,7 @@ pub fn to_nat_on(f: &Fabric, s: SubnetNo, i: &Image, n: NatNo) -> Part<Onward>
         NatLife::Gone => stopped(i, Stop::NatNotAvailable(n)),
         NatLife::Unmodelled => stopped(i, Stop::Unmodelled(Foreign::Nat(n))),
         NatLife::Live { subnet, .. } => {
-            let t = subnet_named(network, subnet);
+            let t = network.subnet_named(subnet);
             unless_stopped_on(crossing_on(f, s, t, i), Onward::Go(Place::NatOut(n)))
         }
     }
@@ -207,11 +204,11 @@ fn to_target_on(
     let v = vpc_of(f, s);
     match target {
         Target::Local => to_local_on(f, s, v, i),
-        Target::Internet(id) => to_internet_on(f, s, v, i, igw_named(n, id)),
-        Target::Nat(id) => to_nat_on(f, s, i, nat_named(n, id)),
-        Target::Peer(id) => to_peer_on(f, s, v, i, peering_named(n, id)),
+        Target::Internet(id) => to_internet_on(f, s, v, i, n.igw_named(id)),
+        Target::Nat(id) => to_nat_on(f, s, i, n.nat_named(id)),
+        Target::Peer(id) => to_peer_on(f, s, v, i, n.peering_named(id)),
         Target::Transit(id) => to_transit_on(f, s, i, t, k, id),
-        Target::Interface(id) => to_interface_on(f, s, i, eni_named(n, id)),
+        Target::Interface(id) => to_interface_on(f, s, i, n.eni_named(id)),
         Target::Other(_) => stopped(i, Stop::Unmodelled(Foreign::Target(t, k))),
     }
 }

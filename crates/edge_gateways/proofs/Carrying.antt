@@ -3,6 +3,8 @@ use Rattle.std.proofs.Common.{◌≡◌, ◌∙◌, ◌&&◌, ◌<◌, ◌==◌,
 use Rattle.std.specs.List.{AllZip}
 use Rattle.std.proofs.lemmas.Bool.{cases_Bool, cases_lt, eq-eqb, ltb-true, or_cases, or_left, or_right}
 use Rattle.std.proofs.lemmas.List.{get_or-map, get_or_past}
+use Rattle.vpc_base.proofs.Bytes.{same_bytes}
+use Rattle.vpc_base.proofs.Zips.{zip_at}
 use Rattle.address_sets.specs.declared.sets.Run.{Run}
 use Rattle.number_tables.specs.declared.tables.Entry.{Entry}
 use Rattle.vpc_model.specs.declared.numbers.PeerNo.{PeerNo}
@@ -13,15 +15,14 @@ use Rattle.vpc_model.specs.Accepted.{IsAccepted}
 use Rattle.vpc_model.specs.Lookup.{has_vpc, peering_at, vpc_at, vpc_no}
 use Rattle.vpc_model.specs.Peerings.{has_block, other_side}
 use Rattle.vpc_model.specs.Sound.{is_vpc}
-use Rattle.vpc_laws.proofs.Numbering.{accepted_numbers_are_own, ids_are_found, same_bytes}
+use Rattle.vpc_laws.proofs.Numbering.{accepted_numbers_are_own, ids_are_found}
 use Rattle.edge_gateways.specs.declared.pairs.Owner.{Owner}
 use Rattle.edge_gateways.specs.declared.sides.Sides.{Sides}
 use Rattle.edge_gateways.specs.Carry.{carry_if}
 use Rattle.edge_gateways.specs.Edges.{AreEdgesOf, CanCarry}
 use Rattle.edge_gateways.specs.Pairs.{HasPairsOf}
 use Rattle.edge_gateways.specs.Sides.{HasBlocksOf, HasPeeringsOf, has_address, is_one_of, other_of, sides_if, sides_of}
-use Rattle.edge_gateways.proofs.Numbers.{ids_agree}
-use Rattle.edge_gateways.proofs.Zips.{zip_at}
+use Rattle.reference_check.proofs.VpcIds.{ids_agree}
 
 -- the blocks of a described VPC
 pub has_address-is : (d : Description) (sets : List (List Run)) (v : VpcNo) (a : ℕ) → AllZip HasBlocksOf d.vpcs sets → is_vpc d v ≡ true → has_address sets v a ≡ has_block d v a

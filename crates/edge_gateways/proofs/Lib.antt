@@ -1,7 +1,4 @@
 pub mod PairSteps
-pub mod Subnets
-pub mod Numbers
-pub mod Zips
 pub mod Publics
 pub mod Carrying
 pub mod Ranges

@@ -1,10 +1,11 @@
 -- What edges answer for all headers of a body.
-use Rattle.std.proofs.Common.{◌≡◌, ◌∙◌, ◌||◌, ℕ, Bool, List, None, Option, Some, ap, arith, false, is_some, option_map, refl, sym, true}
+use Rattle.std.proofs.Common.{◌≡◌, ◌∙◌, ℕ, Bool, List, Option, ap, arith, false, is_some, option_map, refl, sym, true}
 use Rattle.vpc_base.specs.Cuts.{CutLists}
 use Rattle.vpc_base.specs.declared.headers.Header.{Header}
+use Rattle.vpc_base.proofs.Options.{is_some-option_map}
 use Rattle.header_boxes.specs.Boxes.{IsValid}
 use Rattle.header_boxes.specs.declared.boxes.Box5.{Box5}
-use Rattle.box_images.proofs.Reducing.{reduced_all, reduced_by, reduced_nothing, reduced_to}
+use Rattle.box_images.proofs.Reducing.{reduced_all, reduced_by, reduced_nothing}
 use Rattle.box_images.specs.Answers.{Answers}
 use Rattle.box_images.specs.Images.{header_at}
 use Rattle.box_images.specs.declared.images.Image.{Image}
@@ -19,28 +20,6 @@ use Rattle.edge_gateways.specs.declared.peerings.Carry.{Carry}
 use Rattle.edge_gateways.specs.declared.peerings.Carry.TheVariants as carries
 use Rattle.edge_gateways.specs.Carry.{carry_if}
 use Rattle.edge_gateways.specs.Pairs.{owner_at}
-
--- one answer for all headers
-pub answers_all : {T : Type 0} (enough : CutLists → Type 0) (answer : Header → T) (part : Box5) (told : T) → IsValid part → ((h : Header) → answer h ≡ told)
-    → Answers enough answer part (record { body = part; told = told })
-answers_all {T} enough answer part told valid all = reduced_all enough answer answer part part told (λ h i. all h) (reduced_nothing enough answer part valid)
-
--- ---- one test or another
-
-pub answers_found : (enough : CutLists → Type 0) (f g : Header → Bool) (part : Box5) (x : Part Bool) → x.told ≡ true
-    → Answers enough f part x → Answers enough (λ h. f h || g h) part x
-answers_found enough f g part x e k = record { told = λ h i. holds_too (f h) (g h) x.told e (k.told h i); body = k.body; aligned = k.aligned }
-  where
-    holds_too : (a b v : Bool) → v ≡ true → v ≡ a → v ≡ (a || b)
-    holds_too true b v e f = e
-    holds_too false b v e f = absurd (let h : false ≡ true = sym f ∙ e in cc)
-
-pub answers_either : (enough : CutLists → Type 0) (f g : Header → Bool) (part : Box5) (x y : Part Bool) → IsValid part → x.told ≡ false
-    → Answers enough f part x → Answers enough g x.body y → Answers enough (λ h. f h || g h) part y
-answers_either enough f g part x y valid e k l =
-    let whole : Header → Bool = λ h. f h || g h in
-    reduced_to enough whole g part x.body y
-    (reduced_by enough whole whole g part part f x false e (λ h t. ap (λ b. b || g h) t) (reduced_nothing enough whole part valid) k) l
 
 -- ---- what a peering carries
 
@@ -63,10 +42,6 @@ answers_by_destination enough f g part x y v valid e d k l =
 
 low-key : (a : ℕ) → key_of 0 a ≡ a
 low-key a = omega arith
-
-is_some-option_map : {X Y : Type 0} (g : X → Y) (o : Option X) → is_some (option_map g o) ≡ is_some o
-is_some-option_map g None = refl
-is_some-option_map g (Some x) = refl
 
 pub owner-answers : (owners : List (Entry Owner)) (i : Image) (x : Part (Option Owner)) (told : Option (VpcNo × ℕ)) → told ≡ option_map (λ o. (o.vpc, o.own)) x.told
     → Answers (CutOut (λ a. is_some (value_at (key_of 0 a) owners))) (λ h. value_at (key_of 0 (header_at i h).dst) owners) i.part x

@@ -5,6 +5,8 @@ use Rattle.std.specs.Option.{option_or}
 use Rattle.std.proofs.lemmas.Bool.{cases_Bool, cases_eq, eq-eqb, eqb-true, eqb-false, ne_eqb}
 use Rattle.std.proofs.lemmas.List.Elements.{recursion_from_All}
 use Rattle.std.proofs.lemmas.List.Folds.{find-append}
+use Rattle.vpc_base.proofs.Members.{Contains-cases, Contains-none, all_members, find-member, flat_map-member}
+use Rattle.vpc_base.proofs.Options.{option_map-map, option_map-or}
 use Rattle.number_tables.specs.Keys.{key_of}
 use Rattle.number_tables.proofs.KeyLemmas.{key_of-other}
 use Rattle.number_tables.specs.Entries.{value_at}
@@ -16,26 +18,17 @@ use Rattle.vpc_model.specs.Accepted.{IsAccepted}
 use Rattle.vpc_model.specs.Internet.{owned_by, pairs_of, private_of}
 use Rattle.vpc_model.specs.Lookup.{is_in_vpc, vpc_no, vpc_of_interface}
 use Rattle.vpc_model.specs.Sound.{is_vpc}
-use Rattle.vpc_laws.proofs.Members.{Contains-cases, Contains-none, find-member, flat_map-member}
 use Rattle.vpc_laws.proofs.Numbering.{ids_are_found}
 use Rattle.edge_gateways.specs.declared.pairs.Owner.{Owner}
 use Rattle.edge_gateways.specs.declared.pairs.Pair.{Pair}
 use Rattle.edge_gateways.specs.Pairs.{HasPairsOf, all_pairs, in_vpc, owner_entry, pairs_with, public_entry}
-use Rattle.edge_gateways.proofs.Numbers.{all_members, ids_agree, vpc_described}
+use Rattle.reference_check.proofs.VpcIds.{ids_agree, vpc_described}
 
 -- ---- searches
 
 find-map : {X Y : Type 0} (p : Y → Bool) (f : X → Y) (xs : List X) → find p (map f xs) ≡ option_map f (find (λ x. p (f x)) xs)
 find-map p f [] = refl
 find-map p f (x ∷ xs) = elim (cases_Bool (p (f x))) [ inl passes ↦ rw passes refl | inr fails ↦ rw fails (find-map p f xs) ]
-
-option_map-map : {X Y Z : Type 0} (g : Y → Z) (f : X → Y) (o : Option X) → option_map g (option_map f o) ≡ option_map (λ x. g (f x)) o
-option_map-map g f None = refl
-option_map-map g f (Some x) = refl
-
-option_map-or : {X Y : Type 0} (f : X → Y) (a b : Option X) → option_map f (option_or a b) ≡ option_or (option_map f a) (option_map f b)
-option_map-or f None b = refl
-option_map-or f (Some x) b = refl
 
 all-left : {X : Type 0} (P : X → Type 0) (xs ys : List X) → AllByRecursion P (xs ++ ys) → AllByRecursion P xs
 all-left P [] ys all = tt

@@ -1,15 +1,15 @@
 -- The standing cuts of a description, and its edges.
-use Rattle.std.proofs.Common.{◌≡◌, ◌∙◌, ◌+◌, ◌==◌, ◌∷◌, [], ℕ, Bool, Contains, List, None, Option, Some, ap, arith, cond, find, is_some, map, not, option_map, refl, subst, suc, sym, true, false, zero}
+use Rattle.std.proofs.Common.{◌≡◌, ◌∙◌, ◌+◌, ◌==◌, ◌∷◌, [], ℕ, Bool, Contains, List, None, Option, Some, ap, arith, cond, find, is_some, not, option_map, refl, subst, suc, sym, true, false, zero}
 use Rattle.std.specs.List.{flat_map}
 use Rattle.std.specs.Prelude.{filter}
 use Rattle.std.proofs.lemmas.Bool.{eqb-true}
 use Rattle.std.proofs.lemmas.List.Elements.{Contains-append_left, Contains-append_right}
 use Rattle.vpc_base.specs.Cuts.{CutLists}
+use Rattle.vpc_base.proofs.Members.{filter-member, filter_map-member, find-member, flat_map-member, map-member, row-member}
 use Rattle.cut_laws.proofs.Among.{among_through, on_sides_among}
 use Rattle.cut_laws.proofs.Rows.{interfaces_are_standing, vpcs_are_standing}
 use Rattle.cut_laws.specs.Dividing.{Divide, DivideTurns}
-use Rattle.vpc_laws.proofs.Members.{Contains-here, Contains-later, filter-member, filter_map-member, find-member, flat_map-member}
-use Rattle.vpc_laws.proofs.Numbering.{ids_are_found, row-member}
+use Rattle.vpc_laws.proofs.Numbering.{ids_are_found}
 use Rattle.vpc_model.specs.Cuts.{address_cuts, cuts_of_blocks, cuts_of_interface, cuts_of_vpc, on_sides, pair_cuts, standing_cuts}
 use Rattle.vpc_model.specs.Internet.{owned_by, owner_of, pair_of, pairs_in, pairs_of, public_of}
 use Rattle.vpc_model.specs.Lookup.{is_in_vpc, vpc_at, vpc_no, vpc_of_interface}
@@ -31,11 +31,6 @@ use Rattle.cut_laws.proofs.Turning.{blocks-divide}
 value-of : {X Y : Type 0} (f : X → Y) (o : Option X) → is_some (option_map f o) ≡ true → (x : X) × (o ≡ Some x)
 value-of f None e = absurd (cc)
 value-of f (Some x) e = (x, refl)
-
-map-member : {X Y : Type 0} (f : X → Y) (xs : List X) (y : Y) → Contains (map f xs) y → (x : X) × Contains xs x × (f x ≡ y)
-map-member f [] y (k, below, e) = absurd (omega arith)
-map-member f (x ∷ xs) y (zero, below, e) = (x, Contains-here x xs, e)
-map-member f (x ∷ xs) y (suc k, below, e) = let rest = map-member f xs y (k, omega arith, e) in (rest.0, Contains-later x xs rest.0 rest.1, rest.2)
 
 abbrev value-or : {X : Type 0} → X → Option X → X
 value-or d None = d

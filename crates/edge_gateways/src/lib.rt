@@ -10,7 +10,6 @@ mod maps;
 mod pairs;
 mod peerings;
 mod sides;
-mod vpcs;
 
 pub use internet::{unroutable, unroutable_on};
 pub use laws::{owners_are_cut_out, publics_are_cut_out, sides_are_divided};

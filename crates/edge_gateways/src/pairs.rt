@@ -4,7 +4,6 @@ ghost use Rattle.vpc_model.specs.Internet.{pair_of};
 ghost use Rattle.std.specs.List.{filter_map};
 ghost use Rattle.edge_gateways.specs.Pairs.{all_pairs, in_vpc, pair_in};
 
-use crate::vpcs::vpc_of;
 use reference_check::Network;
 use std::alloc::{AllocError, Global};
 use vpc_model::VpcNo;
@@ -69,7 +68,7 @@ pub fn pairs_of(alloc: Global, n: &Network) -> Result<Vec<Pair>, AllocError>
 {
     let mut pairs = Vec::new(alloc);
     for interface in n.description().interfaces.as_slice() {
-        let vpc = vpc_of(n, interface);
+        let vpc = n.vpc_of_interface(interface);
         add_pairs(&mut pairs, vpc, interface.addresses.as_slice())?;
     }
     Ok(pairs)

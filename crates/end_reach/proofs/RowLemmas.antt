@@ -1,7 +1,6 @@
 -- The rows of one start: the ends that they reach are described.
 use Rattle.std.proofs.Common.{◌≡◌, [], All, Bool, IfSome, List, None, Option, Some, cond, false, get_or, subst, sym, true, ℕ}
 use Rattle.box_gather.specs.Over.{AreRowsOver, IsGatheredOver, IsPartOf}
-use Rattle.box_walk.proofs.Telling.{start-sound}
 use Rattle.box_walk.specs.Journeys.{journey_after, journey_by, reached_end, reached_of}
 use Rattle.box_walk.specs.Open.{Starting}
 use Rattle.box_walk.specs.Asking.{Asking}
@@ -13,7 +12,7 @@ use Rattle.ordered_cover.specs.declared.rows.Gathered.{Gathered}
 use Rattle.vpc_base.specs.Header.{reply_of}
 use Rattle.vpc_base.specs.declared.headers.Header.{Header}
 use Rattle.vpc_base.specs.declared.headers.Label.TheVariants as labels
-use Rattle.vpc_laws.proofs.Telling.{walks_are_sound}
+use Rattle.vpc_laws.proofs.Telling.{start-sound, walks_are_sound}
 use Rattle.vpc_laws.specs.Sound.{EndsWell}
 use Rattle.vpc_laws.specs.Types.{Description, End, Outcome, Verdict}
 use Rattle.vpc_model.specs.Accepted.{IsAccepted}

@@ -1,29 +1,12 @@
 -- Where requests start: described ends.
-use Rattle.std.proofs.Common.{◌≡◌, ◌∙◌, ◌<◌, ◌+◌, ◌++◌, ◌∷◌, [], All, Bool, List, Option, ap, append_assoc, arith, cond, false, filter, get_or, length, map, refl, subst, sym, take, true, ℕ}
-use Rattle.std.proofs.lemmas.Bool.{lt-ltb}
+use Rattle.std.proofs.Common.{◌≡◌, ◌∙◌, ◌<◌, ◌+◌, ◌++◌, ◌∷◌, [], All, Bool, List, Option, ap, append_assoc, cond, false, filter, get_or, length, map, refl, subst, sym, take, true, ℕ}
 use Rattle.std.proofs.lemmas.List.Elements.{All-append, All-cons, All-filter, All-map, All-nil, filter_more}
 use Rattle.std.proofs.lemmas.List.{map-append}
-use Rattle.std.proofs.lemmas.List.FromFn.{get_or-map-range_with_len, length-map-range_with_len}
-use Rattle.std.proofs.lemmas.List.Sorted.{All-permutation}
-use Rattle.std.specs.List.{range_with_len}
 use Rattle.vpc_laws.specs.Types.{Description, End, EniNo}
-use Rattle.vpc_model.specs.Lookup.{interface_at}
 use Rattle.vpc_model.specs.Sound.{is_end, is_eni}
 use Rattle.vpc_model.specs.declared.places.End.TheVariants as ends
-use Rattle.described_hosts.specs.Hosts.{AreHostsById, hosts_of, is_host, numbered}
+use Rattle.described_hosts.proofs.HostLemmas.{hosts_are_described}
 use Rattle.end_reach.specs.Asked.{AreAllStarts, is_goal, is_start, starts_among}
-
-numbers_are_described : (d : Description) → All (λ i. is_eni d i ≡ true) (map numbered (range_with_len 0 (length d.interfaces)))
-numbers_are_described d k x below =
-    let n = length d.interfaces in
-    let long = length-map-range_with_len numbered 0 n in
-    let within : k < n = omega (arith, long, below) in
-    subst (λ (i : EniNo). is_eni d i ≡ true) (sym (get_or-map-range_with_len numbered 0 n k k x within (omega arith))) (lt-ltb k n within)
-
-hosts_are_described : (d : Description) (hosts : List EniNo) → AreHostsById d hosts → All (λ i. is_eni d i ≡ true) hosts
-hosts_are_described d hosts by_id =
-    All-permutation (λ i. is_eni d i ≡ true) (hosts_of d) hosts by_id.all
-    (All-filter (λ (i : EniNo). is_host (interface_at d i)) (λ i. is_eni d i ≡ true) (map numbered (range_with_len 0 (length d.interfaces))) (numbers_are_described d))
 
 first_start : (d : Description) (b : Bool) → All (λ e. is_end d e ≡ true) (cond b [] (ends.Internet ∷ []))
 first_start d true = All-nil (λ e. is_end d e ≡ true)

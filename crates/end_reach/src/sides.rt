@@ -5,7 +5,7 @@ ghost use Rattle.listing_text.specs.Sides.{AreEachAlone, alone, sides_between};
 ghost use Rattle.query_words.specs.Pairs.{IsSide};
 ghost use Rattle.query_words.specs.ReachQuery.{AreReachPairs};
 ghost use Rattle.vpc_model.specs.Lookup.{interface_at};
-ghost use Rattle.vpc_model.specs.Sound.{is_end, is_eni};
+ghost use Rattle.vpc_model.specs.Sound.{is_end};
 ghost use Rattle.end_reach.specs.Asked.{AreTargets, boxes_at, own_addresses, own_sources, sources_of};
 
 use header_boxes::Box5;
@@ -14,16 +14,9 @@ use query_words::{ReachPairs, ReachQuery};
 use reference_check::Network;
 use std::alloc::Global;
 use vpc_base::NoMemory;
-use vpc_model::{End, EniNo, Interface};
+use vpc_model::{End, Interface};
 
 // ---- sources
-
-fn interface_at(n: &Network, eni: EniNo) -> &Interface
-    requires { IsTrue (is_eni n.now eni) }
-    ensures { result.now ≡ interface_at n.now eni }
-{
-    &n.description().interfaces.as_slice()[eni.0 as usize]
-}
 
 fn alone(address: Option<u32>) -> Option<(u32, u32)>
     ensures value { result ≡ option_map alone address }
@@ -41,7 +34,7 @@ fn own_sources(n: &Network, start: End) -> Option<(u32, u32)>
     ensures some { IfSome result IsSide }
 {
     match start {
-        End::Interface(eni) => alone(interface_at(n, eni).primary),
+        End::Interface(eni) => alone(n.interface_at(eni).primary),
         End::Internet => Some(ALL),
     }
 }
@@ -81,7 +74,7 @@ pub fn targets_of(
 {
     match (given, goal) {
         (Some(side), _) => only(alloc, side),
-        (None, Some(End::Interface(eni))) => own_targets(alloc, interface_at(n, eni)),
+        (None, Some(End::Interface(eni))) => own_targets(alloc, n.interface_at(eni)),
         (None, _) => only(alloc, ALL),
     }
 }

@@ -1,11 +1,12 @@
 -- Interfaces by their VPCs and private addresses.
-use Rattle.std.proofs.Common.{◌≡◌, ◌∙◌, ◌++◌, ◌+◌, ◌<◌, ◌==◌, ◌&&◌, ◌||◌, ◌∷◌, ◌^◌, [], ℕ, All, Bool, List, Option, Some, ap, append_assoc, arith, cond, drop, false, find, get_or, length, map, option_map, refl, subst, sym, take, true}
+use Rattle.std.proofs.Common.{◌≡◌, ◌∙◌, ◌++◌, ◌+◌, ◌<◌, ◌==◌, ◌&&◌, ◌||◌, ◌∷◌, ◌^◌, [], ℕ, All, Bool, List, Option, Some, ap, append_assoc, arith, cond, drop, false, find, get_or, length, map, option_map, refl, sym, take, true}
 use Rattle.std.specs.List.{AllByRecursion, list_any, position_from}
 use Rattle.std.proofs.lemmas.Iterator.Adapters.{position_from-zero}
 use Rattle.std.proofs.lemmas.Grind.{take_at_read}
 use Rattle.std.proofs.lemmas.List.{drop_more, map-append}
-use Rattle.std.proofs.lemmas.List.Elements.{All-push, recursion_from_All}
-use Rattle.edge_gateways.proofs.Numbers.{all_members, ids_agree, vpc_described}
+use Rattle.std.proofs.lemmas.List.Elements.{recursion_from_All}
+use Rattle.vpc_base.proofs.Members.{all_members}
+use Rattle.reference_check.proofs.VpcIds.{ids_agree, vpc_described}
 use Rattle.number_tables.proofs.KeyLemmas.{key_of-same}
 use Rattle.number_tables.specs.Entries.{value_at}
 use Rattle.number_tables.specs.Keys.{key_of}
@@ -77,11 +78,6 @@ few-interfaces d interfaces k accepted same within =
     omega arith
 
 -- ---- one more address, and one more interface
-
-pub fit_next : {X : Type 0} (P : X → Type 0) (xs : List X) (k : ℕ) (x : X) → k < length xs → x ≡ get_or xs k x → All P (take k xs) → P x → All P (take (k + 1) xs)
-fit_next P xs k x within is all fits =
-    let taken : take (k + 1) xs ≡ take k xs ++ x ∷ [] = (take_at_read xs k x within).1 ∙ ap (λ y. take k xs ++ y ∷ []) (sym is) in
-    subst (All P) (sym taken) (All-push P (take k xs) x all fits)
 
 pub addresses_next : (v : VpcNo) (i : EniNo) (before now next : List (Entry EniNo)) (xs : List (ℕ × Option ℕ)) (k : ℕ) (x : ℕ × Option ℕ) (e : Entry EniNo) → k < length xs → x ≡ get_or xs k x
     → now ≡ before ++ map (host_entry v i) (take k xs) → next ≡ now ++ e ∷ [] → e ≡ host_entry v i x → next ≡ before ++ map (host_entry v i) (take (k + 1) xs)

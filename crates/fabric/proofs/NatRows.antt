@@ -3,12 +3,13 @@ use Rattle.std.proofs.Common.{◌≡◌, ◌∙◌, ◌++◌, ◌+◌, ◌<◌, 
 use Rattle.std.specs.List.{position_from}
 use Rattle.std.proofs.lemmas.Bool.{and_parts, both_ways, cases_Bool, eq-eqb, ne_eqb}
 use Rattle.std.proofs.lemmas.Iterator.Adapters.{position_from-zero}
-use Rattle.vpc_laws.proofs.Members.{Contains-here, Contains-later}
+use Rattle.vpc_base.proofs.Bytes.{bytes_self, same_bytes}
+use Rattle.vpc_base.proofs.Members.{Contains-here, Contains-later}
 use Rattle.number_tables.specs.Entries.{value_at}
 use Rattle.number_tables.specs.declared.tables.Entry.{Entry}
 use Rattle.vpc_laws.proofs.Accepting.{accepted_has_all_named}
 use Rattle.vpc_laws.proofs.Lengths.{accepted_has_short_lists}
-use Rattle.vpc_laws.proofs.Numbering.{accepted_numbers_are_own, bytes_self, ids_are_found, same_bytes}
+use Rattle.vpc_laws.proofs.Numbering.{accepted_numbers_are_own, ids_are_found}
 use Rattle.vpc_laws.specs.Types.{Description, EniNo, NatGateway, NatNo}
 use Rattle.vpc_model.specs.Accepted.{IsAccepted}
 use Rattle.vpc_model.specs.Lookup.{eni_no, has_address, has_interface, interface_at, no_interface}

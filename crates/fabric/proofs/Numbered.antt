@@ -1,9 +1,9 @@
 -- The indexes of tables and ACLs by their numbers.
-use Rattle.std.proofs.Common.{◌≡◌, ◌++◌, ◌+◌, ◌<◌, ◌^◌, ◌∷◌, [], ℕ, List, ap, arith, false, get_or, length, refl, subst, suc, sym, take, true}
+use Rattle.std.proofs.Common.{◌≡◌, ◌++◌, ◌+◌, ◌<◌, ◌^◌, ◌∷◌, [], ℕ, List, ap, arith, false, get_or, length, subst, sym, take, true}
 use Rattle.std.specs.List.{AllZip}
 use Rattle.std.proofs.lemmas.Bool.{ltb-true}
 use Rattle.std.proofs.lemmas.List.{get_or_default}
-use Rattle.edge_gateways.proofs.Zips.{zip_at, zip_more}
+use Rattle.vpc_base.proofs.Zips.{length-zip, zip_at, zip_more}
 use Rattle.network_acls.specs.Tried.{TriedRows}
 use Rattle.piece_table.specs.Pieces.{PieceLists}
 use Rattle.vpc_laws.proofs.Lengths.{accepted_has_short_lists}
@@ -12,13 +12,6 @@ use Rattle.vpc_model.specs.Accepted.{IsAccepted}
 use Rattle.vpc_model.specs.Lookup.{acl_at, table_at}
 use Rattle.vpc_model.specs.Sound.{is_acl, is_table}
 use Rattle.fabric.specs.Indexes.{IsAclIndex, IsRouteIndex}
-
--- two lists whose items belong together are equally long
-pub length-zip : {A B : Type 0} (R : A → B → Type 0) (xs : List A) (ys : List B) → AllZip R xs ys → length xs ≡ length ys
-length-zip R [] [] zip = refl
-length-zip R [] (y ∷ ys) zip = absurd zip
-length-zip R (x ∷ xs) [] zip = absurd zip
-length-zip R (x ∷ xs) (y ∷ ys) zip = ap suc (length-zip R xs ys zip.1)
 
 -- an accepted description has few tables and ACLs
 pub few-tables : (d : Description) (tables : List RouteTable) (k : ℕ) → IsAccepted d → tables ≡ d.tables → k < length tables → k < 2 ^ 32

@@ -1,7 +1,7 @@
 -- What the tables of a network's public addresses say of their owners.
 use Rattle.std.proofs.Common.{◌≡◌, ◌∙◌, ◌==◌, IfSome, None, Option, Some, ap, find, option_map, refl, subst, sym, true, unwrap_or, ℕ}
 use Rattle.std.specs.List.{flat_map}
-use Rattle.edge_gateways.proofs.Numbers.{ids_agree, vpc_described}
+use Rattle.reference_check.proofs.VpcIds.{ids_agree, vpc_described}
 use Rattle.edge_gateways.specs.Edges.{AreEdgesOf, EdgeLists, owner_in}
 use Rattle.vpc_laws.proofs.Sounding.{IfFound, known-accepted, owner-by}
 use Rattle.vpc_laws.specs.Types.{Description, VpcNo}
@@ -23,7 +23,7 @@ private-own d m v w public own are found same =
     let there : private_of d v public ≡ Some own = subst (λ (x : VpcNo). private_of d x public ≡ Some own) number here in
     sym (ap (λ (o : Option ℕ). unwrap_or o public) there)
 
-owner-first : (d : Description) (m : EdgeLists) (public : ℕ) (o : Option (VpcNo × ℕ)) → AreEdgesOf d m → o ≡ owner_in m public → owner_of d public ≡ option_map (λ (x : VpcNo × ℕ). x.0) o
+pub owner-first : (d : Description) (m : EdgeLists) (public : ℕ) (o : Option (VpcNo × ℕ)) → AreEdgesOf d m → o ≡ owner_in m public → owner_of d public ≡ option_map (λ (x : VpcNo × ℕ). x.0) o
 owner-first d m public o are found = let pairs = are.pairs in sym (pairs.owner public) ∙ ap (option_map (λ (x : VpcNo × ℕ). x.0)) (sym found)
 
 -- another one does

@@ -2,10 +2,9 @@
 use Rattle.std.proofs.Common.{◌≡◌, ◌∙◌, ◌++◌, ◌==◌, ◌∷◌, [], ℕ, Contains, List, None, Option, Some, ap, false, find, inl, inr, map, option_map, refl, subst, sym, true}
 use Rattle.std.specs.List.{IsDistinct, AllByRecursion, filter, filter_map, flat_map}
 use Rattle.std.proofs.lemmas.Bool.{eq-eqb, eqb-true, false≢true}
-use Rattle.std.proofs.lemmas.List.Elements.{Contains-append_left, Contains-append_right}
+use Rattle.vpc_base.proofs.Members.{Contains-cases, Contains-flat_map, Contains-map, Contains-none, filter-member, find-member, flat_map-member, member-list_any}
 use Rattle.vpc_laws.proofs.Accepting.{accepted_has_nothing_twice}
 use Rattle.vpc_laws.proofs.Books.{find-none}
-use Rattle.vpc_laws.proofs.Members.{Contains-cases, Contains-here, Contains-later, Contains-none, filter-member, find-member, flat_map-member, member-list_any}
 use Rattle.vpc_laws.specs.Types.{Description, Interface, VpcNo}
 use Rattle.vpc_model.specs.Accepted.{IsAccepted}
 use Rattle.vpc_model.specs.Internet.{owned_by, owner_of, pair_of, pairs_of, private_of}
@@ -52,19 +51,6 @@ publics-owned d (e ∷ es) =
     ∙ ap (λ (l : List ℕ). l ++ map (λ (o : VpcNo × ℕ). o.1) (flat_map (owned_by d) es)) (map-public (vpc_no d (vpc_of_interface d e)) e.addresses)
     ∙ ap (λ (l : List ℕ). filter_map (λ (x : ℕ × Option ℕ). x.1) e.addresses ++ l) (publics-owned d es)
 
-member-map : {X Y : Type 0} (f : X → Y) (xs : List X) (x : X) → Contains xs x → Contains (map f xs) (f x)
-member-map f [] x has = absurd (Contains-none x has)
-member-map f (y ∷ ys) x has =
-    elim (Contains-cases y x ys has) [ inl same ↦ subst (λ z. Contains (f y ∷ map f ys) (f z)) same (Contains-here (f y) (map f ys)) | inr later ↦ Contains-later (f y) (map f ys) (f x) (member-map f ys x later) ]
-
-member-flat_map : {X Y : Type 0} (f : X → List Y) (xs : List X) (x : X) (y : Y) → Contains xs x → Contains (f x) y → Contains (flat_map f xs) y
-member-flat_map f [] x y has at = absurd (Contains-none x has)
-member-flat_map f (z ∷ zs) x y has at =
-    elim (Contains-cases z x zs has) [
-      | inl same ↦ Contains-append_left (f z) (flat_map f zs) y (subst (λ w. Contains (f w) y) (sym same) at)
-      | inr later ↦ Contains-append_right (f z) (flat_map f zs) y (member-flat_map f zs x y later at)
-    ]
-
 -- an interface says of which VPC it is
 abbrev pub Agrees : Description → VpcNo → Type 0
 Agrees d v = (e : Interface) → Contains d.interfaces e → is_in_vpc d v e ≡ ((vpc_no d (vpc_of_interface d e)).0 == v.0)
@@ -78,7 +64,7 @@ owned-if-private d v public p owner accepted agrees found is =
     let e = from.0 in
     let kept = filter-member (is_in_vpc d v) d.interfaces e from.1 in
     let mine : VpcNo × ℕ = (vpc_no d (vpc_of_interface d e), p.1) in
-    let owned : Contains (flat_map (owned_by d) d.interfaces) mine = member-flat_map (owned_by d) d.interfaces e mine kept.1 (member-map (λ (q : ℕ × ℕ). (vpc_no d (vpc_of_interface d e), q.1)) (pairs_of e) p from.2) in
+    let owned : Contains (flat_map (owned_by d) d.interfaces) mine = Contains-flat_map (owned_by d) d.interfaces e mine kept.1 (Contains-map (λ (q : ℕ × ℕ). (vpc_no d (vpc_of_interface d e), q.1)) (pairs_of e) p from.2) in
     let in_v : mine.0.0 ≡ v.0 = eqb-true mine.0.0 v.0 (sym (agrees e kept.1) ∙ kept.0) in
     by owner is mine owned here.0 in_v
   where

@@ -1,9 +1,8 @@
 -- Routes that tables choose, and their targets.
-use Rattle.std.proofs.Common.{◌≡◌, ◌∙◌, ◌<◌, [], Contains, List, None, Option, Some, ap, false, inl, inr, length, slice_index_or, subst, sym, true, ℕ}
-use Rattle.std.specs.List.{slice_get}
+use Rattle.std.proofs.Common.{◌≡◌, ◌∙◌, [], Contains, List, Option, Some, ap, false, length, slice_index_or, subst, sym, true, ℕ}
 use Rattle.std.proofs.lemmas.Bool.{and_from, and_parts, ltb-true, lt-ltb}
 use Rattle.std.proofs.lemmas.List.Elements.{Contains-get_or}
-use Rattle.std.proofs.lemmas.Option.{slice_get_cases}
+use Rattle.std.proofs.lemmas.Option.{slice_get_within}
 use Rattle.vpc_laws.proofs.Accepting.{accepted_has_all_named}
 use Rattle.vpc_laws.proofs.Numbering.{ids_are_found}
 use Rattle.vpc_laws.proofs.Rows.{routes_are_chosen}
@@ -16,19 +15,12 @@ use Rattle.vpc_model.specs.Routes.{chosen_route, is_candidate}
 use Rattle.vpc_model.specs.Sound.{is_eni, is_nat, is_peering, is_route, is_table}
 use Rattle.vpc_model.specs.declared.rows.Target.TheVariants as targets
 
-within : {X : Type 0} (xs : List X) (k : ℕ) (x : X) → slice_get xs k ≡ Some x → k < length xs
-within xs k x there =
-    elim ((slice_get_cases xs k).1) [
-      | inl some ↦ some.1
-      | inr past ↦ let none : None ≡ Some x = sym past.1 ∙ there in absurd cc
-    ]
-
 -- the chosen route is one of the table's
 pub chosen_route-lies : (d : Description) (t : TableNo) (k : ℕ) (a : ℕ) → is_table d t ≡ true → (let table = table_at d t in Some k ≡ chosen_route d table.routes a) → is_route d t k ≡ true
 chosen_route-lies d t k a lies is =
     let table = table_at d t in
     let choice = subst (λ (o : Option ℕ). Chooses (is_candidate d table.routes a) (RouteYields d a) table.routes o) (sym is) (routes_are_chosen d table.routes a) in
-    and_from (is_table d t) _ lies (lt-ltb k (length table.routes) (within table.routes k choice.0 choice.1))
+    and_from (is_table d t) _ lies (lt-ltb k (length table.routes) (slice_get_within table.routes k choice.0 choice.1))
 
 -- a route that isn't gone leads to what is there
 pub has_target : (d n : Description) (t : TableNo) (k : ℕ) (rows : List Route) (route : Route) → n ≡ d → IsAccepted n → is_route d t k ≡ true

@@ -1,5 +1,5 @@
 -- What the indexes of a network's tables and ACLs are.
-use Rattle.std.specs.Prelude.{List}
+use Rattle.std.specs.Prelude.{◌≡◌, List}
 use Rattle.std.specs.List.{AllZip}
 use Rattle.cut_laws.specs.Dividing.{DivideFirsts}
 use Rattle.edge_gateways.specs.Edges.{AreEdgesOf, EdgeLists}
@@ -11,9 +11,10 @@ use Rattle.security_groups.specs.Dividing.{HasRuleCuts}
 use Rattle.security_groups.specs.Index.{GroupLists, HasRulesOf}
 use Rattle.transit_gateway.specs.Index.{IsTransitOf}
 use Rattle.transit_gateway.specs.Lists.{TransitLists}
-use Rattle.vpc_laws.specs.Types.{Acl, Description, EniNo, NatNo, RouteTable}
+use Rattle.vpc_laws.specs.Types.{Acl, Description, EniNo, NatNo, RouteTable, SubnetNo, VpcNo}
 use Rattle.fabric.specs.Hosts.{AreHosts}
 use Rattle.fabric.specs.Nats.{AreNats}
+use Rattle.fabric.specs.Sites.{subnets_in, vpcs_in}
 use Rattle.vpc_model.specs.Cuts.{cuts_of_table}
 
 -- the pieces of a table: what each address chooses, how many there are, and where they begin
@@ -27,8 +28,8 @@ pub record IsRouteIndex (d : Description) (t : RouteTable) (x : PieceLists) : Ty
 abbrev pub IsAclIndex : Acl → TriedRows → Type 0
 IsAclIndex a x = SortsRows a.rows x
 
--- the indexes of all ACLs, groups and route tables, of the edges, of the transit gateways, NAT gateways by their interfaces, and interfaces by
--- their addresses
+-- the indexes of all ACLs, groups and route tables, of the edges, of the transit gateways, NAT gateways by their interfaces, interfaces by
+-- their addresses, and where interfaces and subnets lie
 pub record IndexLists : Type 0 where
   pub acls : List TriedRows
   pub groups : GroupLists
@@ -37,6 +38,8 @@ pub record IndexLists : Type 0 where
   pub transit : TransitLists
   pub nats : List (Entry NatNo)
   pub hosts : List (Entry EniNo)
+  pub subnets : List SubnetNo
+  pub vpcs : List VpcNo
 
 -- they are those of the description
 pub record AreIndexesOf (d : Description) (x : IndexLists) : Type 0 where
@@ -48,3 +51,5 @@ pub record AreIndexesOf (d : Description) (x : IndexLists) : Type 0 where
   pub transit : IsTransitOf d x.transit
   pub nats : AreNats d x.nats
   pub hosts : AreHosts d x.hosts
+  pub subnets : x.subnets ≡ subnets_in d
+  pub vpcs : x.vpcs ≡ vpcs_in d

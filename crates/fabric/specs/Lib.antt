@@ -1,3 +1,4 @@
 pub mod Indexes
 pub mod Hosts
 pub mod Nats
+pub mod Sites

@@ -1,24 +1,12 @@
 // Interfaces by their VPCs and private addresses.
 ghost use Rattle.std.specs.Prelude.{◌≡◌, ◌++◌, ◌<◌, ◌^◌, All, Contains, IfOk, OnOk, map};
-ghost use Rattle.vpc_model.specs.Lookup.{vpc_no, vpc_of_interface};
 ghost use Rattle.fabric.specs.Hosts.{AreHosts, HasFit, host_entries, host_entry, hosts_from};
 
-use crate::rows::{subnet_named, vpc_named};
 use number_tables::{Entry, NumberTable, key_of};
 use reference_check::Network;
 use std::alloc::{AllocError, Global};
 use vpc_base::NoMemory;
 use vpc_model::{EniNo, Interface, VpcNo};
-
-// The VPC of an interface of the network.
-fn vpc_of(n: &Network, interface: &Interface) -> VpcNo
-    requires { Contains n.now.interfaces interface.now }
-    ensures { result ≡ vpc_no n.now (vpc_of_interface n.now interface.now) }
-{
-    let subnets = n.description().subnets.as_slice();
-    let s = subnet_named(n, &interface.subnet);
-    vpc_named(n, &subnets[s.0 as usize].vpc)
-}
 
 fn entry_of(v: VpcNo, i: EniNo, own: u32) -> Entry<EniNo>
     ensures entry { result ≡ host_entry v i (own, None) }
@@ -59,7 +47,7 @@ fn add(
         (entries.new.items ≡ entries.old.items ++ host_entries n.now number interface.now) }
     ensures fit { OnOk result (HasFit interface.now) }
 {
-    let vpc = vpc_of(n, interface);
+    let vpc = n.vpc_of_interface(interface);
     add_addresses(entries, vpc, EniNo(number), interface.addresses.as_slice())
 }
 

@@ -7,5 +7,6 @@ mod nats;
 mod network;
 mod routes;
 pub mod rows;
+mod sites;
 
 pub use network::Fabric;

@@ -1,23 +1,12 @@
 // NAT gateways by their interfaces.
-ghost use Rattle.std.specs.Prelude.{◌≡◌, ◌++◌, ◌<◌, ◌^◌, Contains, IfOk, IsTrue, OnOk};
-ghost use Rattle.vpc_model.specs.Lookup.{eni_no, has_interface};
+ghost use Rattle.std.specs.Prelude.{◌≡◌, ◌++◌, ◌<◌, ◌^◌, Contains, IfOk, OnOk};
 ghost use Rattle.fabric.specs.Nats.{AreNats, nat_entries, nat_entry};
 
 use number_tables::{Entry, NumberTable};
 use reference_check::Network;
 use std::alloc::{AllocError, Global};
 use vpc_base::NoMemory;
-use vpc_model::{EniNo, Id, NatGateway, NatLife, NatNo};
-
-fn number_of(n: &Network, id: &Id) -> EniNo
-    requires { IsTrue (has_interface n.now id.now) }
-    ensures { result ≡ eni_no n.now id.now }
-{
-    match n.eni(id.bytes()) {
-        Some(e) => e,
-        None => unreachable!(),
-    }
-}
+use vpc_model::{NatGateway, NatLife, NatNo};
 
 // Adds a gateway by its interface, if it is live.
 fn add(
@@ -33,7 +22,7 @@ fn add(
     match &nat.life {
         NatLife::Live { eni, .. } => {
             entries.push(Entry {
-                key: u64::from(number_of(n, eni).0),
+                key: u64::from(n.eni_named(eni).0),
                 value: NatNo(number),
             })?;
             Ok(())

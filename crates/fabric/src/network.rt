@@ -11,6 +11,7 @@ use crate::acls::acl_indexes;
 use crate::hosts::hosts_by_address;
 use crate::nats::nats_by_interface;
 use crate::routes::route_indexes;
+use crate::sites::{subnets_by_interface, vpcs_by_subnet};
 use edge_gateways::EdgeMaps;
 use network_acls::AclIndex;
 use number_tables::NumberTable;
@@ -21,7 +22,7 @@ use std::alloc::Global;
 use std::marker::Model;
 use transit_gateway::TransitIndex;
 use vpc_base::NoMemory;
-use vpc_model::{AclNo, EniNo, NatNo, TableNo};
+use vpc_model::{AclNo, EniNo, NatNo, SubnetNo, TableNo, VpcNo};
 
 // What lets packets pass, and what leads them on.
 struct Indexes {
@@ -32,6 +33,8 @@ struct Indexes {
     transit: TransitIndex,
     nats: NumberTable<NatNo>,
     hosts: NumberTable<EniNo>,
+    subnets: Vec<SubnetNo>,
+    vpcs: Vec<VpcNo>,
 }
 
 impl Drop for Indexes {
@@ -44,6 +47,8 @@ impl Drop for Indexes {
             transit,
             nats,
             hosts,
+            subnets,
+            vpcs,
         } = self;
         drop(acls);
         drop(groups);
@@ -52,6 +57,8 @@ impl Drop for Indexes {
         drop(transit);
         drop(nats);
         drop(hosts);
+        drop(subnets);
+        drop(vpcs);
     }
 }
 
@@ -68,6 +75,8 @@ impl Model for Indexes {
       transit = x.transit;
       nats = x.nats;
       hosts = x.hosts;
+      subnets = x.subnets.items;
+      vpcs = x.vpcs.items;
     } };
 }
 
@@ -81,6 +90,8 @@ fn indexes_of(alloc: Global, n: &Network) -> Result<Indexes, NoMemory>
     let transit = TransitIndex::of(alloc, n)?;
     let nats = nats_by_interface(alloc, n)?;
     let hosts = hosts_by_address(alloc, n)?;
+    let subnets = subnets_by_interface(alloc, n)?;
+    let vpcs = vpcs_by_subnet(alloc, n)?;
     Ok(Indexes {
         acls,
         groups,
@@ -89,6 +100,8 @@ fn indexes_of(alloc: Global, n: &Network) -> Result<Indexes, NoMemory>
         transit,
         nats,
         hosts,
+        subnets,
+        vpcs,
     })
 }
 
@@ -97,6 +110,8 @@ impl Indexes {
     ghost use Rattle.std.specs.Prelude.{◌<◌, length, slice_index_or};
     ghost use Rattle.network_acls.specs.Tried.{TriedRows};
     ghost use Rattle.piece_table.specs.Pieces.{PieceLists};
+    ghost use Rattle.vpc_model.specs.declared.numbers.SubnetNo.{SubnetNo};
+    ghost use Rattle.vpc_model.specs.declared.numbers.VpcNo.{VpcNo};
 
     fn acl(&self, a: AclNo) -> &AclIndex
         requires { a.0 < length self.now.acls }
@@ -141,6 +156,20 @@ impl Indexes {
     {
         &self.hosts
     }
+
+    fn subnet_of(&self, i: EniNo) -> SubnetNo
+        requires { i.0 < length self.now.subnets }
+        ensures { (none : SubnetNo) → result ≡ slice_index_or self.now.subnets i.0 none }
+    {
+        self.subnets[i.0 as usize]
+    }
+
+    fn vpc_of(&self, s: SubnetNo) -> VpcNo
+        requires { s.0 < length self.now.vpcs }
+        ensures { (none : VpcNo) → result ≡ slice_index_or self.now.vpcs s.0 none }
+    {
+        self.vpcs[s.0 as usize]
+    }
 }
 
 /// An accepted network with the indexes of everything that a walk asks. Contracts see its description.
@@ -170,8 +199,8 @@ impl Model for Fabric {
 
 impl Fabric {
     ghost use Rattle.std.specs.Prelude.{IsTrue};
-    ghost use Rattle.vpc_model.specs.Lookup.{acl_at, table_at};
-    ghost use Rattle.vpc_model.specs.Sound.{is_acl, is_eni, is_table};
+    ghost use Rattle.vpc_model.specs.Lookup.{acl_at, subnet_of, table_at, vpc_of_subnet};
+    ghost use Rattle.vpc_model.specs.Sound.{is_acl, is_eni, is_subnet, is_table};
     ghost use Rattle.vpc_model.specs.Step.Crossing.{nat_of};
 
     /// The network with its indexes. It takes time n log n in the rows and in the pairs of a group and an
@@ -246,5 +275,21 @@ impl Fabric {
         ensures { AreHosts self.now result.now }
     {
         self.indexes.hosts()
+    }
+
+    /// The subnet of an interface.
+    pub fn subnet_of(&self, i: EniNo) -> SubnetNo
+        requires { IsTrue (is_eni self.now i) }
+        ensures { result ≡ subnet_of self.now i }
+    {
+        self.indexes.subnet_of(i)
+    }
+
+    /// The VPC of a subnet.
+    pub fn vpc_of(&self, s: SubnetNo) -> VpcNo
+        requires { IsTrue (is_subnet self.now s) }
+        ensures { result ≡ vpc_of_subnet self.now s }
+    {
+        self.indexes.vpc_of(s)
     }
 }

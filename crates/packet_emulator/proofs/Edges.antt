@@ -2,7 +2,7 @@
 use Rattle.std.proofs.Common.{◌≡◌, ◌∙◌, ◌==◌, ◌&&◌, ◌||◌, Bool, IfSome, List, None, Option, Some, ap, bytes_eq, cond, false, find, not, option_map, refl, subst, sym, true, unwrap_or, ℕ}
 use Rattle.std.specs.List.{flat_map}
 use Rattle.std.proofs.lemmas.Bool.{and_parts}
-use Rattle.edge_gateways.proofs.Numbers.{ids_agree, vpc_described}
+use Rattle.reference_check.proofs.VpcIds.{ids_agree, vpc_described}
 use Rattle.edge_gateways.specs.Carry.{carry_if}
 use Rattle.edge_gateways.specs.Edges.{AreEdgesOf, CanCarry, EdgeLists, carry, owner_in}
 use Rattle.edge_gateways.specs.declared.peerings.Carry.{Carry}

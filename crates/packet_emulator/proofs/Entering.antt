@@ -1,16 +1,8 @@
 -- By which attachment and subnet a packet comes into a transit gateway.
-use Rattle.std.proofs.Common.{◌≡◌, ◌∙◌, Err, List, None, Ok, Option, Some, ap, length, refl, subst, sym, true, ℕ}
-use Rattle.std.proofs.lemmas.Bool.{and_parts, ltb-true}
-use Rattle.std.proofs.lemmas.List.Elements.{Contains-get_or}
+use Rattle.std.proofs.Common.{◌≡◌, ◌∙◌, Err, List, None, Ok, Option, Some, ap, refl, sym, ℕ}
 use Rattle.transit_gateway.specs.Index.{enter_by, enter_zone, entered}
 use Rattle.transit_gateway.specs.declared.index.EnterStop.TheVariants as enter_stop
-use Rattle.vpc_laws.proofs.Accepting.{accepted_has_all_named}
-use Rattle.vpc_laws.proofs.Numbering.{no_subnet}
-use Rattle.vpc_laws.proofs.Sounding.{IfFound, attachment-found, is_inner, known-accepted, zone-found}
 use Rattle.vpc_laws.specs.Types.{AttNo, Description, Header, SubnetNo, TableNo}
-use Rattle.vpc_model.specs.Accepted.{IsAccepted}
-use Rattle.vpc_model.specs.Lookup.{attachment_at, has_vpc, subnet_at}
-use Rattle.vpc_model.specs.Sound.{is_attachment, is_subnet}
 use Rattle.vpc_model.specs.Step.Router.{to_transit, to_zone}
 use Rattle.vpc_model.specs.Step.Words.{stop}
 use Rattle.vpc_model.specs.Transit.{attachment_for, zone_subnet}
@@ -50,18 +42,6 @@ some-attachment b (Some u) e = absurd cc
 finds-no-attachment : (o : Option AttNo) (zone : AttNo → Option SubnetNo) → enter_by o zone ≡ Err enter_stop.NoAttachment → o ≡ None
 finds-no-attachment None zone e = refl
 finds-no-attachment (Some b) zone e = some-attachment b (zone b) e
-
--- ---- the subnet is described
-
-pub zone-lies : (d : Description) (gateway : List ℕ) (s : SubnetNo) (a : AttNo) (t : SubnetNo) → IsAccepted d → is_subnet d s ≡ true → entered d gateway s ≡ Ok (a, t) → is_subnet d t ≡ true
-zone-lies d gateway s a t accepted lies told =
-    let found = enters (attachment_for d gateway s) (λ b. zone_subnet d b s) a t told in
-    let row = subnet_at d s in
-    let there = (accepted_has_all_named d accepted).vpc_of_subnet row (Contains-get_or d.subnets s.0 no_subnet (ltb-true s.0 (length d.subnets) lies)) in
-    let inner : is_inner d a ≡ true = subst (λ (o : Option AttNo). IfFound (is_inner d) o) found.0 (attachment-found d gateway s there) in
-    let att = attachment_at d a in
-    let parts = and_parts (is_attachment d a) (has_vpc d att.vpc) inner in
-    subst (λ (o : Option SubnetNo). IfFound (is_subnet d) o) found.1 (zone-found d (known-accepted d accepted) a s parts.0 parts.1)
 
 -- ---- a route to a transit gateway
 

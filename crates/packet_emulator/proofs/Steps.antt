@@ -1,50 +1,24 @@
 -- What some steps leave as it was.
-use Rattle.std.proofs.Common.{◌≡◌, ◌&&◌, ◌||◌, Bool, List, None, Option, Some, cond, false, not, refl, subst, sym, true}
+use Rattle.std.proofs.Common.{◌≡◌, ◌||◌, List, None, Option, Some, cond, refl, subst, sym}
 use Rattle.std.proofs.lemmas.Bool.{cond_both}
 use Rattle.packet_emulator.specs.Moments.{at_place}
 use Rattle.vpc_base.specs.declared.headers.Label.TheVariants as labels
-use Rattle.vpc_laws.specs.Types.{By, Description, EniNo, Header, Label, NatNo, Place}
+use Rattle.vpc_laws.specs.Types.{Description, EniNo, Header, Label, NatNo, Place}
+use Rattle.vpc_laws.proofs.Growth.{step_into-nats, step_out-nats}
 use Rattle.vpc_model.specs.Appliances.{Appliances}
-use Rattle.vpc_model.specs.Connections.{Connection, Passing}
+use Rattle.vpc_model.specs.Connections.{Connection}
 use Rattle.vpc_model.specs.Internet.{is_unroutable, owner_of}
-use Rattle.vpc_model.specs.Lookup.{has_address, interface_at}
 use Rattle.vpc_model.specs.Nat.{Translation, is_full, is_translatable, translation_of}
 use Rattle.vpc_model.specs.Step.{step_of}
-use Rattle.vpc_model.specs.Step.Interface.{in_passing, out_passing, step_into, step_out}
 use Rattle.vpc_model.specs.Step.Internet.{to_owner}
 use Rattle.vpc_model.specs.Step.Nat.{step_nat_out, translate}
-use Rattle.vpc_model.specs.Step.Words.{Moment, Next, Step, plain, stop}
+use Rattle.vpc_model.specs.Step.Words.{Moment, Step, plain, stop}
 use Rattle.vpc_model.specs.declared.outcomes.By.TheVariants as bys
 use Rattle.vpc_model.specs.declared.places.Place.TheVariants as places
 use Rattle.vpc_model.specs.declared.stops.Stop.TheVariants as stops
+use Rattle.vpc_model.proofs.Nexts.{plain-either}
 
 -- ---- interfaces leave translations alone
-
-out_passing-nats : (d : Description) (i : EniNo) (m : Moment) (p : Passing) → (out_passing d i m p).nats ≡ m.nats
-out_passing-nats d i m p = by p.by refl
-  where
-    by : (o : Option By) → p.by ≡ o → (out_passing d i m p).nats ≡ m.nats
-    by None e = rw e refl
-    by (Some b) e = rw e refl
-
-in_passing-nats : (d : Description) (a : Appliances) (i : EniNo) (m : Moment) (p : Passing) → (in_passing d a i m p).nats ≡ m.nats
-in_passing-nats d a i m p = by p.by refl
-  where
-    by : (o : Option By) → p.by ≡ o → (in_passing d a i m p).nats ≡ m.nats
-    by None e = rw e refl
-    by (Some b) e = rw e refl
-
-step_out-nats : (d : Description) (label : Label) (i : EniNo) (m : Moment) → (step_out d label i m).nats ≡ m.nats
-step_out-nats d label i m =
-    let e = interface_at d i in
-    cond_both e.idle _ _ (λ (s : Step). s.nats ≡ m.nats) (λ _. refl)
-    (λ _. cond_both (e.checked && not (has_address e m.header.src)) _ _ (λ (s : Step). s.nats ≡ m.nats) (λ _. refl) (λ _. out_passing-nats d i m _))
-
-step_into-nats : (d : Description) (a : Appliances) (label : Label) (i : EniNo) (m : Moment) → (step_into d a label i m).nats ≡ m.nats
-step_into-nats d a label i m =
-    let e = interface_at d i in
-    cond_both e.idle _ _ (λ (s : Step). s.nats ≡ m.nats) (λ _. refl)
-    (λ _. cond_both (e.checked && not (has_address e m.header.dst)) _ _ (λ (s : Step). s.nats ≡ m.nats) (λ _. refl) (λ _. in_passing-nats d a i m _))
 
 pub nats-out : (d : Description) (a : Appliances) (label : Label) (i : EniNo) (p : Place) (h : Header) (conns : List Connection) (nats : List Translation)
     → p ≡ places.OutOf i → (step_of d a label (at_place p h conns nats)).nats ≡ nats
@@ -57,10 +31,6 @@ nats-into d a label i p h conns nats e =
     subst (λ (x : Place). (step_of d a label (at_place x h conns nats)).nats ≡ nats) (sym e) (step_into-nats d a label i (at_place (places.Into i) h conns nats))
 
 -- ---- the internet remembers nothing
-
-plain-either : (m : Moment) (b : Bool) (x y : Next) → cond b (plain m x) (plain m y) ≡ plain m (cond b x y)
-plain-either m true x y = refl
-plain-either m false x y = refl
 
 pub internet-plain : (d : Description) (a : Appliances) (label : Label) (p : Place) (h : Header) (conns : List Connection) (nats : List Translation)
     → p ≡ places.Internet → step_of d a label (at_place p h conns nats)

@@ -10,7 +10,7 @@ ghost use Rattle.packet_emulator.specs.Moments.{at_place};
 
 use crate::next::Next;
 use fabric::Fabric;
-use fabric::rows::{nat_at, subnet_named};
+use fabric::rows::nat_at;
 use nat_gateway::{NatBook, NatStop};
 use vpc_base::{Header, Label};
 use vpc_model::{Came, NatLife, NatNo, Place, Stop};
@@ -36,10 +36,7 @@ fn from_nat(f: &Fabric, n: NatNo, h: Header) -> Next
     let _ = network.description();
     match &nat_at(f, n).life {
         NatLife::Live { subnet, .. } => {
-            Next::Go(
-                Place::Router(subnet_named(network, subnet), Came::Nat(n)),
-                h,
-            )
+            Next::Go(Place::Router(network.subnet_named(subnet), Came::Nat(n)), h)
         }
         NatLife::Gone => unreachable!(),
         NatLife::Unmodelled => unreachable!(),

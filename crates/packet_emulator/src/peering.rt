@@ -10,7 +10,7 @@ ghost use Rattle.packet_emulator.specs.Comes.{comes};
 use crate::next::Next;
 use edge_gateways::Carry;
 use fabric::Fabric;
-use fabric::rows::{peering_at, vpc_at, vpc_named};
+use fabric::rows::{peering_at, vpc_at};
 use vpc_base::Header;
 use vpc_model::{EnterBy, Id, PeerNo, Place, Stop, VpcNo};
 
@@ -40,7 +40,7 @@ pub fn peer(f: &Fabric, x: PeerNo, v: VpcNo, h: &Header) -> Next
         Carry::BadSource => Next::Stop(Stop::PeerSource(x)),
         Carry::BadDestination => Next::Stop(Stop::PeerDestination(x)),
         Carry::Yes => {
-            let other = vpc_named(n, other_side(vpc_at(f, v).id.bytes(), pair));
+            let other = n.vpc_named(other_side(vpc_at(f, v).id.bytes(), pair));
             Next::Go(Place::Enter(other, EnterBy::Peering(x)), *h)
         }
     }

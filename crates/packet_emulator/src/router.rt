@@ -13,10 +13,7 @@ use crate::crossing::{crossing, deliver, entering, is_gateway, leaving};
 use crate::next::{Next, unless_stopped};
 use crate::peering::other_side;
 use fabric::Fabric;
-use fabric::rows::{
-    eni_named, igw_named, interface_at, nat_at, nat_named, peering_at, peering_named, subnet_named,
-    subnet_of, table_at, vpc_at, vpc_of,
-};
+use fabric::rows::{interface_at, nat_at, peering_at, subnet_of, table_at, vpc_at, vpc_of};
 use transit_gateway::EnterStop;
 use vpc_base::Header;
 use vpc_model::{
@@ -102,7 +99,7 @@ fn to_nat(f: &Fabric, s: SubnetNo, h: &Header, n: NatNo) -> Next
         NatLife::Gone => Next::Stop(Stop::NatNotAvailable(n)),
         NatLife::Unmodelled => Next::Stop(Stop::Unmodelled(Foreign::Nat(n))),
         NatLife::Live { subnet, .. } => {
-            let t = subnet_named(network, subnet);
+            let t = network.subnet_named(subnet);
             unless_stopped(crossing(f, s, t, h), Next::Go(Place::NatOut(n), *h))
         }
     }
@@ -149,11 +146,11 @@ fn to_target(f: &Fabric, s: SubnetNo, h: &Header, t: TableNo, k: u32, target: &T
     let v = vpc_of(f, s);
     match target {
         Target::Local => to_host(f, s, h, n.host(v, h.dst), v),
-        Target::Internet(id) => to_internet(f, s, v, h, igw_named(n, id)),
-        Target::Nat(id) => to_nat(f, s, h, nat_named(n, id)),
-        Target::Peer(id) => to_peer(f, s, v, h, peering_named(n, id)),
+        Target::Internet(id) => to_internet(f, s, v, h, n.igw_named(id)),
+        Target::Nat(id) => to_nat(f, s, h, n.nat_named(id)),
+        Target::Peer(id) => to_peer(f, s, v, h, n.peering_named(id)),
         Target::Transit(id) => to_transit(f, s, h, t, k, id),
-        Target::Interface(id) => to_interface(f, s, h, eni_named(n, id)),
+        Target::Interface(id) => to_interface(f, s, h, n.eni_named(id)),
         Target::Other(_) => Next::Stop(Stop::Unmodelled(Foreign::Target(t, k))),
     }
 }

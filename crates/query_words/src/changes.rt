@@ -7,7 +7,7 @@ ghost use Rattle.query_words.specs.ReachQuery.{AreReachPairs};
 ghost use Rattle.query_words.specs.Refusal.{Answers};
 
 use crate::QueryRefusal;
-use crate::ends::{end_at, interface_at};
+use crate::ends::end_at;
 use crate::pairs::{Taken, has_pair};
 use crate::reaches::{ReachPairs, apart, read_reach_pairs};
 use crate::words::{CommandWords, LineWords, NumberedWords};
@@ -138,7 +138,7 @@ fn primary_in(n: &Network, end: Option<End>) -> Option<u32>
     ensures { result ≡ primary_in n.now end }
 {
     match end {
-        Some(End::Interface(eni)) => interface_at(n, eni).primary,
+        Some(End::Interface(eni)) => n.interface_at(eni).primary,
         _ => None,
     }
 }
@@ -162,11 +162,11 @@ fn without_address(
 {
     match (start.before, start.after) {
         (Some(End::Interface(eni)), _) => {
-            let id = interface_at(before, eni).id.copied(alloc)?;
+            let id = before.interface_at(eni).id.copied(alloc)?;
             Err(QueryRefusal::NoAddress(id))
         }
         (None, Some(End::Interface(eni))) => {
-            let id = interface_at(after, eni).id.copied(alloc)?;
+            let id = after.interface_at(eni).id.copied(alloc)?;
             Err(QueryRefusal::NoAddress(id))
         }
         _ => Ok(()),

@@ -11,20 +11,13 @@ use reference_check::Network;
 use std::alloc::Global;
 use vpc_model::{End, EniNo, Interface, InterfaceKind};
 
-pub(crate) fn interface_at(n: &Network, eni: EniNo) -> &Interface
-    requires { IsTrue (is_eni n.now eni) }
-    ensures { result.now ≡ interface_at n.now eni }
-{
-    &n.description().interfaces.as_slice()[eni.0 as usize]
-}
-
 // An interface as an end, where it belongs to no gateway.
 pub(crate) fn end_at(alloc: Global, n: &Network, eni: EniNo) -> Result<End, QueryRefusal>
     requires { IsTrue (is_eni n.now eni) }
     ensures answer { Answers (end_at n.now eni) result }
     ensures described { IfOk result (λ e. IsTrue (is_end n.now e)) }
 {
-    let row = interface_at(n, eni);
+    let row = n.interface_at(eni);
     match row.kind {
         InterfaceKind::Host => Ok(End::Interface(eni)),
         InterfaceKind::Gateway => Err(QueryRefusal::NotAnEnd(row.id.copied(alloc)?)),

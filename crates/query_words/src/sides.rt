@@ -8,7 +8,7 @@ ghost use Rattle.query_words.specs.Refusal.{Answers};
 ghost use Rattle.query_words.specs.Sides.{dst_of, own_goal, own_side, primary_side, sides_of, src_of};
 
 use crate::QueryRefusal;
-use crate::ends::{Ends, interface_at};
+use crate::ends::Ends;
 use crate::pairs::Pairs;
 use header_boxes::Box5;
 use reference_check::Network;
@@ -32,7 +32,7 @@ fn own_side(alloc: Global, n: &Network, end: End) -> Result<(u32, u32), QueryRef
     ensures some { IfOk result IsSide }
 {
     match end {
-        End::Interface(eni) => primary_side(alloc, interface_at(n, eni)),
+        End::Interface(eni) => primary_side(alloc, n.interface_at(eni)),
         End::Internet => Ok((0, u32::MAX)),
     }
 }

@@ -1,5 +1,6 @@
 -- What is wrong with a description, all of it and part by part; and what is known where nothing is.
 use Rattle.std.proofs.Common.{◌++◌, ◌<◌, ◌^◌, ◌≡◌, ◌≤◌, ◌∙◌, [], List, append_assoc, arith, length, subst, sym, ℕ}
+use Rattle.vpc_base.proofs.Members.{nothing-append}
 use Rattle.vpc_model.specs.Accepted.{IsAccepted, first_cause, duplicate_addresses, duplicate_ids, duplicate_publics, missing_references, refusals_of, too_many_rows, two_acls, two_gateways, two_tables, without_acl, without_table}
 use Rattle.vpc_model.specs.declared.refusals.Refusal.{Refusal}
 use Rattle.vpc_model.specs.declared.rows.Description.{Description}
@@ -19,12 +20,9 @@ causes_of_parts d =
     ten (duplicate_ids d) (missing_references d) (duplicate_addresses d) (duplicate_publics d) (without_table d) (without_acl d)
     (two_gateways d) (two_tables d) (two_acls d) (too_many_rows d)
 
-both-nil : {X : Type 0} (xs ys : List X) → xs ≡ [] → ys ≡ [] → xs ++ ys ≡ []
-both-nil xs ys e f = rw (e, f)
-
 -- nothing is wrong where nothing is wrong with the ids and the rows
 pub no_causes : (d : Description) → duplicate_ids d ≡ [] → causes_of_rows d ≡ [] → refusals_of d ≡ []
-no_causes d e f = sym (causes_of_parts d) ∙ both-nil (duplicate_ids d) (causes_of_rows d) e f
+no_causes d e f = sym (causes_of_parts d) ∙ nothing-append (duplicate_ids d) (causes_of_rows d) e f
 
 -- the first cause of the rows is the first of all, where the ids differ
 pub told_of_rows : (e d : Description) (cause : Refusal) → e ≡ d → duplicate_ids d ≡ [] → IsTold (first_cause (causes_of_rows e)) cause → IsTold (first_cause (refusals_of d)) cause

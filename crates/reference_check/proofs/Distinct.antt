@@ -1,8 +1,9 @@
 -- Ids of which none stands twice.
-use Rattle.std.proofs.Common.{◌++◌, ◌≡◌, ◌∙◌, ◌∷◌, [], ◌||◌, Bool, List, ap, bytes_eq, cond, false, map, refl, true, ℕ}
+use Rattle.std.proofs.Common.{◌++◌, ◌≡◌, ◌∙◌, ◌∷◌, [], ◌||◌, Bool, List, ap, bytes_eq, cond, false, refl, true, ℕ}
 use Rattle.std.specs.List.{list_any}
 use Rattle.std.proofs.lemmas.List.Folds.{list_any-append}
 use Rattle.std.proofs.lemmas.Slice.Eq.{bytes_eq-Decides}
+use Rattle.vpc_base.proofs.Members.{map-nothing}
 use Rattle.vpc_model.specs.declared.refusals.Refusal.TheVariants as refusals
 use Rattle.vpc_model.specs.Accepted.{duplicates_in, repeats, repeats_after}
 
@@ -10,10 +11,6 @@ use Rattle.vpc_model.specs.Accepted.{duplicates_in, repeats, repeats_after}
 abbrev pub AreDistinct : List (List ℕ) → Type 0
 AreDistinct [] = Unit {0}
 AreDistinct (t ∷ ts) = (list_any (λ u. bytes_eq u t) ts ≡ false) × AreDistinct ts
-
-pub map-nil : {X Y : Type 0} (f : X → Y) (xs : List X) → map f xs ≡ [] → xs ≡ []
-map-nil f [] e = refl
-map-nil f (x ∷ xs) e = absurd (cc)
 
 -- the first doesn't repeat, and nor do the others
 repeats_after-cons : (same : List ℕ → List ℕ → Bool) (earlier : List (List ℕ)) (x : List ℕ) (xs : List (List ℕ)) → repeats_after same earlier (x ∷ xs) ≡ [] → (list_any (same x) earlier ≡ false) × (repeats_after same (earlier ++ x ∷ []) xs ≡ [])
@@ -48,4 +45,4 @@ distinct_after earlier (x ∷ xs) e =
     last false b e = rw e
 
 pub distinct : (ids : List (List ℕ)) → duplicates_in ids ≡ [] → AreDistinct ids
-distinct ids e = distinct_after [] ids (map-nil refusals.DuplicateId (repeats bytes_eq ids) e)
+distinct ids e = distinct_after [] ids (map-nothing refusals.DuplicateId (repeats bytes_eq ids) e)

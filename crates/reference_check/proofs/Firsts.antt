@@ -5,6 +5,7 @@ use Rattle.std.proofs.lemmas.Bool.Decides.{nat_tests}
 use Rattle.std.proofs.lemmas.List.{get_or-map, length-map}
 use Rattle.std.proofs.lemmas.List.Sums.{passes_at_first}
 use Rattle.std.proofs.lemmas.Slice.Eq.{bytes_eq-Decides}
+use Rattle.vpc_base.proofs.Positions.{list_any-position, missing_number, position-le, position_map}
 use Rattle.vpc_model.specs.Accepted.{first_cause, holds_twice}
 use Rattle.vpc_model.specs.Choice.{or_else}
 use Rattle.vpc_model.specs.declared.refusals.Refusal.{Refusal}
@@ -12,8 +13,8 @@ use Rattle.reference_check.specs.Attached.{is_twice, is_unclaimed}
 use Rattle.reference_check.specs.declared.claims.Claim.{Claim}
 use Rattle.reference_check.specs.declared.claims.Claim.TheVariants as claim
 use Rattle.reference_check.specs.Claims.{claim_by, claims_by, first_of}
-use Rattle.reference_check.proofs.Maps.{found_number, list_any-position, missing_number, position_map}
-use Rattle.reference_check.proofs.Marks.{claim_by-is, found-counted, position-le}
+use Rattle.reference_check.proofs.Maps.{found_number}
+use Rattle.reference_check.proofs.Marks.{claim_by-is, found-counted}
 
 filter-nil : {X : Type 0} (q : X → Bool) (xs : List X) → list_any q xs ≡ false → filter q xs ≡ []
 filter-nil q [] e = refl

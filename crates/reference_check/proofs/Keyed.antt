@@ -6,12 +6,12 @@ use Rattle.std.proofs.lemmas.Grind.{take_at_read}
 use Rattle.std.proofs.lemmas.List.{drop_more, map-append}
 use Rattle.std.proofs.lemmas.List.Sums.{passes_at_first}
 use Rattle.std.proofs.lemmas.Slice.Eq.{bytes_eq-Decides}
+use Rattle.vpc_base.proofs.Positions.{list_any-position}
 use Rattle.vpc_model.specs.Accepted.{first_cause, repeats_after, same_address}
 use Rattle.vpc_model.specs.Lookup.{has_vpc}
 use Rattle.vpc_model.specs.declared.rows.Description.{Description}
 use Rattle.vpc_model.specs.declared.rows.Vpc.{Vpc}
 use Rattle.reference_check.specs.Keys.{AreKeys, AreKnown, addresses_in, key_of, twice}
-use Rattle.reference_check.proofs.Maps.{list_any-position}
 
 -- ids that are found at one number are one id
 same_id : (vpcs : List Vpc) (a b : List ℕ) → list_any (λ v. bytes_eq v.id a) vpcs ≡ true → list_any (λ v. bytes_eq v.id b) vpcs ≡ true → position_or_len (λ v. bytes_eq v.id a) vpcs ≡ position_or_len (λ v. bytes_eq v.id b) vpcs → a ≡ b

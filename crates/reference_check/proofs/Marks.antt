@@ -4,8 +4,10 @@ use Rattle.std.specs.List.{count_by, list_any, position_or_len}
 use Rattle.std.proofs.lemmas.Bool.Decides.{nat_tests}
 use Rattle.std.proofs.lemmas.Grind.{common_steps, take_at_read}
 use Rattle.std.proofs.lemmas.List.Folds.{list_any-append, position_or_len_push}
-use Rattle.std.proofs.lemmas.List.Sums.{prefix_len-le-length, sum_by-cons, sum_by_push}
+use Rattle.std.proofs.lemmas.List.Sums.{sum_by-cons, sum_by_push}
 use Rattle.std.proofs.lemmas.Slice.Eq.{bytes_eq-Decides}
+use Rattle.vpc_base.proofs.Bytes.{bytes_eq-comm}
+use Rattle.vpc_base.proofs.Positions.{list_any-position, position-le}
 use Rattle.vpc_model.specs.Accepted.{is_main_of}
 use Rattle.vpc_model.specs.declared.rows.RouteTable.{RouteTable}
 use Rattle.reference_check.specs.declared.claims.Claim.{Claim}
@@ -13,7 +15,6 @@ use Rattle.reference_check.specs.declared.claims.Claim.TheVariants as claim
 use Rattle.reference_check.specs.Claims.{claim_by, claims_by, noted, noted_all, noted_at}
 use Rattle.vpc_model.specs.Lookup.{is_listed}
 use Rattle.reference_check.proofs.Distinct.{AreDistinct}
-use Rattle.reference_check.proofs.Maps.{bytes_eq_swap, list_any-position}
 
 -- something passes exactly where what passes counts
 pub found-counted : {X : Type 0} (p : X → Bool) (xs : List X) → nat_lt (position_or_len p xs) (length xs) ≡ nat_lt 0 (count_by p xs)
@@ -39,9 +40,6 @@ claim_by-is p xs = by (nat_lt (position_or_len p xs) (length xs)) (nat_le 2 (cou
 claim_of-next : (b : Bool) (first rows naming : ℕ) → first ≤ rows → nat_lt first rows ≡ nat_lt 0 naming → claim_of (cond (first == rows) (rows + cond b 0 1) first) (rows + 1) (naming + cond b 1 0) ≡ cond b (noted rows (claim_of first rows naming)) (claim_of first rows naming)
 claim_of-next true first rows naming le same = grind (arith, nat_tests)
 claim_of-next false first rows naming le same = grind (arith, nat_tests)
-
-pub position-le : {X : Type 0} (p : X → Bool) (xs : List X) → position_or_len p xs ≤ length xs
-position-le p xs = prefix_len-le-length (λ x. not (p x)) xs
 
 -- a claim once one more row was seen
 pub claim_by-push : {X : Type 0} (p : X → Bool) (xs : List X) (x : X) → claim_by p (xs ++ x ∷ []) ≡ cond (p x) (noted (length xs) (claim_by p xs)) (claim_by p xs)
@@ -98,7 +96,7 @@ noted-noted row (claim.Once r) = by (r == row) refl
 noted-noted row (claim.Twice r) = refl
 
 noted_once : (row : ℕ) (id t : List ℕ) (listed : Bool) (c : Claim) → cond (bytes_eq t id) (noted row (cond listed (noted row c) c)) (cond listed (noted row c) c) ≡ cond (listed || (bytes_eq id t || false)) (noted row c) c
-noted_once row id t listed c = rw (bytes_eq_swap id t) (by (bytes_eq t id) listed)
+noted_once row id t listed c = rw (bytes_eq-comm id t) (by (bytes_eq t id) listed)
   where
     by : (b listed : Bool) → cond b (noted row (cond listed (noted row c) c)) (cond listed (noted row c) c) ≡ cond (listed || (b || false)) (noted row c) c
     by true true = noted-noted row c
@@ -131,7 +129,7 @@ claims_by-take {X = X} names targets rows r row within is =
 -- a main table's VPC
 pub noted_main : (targets : List (List ℕ)) (row : ℕ) (table : RouteTable) (f : List ℕ → Claim) → AreDistinct targets → table.main ≡ true → noted_at targets row table.vpc (map f targets) ≡ map (λ t. cond (is_main_of t table) (noted row (f t)) (f t)) targets
 noted_main targets row table f differ main =
-    let each : (t : List ℕ) → cond (bytes_eq t table.vpc) (noted row (f t)) (f t) ≡ cond (is_main_of t table) (noted row (f t)) (f t) = λ t. rw (main, bytes_eq_swap t table.vpc) in
+    let each : (t : List ℕ) → cond (bytes_eq t table.vpc) (noted row (f t)) (f t) ≡ cond (is_main_of t table) (noted row (f t)) (f t) = λ t. rw (main, bytes_eq-comm t table.vpc) in
     noted_at-map targets row table.vpc f differ ∙ ap (λ (h : List ℕ → Claim). map h targets) (λ i t. each t i)
 
 pub noted_no_main : (targets : List (List ℕ)) (row : ℕ) (table : RouteTable) (f : List ℕ → Claim) → table.main ≡ false → map f targets ≡ map (λ t. cond (is_main_of t table) (noted row (f t)) (f t)) targets

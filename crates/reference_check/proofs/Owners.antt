@@ -5,6 +5,9 @@ use Rattle.std.proofs.lemmas.Bool.Decides.{nat_tests}
 use Rattle.std.proofs.lemmas.List.{drop_more, get_or-append-add, get_or-map, get_or-replicate, get_or_append_left, length-append, length-map, length-replicate}
 use Rattle.std.proofs.lemmas.List.Folds.{list_any-append, list_any_at}
 use Rattle.std.proofs.lemmas.Slice.Eq.{bytes_eq-Decides}
+use Rattle.vpc_base.proofs.Bytes.{bytes_eq-comm}
+use Rattle.vpc_base.proofs.Positions.{list_any-position, missing_number, position-nowhere, position-there}
+use Rattle.vpc_base.proofs.Tests.{list_any_map}
 use Rattle.vpc_model.specs.Accepted.{duplicate_ids, private_addresses, same_address}
 use Rattle.vpc_model.specs.Lookup.{has_address, has_vpc, is_in_vpc, vpc_at, vpc_of_interface}
 use Rattle.vpc_model.specs.declared.numbers.VpcNo.{VpcNo}
@@ -16,7 +19,7 @@ use Rattle.reference_check.specs.Keys.{AreKeys, AreKnown, addresses_of, key_of}
 use Rattle.reference_check.proofs.Described.{vpcs-differ}
 use Rattle.reference_check.proofs.Distinct.{AreDistinct, distinct}
 use Rattle.reference_check.proofs.Keyed.{same_key}
-use Rattle.reference_check.proofs.Maps.{bytes_eq_swap, found_number, list_any-position, list_any_map, missing_number}
+use Rattle.reference_check.proofs.Maps.{found_number}
 
 -- the first that passes in two lists
 position-append : {X : Type 0} (q : X → Bool) (xs ys : List X) → position_or_len q (xs ++ ys) ≡ cond (list_any q xs) (position_or_len q xs) (length xs + position_or_len q ys)
@@ -109,14 +112,8 @@ number-of (v ∷ vs) (suc k) d differ within =
     let inner : k < length vs = omega arith in
     let other = differ-at (map (λ w. w.id) vs) v.id k d.id differ.0 (rw (length-map vs (λ w. w.id)) inner) in
     let row = get_or-map (λ w. w.id) vs k d d.id inner in
-    let apart : bytes_eq v.id (get_or vs k d).id ≡ false = bytes_eq_swap v.id (get_or vs k d).id ∙ ap (λ i. bytes_eq i v.id) (sym row) ∙ other in
+    let apart : bytes_eq v.id (get_or vs k d).id ≡ false = bytes_eq-comm v.id (get_or vs k d).id ∙ ap (λ i. bytes_eq i v.id) (sym row) ∙ other in
     rw apart (ap (λ n. 1 + n) (number-of vs k d differ.1 inner) ∙ omega arith)
-
-position-some : {X : Type 0} (p : X → Bool) (xs : List X) → list_any p xs ≡ true → position p xs ≡ Some (position_or_len p xs)
-position-some p xs h = ap (λ b. cond b (Some (position_or_len p xs)) None) (sym (list_any-position p xs) ∙ h)
-
-position-none : {X : Type 0} (p : X → Bool) (xs : List X) → list_any p xs ≡ false → position p xs ≡ None
-position-none p xs h = ap (λ b. cond b (Some (position_or_len p xs)) None) (sym (list_any-position p xs) ∙ h)
 
 -- ---- the interface of a VPC with an address
 
@@ -165,12 +162,12 @@ host-found d keys owners v a k dflt are owned differ within small h =
     let whose = owner q (addresses_of d) 0 d.interfaces dflt sizes there in
     let same : position_or_len (λ e. list_any q (addresses_of d e)) d.interfaces ≡ position_or_len (is_host d v a) d.interfaces = ap (λ (test : Interface → Bool). position_or_len test d.interfaces) (λ i e. host-test d (id_of d v) a e i) in
     let at : get_or owners k dflt ≡ position_or_len (is_host d v a) d.interfaces = ap (λ (os : List ℕ). get_or os k dflt) owned ∙ ap (λ n. get_or (owners_from 0 d.interfaces) n dflt) (sym found.number ∙ place.first) ∙ whose ∙ zero-add _ ∙ same in
-    position-some (is_host d v a) d.interfaces (sym (any-host d v a) ∙ there) ∙ ap (λ (n : ℕ). Some n) (sym at)
+    position-there (is_host d v a) d.interfaces (sym (any-host d v a) ∙ there) ∙ ap (λ (n : ℕ). Some n) (sym at)
 
 pub host-missing : (d : Description) (keys : List ℕ) (v : VpcNo) (a : ℕ) → AreKeys d (private_addresses d) keys → duplicate_ids d ≡ [] → v.0 < length d.vpcs → a < 2 ^ 32 → position (λ n. n == v.0 * 4294967296 + a) keys ≡ None → position (is_host d v a) d.interfaces ≡ None
 host-missing d keys v a are differ within small h =
     let place = placed d keys v a are differ within small in
-    position-none (is_host d v a) d.interfaces (sym (any-host d v a) ∙ sym place.any ∙ missing_number (λ n. n == v.0 * 4294967296 + a) keys h)
+    position-nowhere (is_host d v a) d.interfaces (sym (any-host d v a) ∙ sym place.any ∙ missing_number (λ n. n == v.0 * 4294967296 + a) keys h)
 
 -- an owner for each key
 owners-length : {X : Type 0} (g : Interface → List X) (n : ℕ) (es : List Interface) → ((e : Interface) → length (g e) ≡ length e.addresses) → length (owners_from n es) ≡ length (flat_map g es)

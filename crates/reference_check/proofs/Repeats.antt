@@ -3,10 +3,10 @@ use Rattle.std.proofs.Common.{◌+◌, ◌++◌, ◌<◌, ◌≡◌, ◌∙◌, 
 use Rattle.std.specs.List.{flat_map, list_any}
 use Rattle.std.proofs.lemmas.Grind.{flat_map-append, take_at_read}
 use Rattle.std.proofs.lemmas.List.{append-nil, drop_more, map-append}
+use Rattle.vpc_base.proofs.Members.{map-nothing}
 use Rattle.vpc_model.specs.Accepted.{first_cause, repeats, repeats_after}
 use Rattle.vpc_model.specs.declared.refusals.Refusal.{Refusal}
 use Rattle.reference_check.specs.Told.{IsTold}
-use Rattle.reference_check.proofs.Distinct.{map-nil}
 use Rattle.reference_check.proofs.Told.{told_first}
 
 pub repeats_after-append : {X : Type 0} (same : X → X → Bool) (earlier xs ys : List X) → repeats_after same earlier (xs ++ ys) ≡ repeats_after same earlier xs ++ repeats_after same (earlier ++ xs) ys
@@ -26,7 +26,7 @@ repeats-part {E = E} same earlier g es i e within is =
 -- where nothing of the part stands twice
 pub repeats-later : {X E : Type 0} (cause : X → Refusal) (same : X → X → Bool) (earlier all : List X) (g : E → List X) (es : List E) (i : ℕ) (e : E) → i < length es → e ≡ get_or es i e → repeats_after same earlier (flat_map g (drop i es)) ≡ repeats same all → map cause (repeats_after same earlier (g e)) ≡ [] → repeats_after same (earlier ++ g e) (flat_map g (drop (i + 1) es)) ≡ repeats same all
 repeats-later {X = X} cause same earlier all g es i e within is rest none =
-    let none' = map-nil cause (repeats_after same earlier (g e)) none in
+    let none' = map-nothing cause (repeats_after same earlier (g e)) none in
     sym (ap (λ (xs : List X). xs ++ repeats_after same (earlier ++ g e) (flat_map g (drop (i + 1) es))) none') ∙ sym (repeats-part same earlier g es i e within is) ∙ rest
 
 -- where something does

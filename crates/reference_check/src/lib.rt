@@ -9,6 +9,7 @@ mod hosts;
 mod ids;
 mod lengths;
 mod network;
+mod numbered;
 mod numbers;
 mod references;
 mod rows;

@@ -3,12 +3,13 @@ use Rattle.std.proofs.Common.{◌≡◌, ◌<◌, ◌^◌, ◌∙◌, ℕ, Conta
 use Rattle.std.specs.Prelude.{option_and_then}
 use Rattle.std.specs.List.{All, slice_get}
 use Rattle.std.proofs.lemmas.Bool.{ltb-true}
-use Rattle.std.proofs.lemmas.List.{get_or_default, length-map}
+use Rattle.std.proofs.lemmas.List.{length-map}
 use Rattle.std.proofs.lemmas.List.Elements.{Contains-get_or}
+use Rattle.vpc_base.proofs.Members.{row-member}
 use Rattle.number_tables.specs.declared.tables.Entry.{Entry}
 use Rattle.piece_table.specs.Pieces.{PieceLists}
 use Rattle.vpc_laws.proofs.Lengths.{accepted_has_short_lists}
-use Rattle.vpc_laws.proofs.Numbering.{ids_are_found, no_subnet, row-member}
+use Rattle.vpc_laws.proofs.Numbering.{ids_are_found, no_subnet}
 use Rattle.vpc_laws.specs.Types.{Association, AttNo, Attachment, Description, Subnet, SubnetNo, TgwTableNo}
 use Rattle.vpc_model.specs.Accepted.{IsAccepted}
 use Rattle.vpc_model.specs.Lookup.{has_subnet, subnet_at, subnet_no, tgw_table_of_id}
@@ -52,21 +53,6 @@ short-tables d accepted k t within =
 -- ---- rows
 
 -- the row of a described subnet
-pub row-within : (d e : Description) (id : List ℕ) (s : SubnetNo) (rows : List Subnet) → has_subnet d id ≡ true → s ≡ subnet_no d id → e ≡ d → rows ≡ e.subnets → s.0 < length rows
-row-within d e id s rows has number whole is =
-    let found = ltb-true (subnet_no d id).0 (length d.subnets) ((ids_are_found d).subnet id has).0 in
-    let at = ap (λ (x : SubnetNo). x.0) number in
-    let all = ap length (is ∙ ap (λ (x : Description). x.subnets) whole) in
-    omega arith
-
-pub row-is : (d e : Description) (id : List ℕ) (s : SubnetNo) (rows : List Subnet) (row : Subnet) → has_subnet d id ≡ true → s ≡ subnet_no d id → e ≡ d → rows ≡ e.subnets → row ≡ get_or rows s.0 row → row ≡ subnet_at d (subnet_no d id)
-row-is d e id s rows row has number whole is read =
-    let all : rows ≡ d.subnets = is ∙ ap (λ (x : Description). x.subnets) whole in
-    read
-    ∙ get_or_default rows s.0 row no_subnet (row-within d e id s rows has number whole is)
-    ∙ ap (λ (xs : List Subnet). get_or xs s.0 no_subnet) all
-    ∙ ap (λ (x : SubnetNo). get_or d.subnets x.0 no_subnet) number
-
 pub row-listed : (d : Description) (id : List ℕ) (row : Subnet) → has_subnet d id ≡ true → row ≡ subnet_at d (subnet_no d id) → Contains d.subnets row
 row-listed d id row has is = subst (Contains d.subnets) (sym is) (row-member d.subnets (subnet_no d id).0 no_subnet ((ids_are_found d).subnet id has).0)
 

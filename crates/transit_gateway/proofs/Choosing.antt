@@ -4,6 +4,7 @@ use Rattle.std.specs.List.{All, Contains, slice_get}
 use Rattle.std.proofs.lemmas.Bool.{cond_both}
 use Rattle.std.proofs.lemmas.List.Elements.{All-contains}
 use Rattle.std.proofs.lemmas.Option.{get_or_from_slice_get, slice_get_within}
+use Rattle.vpc_base.proofs.Members.{Contains-cases, Contains-here, Contains-later, Contains-none}
 use Rattle.prefix_text.specs.Block.{IsBlock, holds}
 use Rattle.vpc_laws.specs.Choice.{Chooses, TgwRouteYields}
 use Rattle.vpc_laws.specs.Types.{TgwRoute}
@@ -13,7 +14,6 @@ use Rattle.vpc_model.specs.Transit.{chosen_tgw_route}
 use Rattle.block_pieces.specs.declared.rows.BlockRow.{BlockRow}
 use Rattle.block_pieces.specs.Laws.{IsAsGood}
 use Rattle.block_pieces.specs.Told.{borders_of, told_by}
-use Rattle.block_pieces.proofs.Members.{Contains-cons_cases, Contains-head, Contains-nil, Contains-tail}
 use Rattle.block_pieces.proofs.ToldLemmas.{best_is_told, none_is_told}
 use Rattle.transit_gateway.specs.Rows.{row_of, rows_of}
 
@@ -24,9 +24,9 @@ length-rows_of number [] = refl
 length-rows_of number (r ∷ rs) = let rest = length-rows_of (number + 1) rs in omega arith
 
 rows_of-member : (number : ℕ) (routes : List TgwRoute) (y : BlockRow) → Contains (rows_of number routes) y → (j : ℕ) × (r : TgwRoute) × (slice_get routes j ≡ Some r) × (row_of (number + j) r ≡ y)
-rows_of-member number [] y h = absurd (Contains-nil y h)
+rows_of-member number [] y h = absurd (Contains-none y h)
 rows_of-member number (r ∷ rs) y h =
-    elim (Contains-cons_cases (row_of number r) y (rows_of (number + 1) rs) h) [
+    elim (Contains-cases (row_of number r) y (rows_of (number + 1) rs) h) [
       | inl here ↦ (0, r, refl, ap (λ n. row_of n r) (let e : number + 0 ≡ number = omega arith in e) ∙ here)
       | inr later ↦
           let rest = rows_of-member (number + 1) rs y later in
@@ -39,11 +39,11 @@ rows_of-listed number (x ∷ rs) zero r at =
     let same : x ≡ r = cc in
     let zero_more : number ≡ number + 0 = omega arith in
     subst (λ n. Contains (row_of number x ∷ rows_of (number + 1) rs) (row_of n r)) zero_more
-    (subst (λ z. Contains (row_of number x ∷ rows_of (number + 1) rs) (row_of number z)) same (Contains-head (row_of number x) (rows_of (number + 1) rs)))
+    (subst (λ z. Contains (row_of number x ∷ rows_of (number + 1) rs) (row_of number z)) same (Contains-here (row_of number x) (rows_of (number + 1) rs)))
 rows_of-listed number (x ∷ rs) (suc j) r at =
     let one_more : number + 1 + j ≡ number + suc j = omega arith in
     subst (λ n. Contains (row_of number x ∷ rows_of (number + 1) rs) (row_of n r)) one_more
-    (Contains-tail (row_of number x) (row_of (number + 1 + j) r) (rows_of (number + 1) rs) (rows_of-listed (number + 1) rs j r at))
+    (Contains-later (row_of number x) (rows_of (number + 1) rs) (row_of (number + 1 + j) r) (rows_of-listed (number + 1) rs j r at))
 
 -- they begin and have ended where the routes' blocks cut
 pub borders-rows_of : (number : ℕ) (routes : List TgwRoute) → borders_of (rows_of number routes) ≡ (all_cuts cuts_of_tgw_route routes).addr

@@ -2,9 +2,12 @@
 use Rattle.std.proofs.Common.{◌≡◌, ◌∙◌, ◌&&◌, [], ℕ, Bool, List, None, Option, Some, ap, bytes_eq, cond, false, get_or, length, map, option_map, position, refl, true}
 use Rattle.std.proofs.lemmas.Bool.{and_parts, ltb-true}
 use Rattle.std.proofs.lemmas.List.{get_or-map, length-map}
+use Rattle.vpc_base.proofs.Bytes.{same_bytes}
+use Rattle.vpc_base.proofs.Members.{row-member}
+use Rattle.vpc_base.proofs.Positions.{position-at}
 use Rattle.vpc_laws.specs.Types.{AttNo, Attachment, Description, SubnetNo}
 use Rattle.vpc_laws.proofs.Accepting.{accepted_has_all_named}
-use Rattle.vpc_laws.proofs.Numbering.{no_subnet, position-at, row-member, same_bytes}
+use Rattle.vpc_laws.proofs.Numbering.{no_subnet}
 use Rattle.vpc_model.specs.Accepted.{IsAccepted}
 use Rattle.vpc_model.specs.Choice.{or_else}
 use Rattle.vpc_model.specs.Lookup.{attachment_at, has_vpc, subnet_at, vpc_no}

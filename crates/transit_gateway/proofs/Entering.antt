@@ -1,22 +1,30 @@
 -- The first attachment of a gateway to a VPC, found in the tables.
-use Rattle.std.proofs.Common.{◌≡◌, ◌∙◌, ◌&&◌, ◌+◌, ◌++◌, ◌<◌, ◌==◌, ◌∷◌, ◌^◌, [], ℕ, Bool, Contains, List, None, Option, Some, ap, arith, bytes_eq, cond, false, find, if◌then◌else◌, inl, inr, option_map, position, refl, sym, true}
+use Rattle.std.proofs.Common.{◌≡◌, ◌∙◌, ◌&&◌, ◌+◌, ◌++◌, ◌<◌, ◌==◌, ◌∷◌, ◌^◌, [], ℕ, Bool, Contains, Err, List, None, Ok, Option, Result, Some, ap, arith, bytes_eq, cond, false, find, if◌then◌else◌, inl, inr, length, option_map, position, refl, subst, sym, true}
 use Rattle.std.specs.Prelude.{option_and_then}
 use Rattle.std.specs.List.{list_any, position_from}
-use Rattle.std.proofs.lemmas.Bool.{and_parts, both_ways, cases_Bool, false_from_ne_true}
+use Rattle.std.proofs.lemmas.Bool.{and_parts, both_ways, cases_Bool, false_from_ne_true, ltb-true}
 use Rattle.std.proofs.lemmas.Iterator.Adapters.{position_from-zero}
+use Rattle.std.proofs.lemmas.List.Elements.{Contains-get_or}
+use Rattle.vpc_base.proofs.Bytes.{same_bytes}
+use Rattle.vpc_base.proofs.Members.{Contains-here, Contains-later, list_any-member, member-list_any}
+use Rattle.vpc_base.proofs.Positions.{position-le, position-nowhere, position-there}
 use Rattle.number_tables.specs.Entries.{value_at}
 use Rattle.number_tables.specs.declared.tables.Entry.{Entry}
-use Rattle.reference_check.proofs.Marks.{position-le}
-use Rattle.vpc_laws.specs.Types.{AttNo, Attachment, Description, Vpc}
+use Rattle.vpc_laws.specs.Types.{AttNo, Attachment, Description, SubnetNo, Vpc}
+use Rattle.vpc_laws.proofs.Accepting.{accepted_has_all_named}
 use Rattle.vpc_laws.proofs.Lengths.{accepted_has_short_lists}
-use Rattle.vpc_laws.proofs.Members.{Contains-here, Contains-later, list_any-member, member-list_any}
-use Rattle.vpc_laws.proofs.Numbering.{same_bytes}
+use Rattle.vpc_laws.proofs.Numbering.{no_subnet}
+use Rattle.vpc_laws.proofs.Sounding.{IfFound, attachment-found, is_inner, known-accepted, zone-found}
 use Rattle.vpc_model.specs.Accepted.{IsAccepted}
-use Rattle.vpc_model.specs.Lookup.{has_vpc, vpc_no}
+use Rattle.vpc_model.specs.Lookup.{attachment_at, has_vpc, subnet_at, vpc_no}
+use Rattle.vpc_model.specs.Sound.{is_attachment, is_subnet}
+use Rattle.vpc_model.specs.Transit.{attachment_for, zone_subnet}
 use Rattle.transit_gateway.specs.Gateways.{AreGateways, HasGatewaysOf, attachment_entries, gateway_no}
+use Rattle.transit_gateway.specs.Index.{enter_by, enter_zone, entered}
 use Rattle.number_tables.specs.Keys.{key_of}
 use Rattle.number_tables.proofs.KeyLemmas.{key_of-same}
-use Rattle.transit_gateway.proofs.KeyLemmas.{list_any-own, number-same, position-nowhere, position-there}
+use Rattle.transit_gateway.proofs.KeyLemmas.{list_any-own, number-same}
+use Rattle.transit_gateway.specs.declared.index.EnterStop.{EnterStop}
 
 -- the number of an attachment
 abbrev numbered : ℕ → AttNo
@@ -95,3 +103,25 @@ has_gateways_of d gateways attachments accepted numbers values = λ gateway vpc 
           ap told (numbers gateway ∙ position-nowhere (λ (a : Attachment). bytes_eq a.gateway gateway) d.attachments nowhere)
           ∙ sym (ap (option_map numbered) (none-to gateway vpc d.attachments nowhere))
     ]
+
+-- ---- the subnet that a packet comes into
+
+-- where a packet comes in, it is into a described subnet
+abbrev InSubnet : Description → Result (AttNo × SubnetNo) EnterStop → Type 0
+InSubnet d (Ok x) = is_subnet d x.1 ≡ true
+InSubnet d (Err e) = Unit {0}
+
+zone-in : (d : Description) (a : AttNo) (z : Option SubnetNo) → IfFound (is_subnet d) z → InSubnet d (enter_zone a z)
+zone-in d a None k = tt
+zone-in d a (Some u) k = k
+
+attachment-in : (d : Description) (s : SubnetNo) (o : Option AttNo) → IsAccepted d → IfFound (is_inner d) o → InSubnet d (enter_by o (λ a. zone_subnet d a s))
+attachment-in d s None accepted k = tt
+attachment-in d s (Some a) accepted k =
+    let parts = and_parts (is_attachment d a) (has_vpc d (attachment_at d a).vpc) k in
+    zone-in d a (zone_subnet d a s) (zone-found d (known-accepted d accepted) a s parts.0 parts.1)
+
+pub zone-lies : (d : Description) (gateway : List ℕ) (s : SubnetNo) (a : AttNo) (t : SubnetNo) → IsAccepted d → is_subnet d s ≡ true → entered d gateway s ≡ Ok (a, t) → is_subnet d t ≡ true
+zone-lies d gateway s a t accepted lies is =
+    let there = (accepted_has_all_named d accepted).vpc_of_subnet (subnet_at d s) (Contains-get_or d.subnets s.0 no_subnet (ltb-true s.0 (length d.subnets) lies)) in
+    subst (InSubnet d) is (attachment-in d s (attachment_for d gateway s) accepted (attachment-found d gateway s there))

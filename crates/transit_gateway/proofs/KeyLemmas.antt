@@ -1,24 +1,16 @@
 -- Numbers of ids, alone and in pairs.
-use Rattle.std.proofs.Common.{◌≡◌, ◌∙◌, ◌++◌, ◌==◌, ◌∷◌, [], ℕ, Bool, Contains, List, None, Some, ap, bytes_eq, cond, false, find, get_or, inl, inr, option_map, position, refl, sym, true}
+use Rattle.std.proofs.Common.{◌≡◌, ◌∙◌, ◌++◌, ◌==◌, ◌∷◌, [], ℕ, Bool, Contains, List, Some, ap, bytes_eq, cond, false, find, get_or, inl, inr, option_map, position, refl, sym, true}
 use Rattle.std.specs.List.{list_any, position_or_len}
 use Rattle.std.proofs.lemmas.Bool.{both_ways, cases_Bool, eq-eqb, ne_eqb}
+use Rattle.vpc_base.proofs.Bytes.{bytes_self, same_bytes}
+use Rattle.vpc_base.proofs.Members.{member-list_any}
+use Rattle.vpc_base.proofs.Positions.{found-at, position-there}
 use Rattle.number_tables.specs.Entries.{value_at}
 use Rattle.number_tables.specs.declared.tables.Entry.{Entry}
-use Rattle.reference_check.proofs.Maps.{list_any-position}
-use Rattle.vpc_laws.proofs.Members.{member-list_any}
-use Rattle.vpc_laws.proofs.Numbering.{bytes_self, found-at, same_bytes}
 use Rattle.vpc_model.specs.Choice.{or_else}
 use Rattle.transit_gateway.specs.FirstNumbers.{number_in}
 
 -- ---- numbers of ids
-
--- what passes has a number
-pub position-there : {X : Type 0} (p : X → Bool) (xs : List X) → list_any p xs ≡ true → position p xs ≡ Some (position_or_len p xs)
-position-there p xs there = ap (λ b. cond b (Some (position_or_len p xs)) None) (sym (list_any-position p xs) ∙ there)
-
--- nothing that passes has none
-pub position-nowhere : {X : Type 0} (p : X → Bool) (xs : List X) → list_any p xs ≡ false → position p xs ≡ None
-position-nowhere p xs nowhere = ap (λ b. cond b (Some (position_or_len p xs)) None) (sym (list_any-position p xs) ∙ nowhere)
 
 -- a row's own name is there
 pub list_any-own : {X : Type 0} (name_of : X → List ℕ) (xs : List X) (x : X) → Contains xs x → list_any (λ y. bytes_eq (name_of y) (name_of x)) xs ≡ true

@@ -4,23 +4,16 @@ use Rattle.std.specs.Prelude.{is_some, if◌then◌else◌, option_and_then}
 use Rattle.std.specs.List.{find, position_from, position_or_len, slice_get}
 use Rattle.std.specs.Map.{lookup}
 use Rattle.std.proofs.lemmas.Bool.{ltb-false}
-use Rattle.std.proofs.lemmas.Bool.Decides.{same_from_decides}
 use Rattle.std.proofs.lemmas.Iterator.Adapters.{position_from-zero}
-use Rattle.std.proofs.lemmas.List.{drop_all, drop_more}
+use Rattle.std.proofs.lemmas.List.{drop_all}
 use Rattle.std.proofs.lemmas.List.Folds.{find_at}
 use Rattle.std.proofs.lemmas.Option.{slice_get_past}
 use Rattle.std.proofs.lemmas.Slice.Eq.{bytes_eq-Decides}
+use Rattle.vpc_base.proofs.Bytes.{bytes_eq-comm}
+use Rattle.vpc_base.proofs.Steps.{drop-next}
 use Rattle.vpc_model.specs.Choice.{or_else}
+use Rattle.vpc_model.proofs.Choice.{or_else-none}
 use Rattle.transit_gateway.specs.FirstNumbers.{number_in}
-
--- the item of this number and those after it
-drop-next : {R : Type 0} (rows : List R) (k : ℕ) (row : R) → k < length rows → row ≡ get_or rows k row → drop k rows ≡ row ∷ drop (k + 1) rows
-drop-next rows k row within at = drop_more rows k row within ∙ ap (λ x. x ∷ drop (k + 1) rows) (sym at)
-
--- what is told, or else nothing
-pub or_else-none : {X : Type 0} (o : Option X) → or_else o None ≡ o
-or_else-none None = refl
-or_else-none (Some x) = refl
 
 -- the entries of a map tell the numbers of ids
 pub number_in-map : {K : Type 0} (items : K → List ℕ) (entries : List (K × ℕ)) (id : List ℕ)
@@ -65,12 +58,6 @@ number_in-added entries known n rest id = by (number_in entries known) refl
         → or_else (number_in (if is_some o then entries else entries ++ (known, n) ∷ []) id) rest ≡ or_else (number_in entries id) (if bytes_eq id known then Some n else rest)
     by None e = rw (number_in-append entries known n id) (new (number_in entries id) (bytes_eq id known))
     by (Some m) e = known_already m e (bytes_eq id known) refl
-
-bytes_eq-comm : (x y : List ℕ) → bytes_eq x y ≡ bytes_eq y x
-bytes_eq-comm x y =
-    let a = bytes_eq-Decides x y in
-    let b = bytes_eq-Decides y x in
-    same_from_decides (bytes_eq x y) (bytes_eq y x) a ((λ e. sym (b.0 e)), (λ e. b.1 (sym e)))
 
 -- ---- the rows, one by one
 

@@ -1,9 +1,7 @@
 -- Loops that add the row of one more route, or the pieces of one more table.
-use Rattle.std.proofs.Common.{◌≡◌, ℕ, ◌<◌, ◌≤◌, ◌+◌, ◌⊎◌, List, [], ◌∷◌, ◌++◌, ap, append_assoc, arith, drop, get_or, inl, inr, length, map, subst, sym, take, ◌∙◌}
-use Rattle.std.specs.List.{All}
+use Rattle.std.proofs.Common.{◌≡◌, ℕ, ◌<◌, ◌≤◌, ◌+◌, ◌⊎◌, List, [], ◌∷◌, ◌++◌, ap, append_assoc, arith, drop, get_or, inl, inr, length, subst, sym, ◌∙◌}
 use Rattle.std.proofs.lemmas.Bool.{cases_lt}
-use Rattle.std.proofs.lemmas.List.{append-nil, drop_all, drop_more, get_or_append_left, get_or_default, get_or_push, length_push, map_more, take_all}
-use Rattle.std.proofs.lemmas.List.Elements.{All-more}
+use Rattle.std.proofs.lemmas.List.{append-nil, drop_all, drop_more, get_or_append_left, get_or_default, get_or_push, length_push}
 use Rattle.piece_table.specs.Pieces.{PieceLists}
 use Rattle.block_pieces.specs.declared.rows.BlockRow.{BlockRow}
 use Rattle.vpc_laws.specs.Types.{TgwRoute, TgwTable}
@@ -19,20 +17,6 @@ rows_of-step routes i r old new whole within is so_far added =
 
 pub rows_of-end : (routes : List TgwRoute) (i : ℕ) (rows whole : List BlockRow) → length routes ≤ i → rows ++ rows_of i (drop i routes) ≡ whole → rows ≡ whole
 rows_of-end routes i rows whole past so_far = sym (append-nil rows) ∙ (ap (λ l. rows ++ rows_of i l) (sym (drop_all i routes past)) ∙ so_far)
-
-pub All-one_more : {X : Type 0} (P : X → Type 0) (xs : List X) (i : ℕ) (x : X) → i < length xs → x ≡ get_or xs i x → All P (take i xs) → P x → All P (take (i + 1) xs)
-All-one_more P xs i x within is all one = All-more P xs i x within all (subst P is one)
-
-pub All-whole : {X : Type 0} (P : X → Type 0) (xs : List X) (i : ℕ) → length xs ≤ i → All P (take i xs) → All P xs
-All-whole P xs i past all = subst (All P) (take_all i xs past) all
-
--- one more item that is mapped
-pub pushed-map : {X Y : Type 0} (f : X → Y) (start : List Y) (xs : List X) (i : ℕ) (x : X) (old new : List Y) → i < length xs → x ≡ get_or xs i x → old ≡ start ++ map f (take i xs) → new ≡ old ++ f x ∷ [] → new ≡ start ++ map f (take (i + 1) xs)
-pushed-map f start xs i x old new within is so_far added =
-    added
-    ∙ (ap (λ l. l ++ f x ∷ []) so_far
-    ∙ (append_assoc start (map f (take i xs)) (f x ∷ [])
-    ∙ ap (λ l. start ++ l) (ap (λ y. map f (take i xs) ++ f y ∷ []) is ∙ sym (map_more f xs i x within))))
 
 -- the pieces of the first tables
 pub record AreFirst (tables : List TgwTable) (i : ℕ) (pieces : List PieceLists) : Type 0 where

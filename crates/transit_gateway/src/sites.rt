@@ -1,28 +1,17 @@
 // Where subnets are.
-ghost use Rattle.std.specs.Prelude.{◌≡◌, Contains, IfOk, IsTrue, map};
-ghost use Rattle.vpc_model.specs.Lookup.{has_vpc, vpc_no};
+ghost use Rattle.std.specs.Prelude.{◌≡◌, Contains, IfOk, map};
 ghost use Rattle.transit_gateway.specs.Sites.{AreZones, site_of, zone_no};
 
 use crate::first_numbers::FirstNumbers;
 use reference_check::Network;
 use std::alloc::{AllocError, Global};
-use vpc_model::{Id, Subnet, VpcNo};
+use vpc_model::{Subnet, VpcNo};
 
 /// Where a subnet is: its VPC, and its zone by the number of the first subnet there.
 #[derive(Clone, Copy, PartialEq, Eq)]
 pub struct Site {
     pub vpc: VpcNo,
     pub zone: u32,
-}
-
-fn vpc_of(n: &Network, id: &Id) -> VpcNo
-    requires { IsTrue (has_vpc n.now id.now) }
-    ensures { result ≡ vpc_no n.now id.now }
-{
-    match n.vpc(id.bytes()) {
-        Some(vpc) => vpc,
-        None => unreachable!(),
-    }
 }
 
 /// The number of a subnet's zone.
@@ -43,7 +32,7 @@ fn site_of(n: &Network, zones: &FirstNumbers, subnet: &Subnet) -> Site
 {
     let _ = n.description();
     Site {
-        vpc: vpc_of(n, &subnet.vpc),
+        vpc: n.vpc_named(&subnet.vpc),
         zone: zone_of(n, zones, subnet),
     }
 }

@@ -1,7 +1,7 @@
 // The subnets of each attachment.
 ghost use Rattle.std.specs.Prelude.{◌≡◌, ◌<◌, ◌++◌, ℕ, All, Contains, IfOk, IsTrue, OnOk, length, map};
 ghost use Rattle.number_tables.specs.Entries.{value_at};
-ghost use Rattle.vpc_model.specs.Lookup.{has_subnet, subnet_no};
+ghost use Rattle.vpc_model.specs.Lookup.{has_subnet};
 ghost use Rattle.transit_gateway.specs.Sites.{AreZones};
 ghost use Rattle.transit_gateway.specs.Zones.{HasZonesOf, first_of, inner_subnets, leaving, zone_entries, zone_entry, zone_subnet_in};
 
@@ -12,24 +12,14 @@ use reference_check::Network;
 use std::alloc::{AllocError, Global};
 use vpc_model::{AttNo, Attachment, Id, SubnetNo};
 
-fn subnet_of(n: &Network, id: &Id) -> SubnetNo
-    requires { IsTrue (has_subnet n.now id.now) }
-    ensures { result ≡ subnet_no n.now id.now }
-{
-    match n.subnet(id.bytes()) {
-        Some(s) => s,
-        None => unreachable!(),
-    }
-}
-
 // The subnet by its attachment and its zone.
 fn zone_entry(n: &Network, zones: &FirstNumbers, number: u32, id: &Id) -> Entry<SubnetNo>
     requires zones { AreZones n.now zones.now }
     requires described { IsTrue (has_subnet n.now id.now) }
     ensures { result ≡ zone_entry n.now number id.now }
 {
-    let s = subnet_of(n, id);
-    let subnet = &n.description().subnets.as_slice()[s.0 as usize];
+    let s = n.subnet_named(id);
+    let subnet = n.subnet_at(s);
     let zone = zone_of(n, zones, subnet);
     Entry {
         key: key_of(number, zone),
@@ -90,7 +80,7 @@ fn first_of(n: &Network, attachment: &Attachment) -> Option<SubnetNo>
     ensures { result ≡ first_of n.now attachment.now }
 {
     match inner_subnets(n, attachment) {
-        [id, ..] => Some(subnet_of(n, id)),
+        [id, ..] => Some(n.subnet_named(id)),
         [] => None,
     }
 }

@@ -1,5 +1,5 @@
 use Rattle.vpc_laws.proofs.Accepting.{accepted_has_all_named}
 use Rattle.appliances.proofs.described.row_of.Goals as goal
 
-pub number_of-requires : goal.number_of-requires
-number_of-requires c = (accepted_has_all_named c.args.n.now c.description.ensures.accepted).interface_of_appliance c.args.appliance.now c.requires
+pub eni_named-requires : goal.eni_named-requires
+eni_named-requires c = (accepted_has_all_named c.args.n.now c.description.ensures.accepted).interface_of_appliance c.args.appliance.now c.requires

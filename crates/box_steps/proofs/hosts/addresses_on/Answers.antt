@@ -1,6 +1,7 @@
 use Rattle.std.proofs.Common.{None, arith, get_or, true}
 use Rattle.std.proofs.lemmas.List.{get_or_default}
-use Rattle.image_tests.proofs.Trying.{any_passes, none_passes_yet, one_passes, row_has, trying_first, trying_last, trying_next}
+use Rattle.vpc_base.proofs.Members.{row_has}
+use Rattle.image_tests.proofs.Trying.{any_passes, none_passes_yet, one_passes, trying_first, trying_last, trying_next}
 use Rattle.box_steps.proofs.OwnAnswers.{own_of_rest, own_test}
 use Rattle.box_steps.proofs.hosts.addresses_on.Goals as goal
 use Rattle.box_steps.specs.Hosts.{DivideOwn}

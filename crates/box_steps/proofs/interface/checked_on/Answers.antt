@@ -1,8 +1,8 @@
 use Rattle.std.proofs.Common.{ap}
 use Rattle.vpc_laws.specs.Types.{Interface}
 use Rattle.box_steps.proofs.Barriers.{tells_checked, tells_failed}
-use Rattle.box_steps.proofs.Composing.{walk_of_moment}
 use Rattle.box_steps.proofs.Narrowing.{moment-narrowed}
+use Rattle.box_steps.proofs.PlainSteps.{walk_of_moment}
 use Rattle.box_steps.proofs.interface.checked_on.Goals as goal
 
 pub own_on-own-requires-clause-walk : goal.own_on-own-requires-clause-walk

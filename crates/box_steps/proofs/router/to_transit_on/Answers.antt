@@ -1,6 +1,6 @@
 use Rattle.std.proofs.Common.{◌∙◌, subst, sym}
 use Rattle.vpc_model.specs.Accepted.{IsAccepted}
-use Rattle.box_steps.proofs.TargetAnswers.{zone-lies}
+use Rattle.transit_gateway.proofs.Entering.{zone-lies}
 use Rattle.box_steps.proofs.router.to_transit_on.Goals as goal
 
 pub to_zone_on-requires-clause-zone : goal.to_zone_on-requires-clause-zone

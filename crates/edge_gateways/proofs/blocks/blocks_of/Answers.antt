@@ -1,9 +1,9 @@
 use Rattle.std.proofs.Common.{◌+◌, ◌∙◌, ◌∷◌, [], ap, arith, refl, subst, sym, take}
 use Rattle.std.specs.List.{AllZip, list_any}
 use Rattle.std.proofs.lemmas.Slice.{pushed}
+use Rattle.vpc_base.proofs.Zips.{zip_more}
 use Rattle.prefix_text.specs.Block.{holds}
 use Rattle.edge_gateways.specs.Sides.{HasBlocksOf}
-use Rattle.edge_gateways.proofs.Zips.{zip_more}
 use Rattle.edge_gateways.proofs.blocks.blocks_of.Goals as goal
 
 pub loop-vpc-preserved : goal.loop-vpc-preserved

@@ -1,8 +1,9 @@
 use Rattle.std.proofs.Common.{◌∙◌, get_or, sym}
 use Rattle.std.proofs.lemmas.List.{get_or_default}
+use Rattle.vpc_base.proofs.Options.{none_if, some_if}
 use Rattle.vpc_model.specs.declared.places.End.TheVariants as ends
 use Rattle.described_hosts.specs.Hosts.{numbered}
-use Rattle.listing_text.proofs.BodyLemmas.{body-part, body-whole, none_if, so_far-few, so_far-more, so_far-none, some_if}
+use Rattle.listing_text.proofs.BodyLemmas.{body-part, body-whole, so_far-few, so_far-more, so_far-none}
 use Rattle.end_reach.specs.Texts.{row_lines_from}
 use Rattle.end_reach.specs.Told.{wanted}
 use Rattle.end_reach.proofs.bodies.body_of.Goals as goal

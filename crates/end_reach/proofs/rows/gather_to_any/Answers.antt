@@ -1,8 +1,8 @@
 use Rattle.std.proofs.Common.{None, ◌∙◌, ap}
+use Rattle.vpc_base.proofs.Results.{if_ok}
 use Rattle.box_gather.specs.Over.{IsGatheredOver}
 use Rattle.box_walk.specs.Journeys.{reached_of}
 use Rattle.box_walk.specs.Open.{Starting, starting}
-use Rattle.command_job.proofs.Answers.{if_ok}
 use Rattle.vpc_laws.specs.Types.{Description}
 use Rattle.vpc_model.specs.Appliances.{appliances_of}
 use Rattle.vpc_model.specs.Cuts.{cuts_of}

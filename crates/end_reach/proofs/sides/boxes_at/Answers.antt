@@ -1,7 +1,7 @@
 use Rattle.std.proofs.Common.{◌≡◌, All, AllPairs, List, map, subst, sym}
+use Rattle.vpc_base.proofs.Results.{if_ok}
 use Rattle.header_boxes.specs.Boxes.{AreDisjoint, IsValid}
 use Rattle.header_boxes.specs.declared.boxes.Box5.{Box5}
-use Rattle.command_job.proofs.Answers.{if_ok}
 use Rattle.listing_text.specs.Sides.{sides_between}
 use Rattle.end_reach.proofs.SideLemmas.{some_disjoint, some_valid}
 use Rattle.end_reach.proofs.sides.boxes_at.Goals as goal

@@ -1,6 +1,6 @@
 use Rattle.std.proofs.Common.{◌≡◌, ◌∷◌, [], All, IfSome, IsTrue, Option, subst, true}
+use Rattle.vpc_base.proofs.Results.{if_ok}
 use Rattle.vpc_laws.specs.Types.{End}
-use Rattle.command_job.proofs.Answers.{if_ok}
 use Rattle.vpc_model.specs.Sound.{is_end}
 use Rattle.end_reach.specs.Asked.{AreAllStarts}
 use Rattle.end_reach.proofs.StartLemmas.{given_is_described, starts_are_described}

@@ -1,7 +1,8 @@
 use Rattle.std.proofs.Common.{◌≡◌, ◌∙◌, ◌<◌, All, ap, arith, get_or, length, subst}
 use Rattle.std.proofs.lemmas.List.{take_all}
+use Rattle.vpc_base.proofs.Steps.{All-one_more}
 use Rattle.vpc_laws.specs.Types.{Description, Interface}
-use Rattle.fabric.proofs.HostRows.{few-interfaces, fit_next, interfaces_next}
+use Rattle.fabric.proofs.HostRows.{few-interfaces, interfaces_next}
 use Rattle.fabric.proofs.hosts.entries_of.Goals as goal
 use Rattle.fabric.specs.Hosts.{HasFit}
 use Rattle.std.specs.Prelude.{List}
@@ -22,7 +23,7 @@ loop-number-preserved c =
     let within : k < length d.interfaces = omega (arith, c.loop-number-test.true) in
     let read : e ≡ get_or d.interfaces k e = c.index-interfaces-number.is ∙ ap (λ (rows : List Interface). get_or rows k e) same in (
       interfaces_next d c.loop-number.entries.items c.add.new.entries.items k e within read c.loop-number.invariant.0 c.in_ok-add.ensures.added,
-      fit_next HasFit d.interfaces k e within read c.loop-number.invariant.1 c.in_ok-add.ensures.fit,
+      All-one_more HasFit d.interfaces k e within read c.loop-number.invariant.1 c.in_ok-add.ensures.fit,
     )
 
 pub returns-clause-fit : goal.returns-clause-fit

@@ -1,6 +1,6 @@
 use Rattle.std.proofs.Common.{◌∙◌, subst, sym}
-use Rattle.packet_emulator.proofs.Entering.{zone-lies}
 use Rattle.vpc_model.specs.Accepted.{IsAccepted}
+use Rattle.transit_gateway.proofs.Entering.{zone-lies}
 use Rattle.packet_emulator.proofs.router.to_transit.Goals as goal
 
 pub to_zone-requires-clause-zone : goal.to_zone-requires-clause-zone

@@ -1,8 +1,9 @@
 use Rattle.std.proofs.Common.{◌++◌, ◌∷◌, ◌∙◌, [], ap}
+use Rattle.vpc_base.proofs.Steps.{All-one_more, All-whole}
 use Rattle.prefix_text.specs.Block.{IsBlock}
 use Rattle.vpc_laws.specs.Types.{TgwRoute}
 use Rattle.transit_gateway.specs.Rows.{rows_of}
-use Rattle.transit_gateway.proofs.Steps.{All-one_more, All-whole, rows_of-end, rows_of-step}
+use Rattle.transit_gateway.proofs.Steps.{rows_of-end, rows_of-step}
 use Rattle.transit_gateway.proofs.routes.rows_of.Goals as goal
 
 pub loop-number-preserved : goal.loop-number-preserved

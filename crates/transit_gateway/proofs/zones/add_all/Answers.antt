@@ -1,6 +1,6 @@
 use Rattle.std.proofs.Common.{◌++◌, ◌∷◌, ◌∙◌, [], ap}
+use Rattle.vpc_base.proofs.Steps.{pushed-map}
 use Rattle.transit_gateway.specs.Zones.{zone_entry}
-use Rattle.transit_gateway.proofs.Steps.{pushed-map}
 use Rattle.transit_gateway.proofs.zones.add_all.Goals as goal
 
 pub loop-id-preserved : goal.loop-id-preserved

@@ -1,5 +1,5 @@
 use Rattle.std.proofs.Common.{◌≡◌, All, IfSome, List, map, string_bytes, subst, sym, true}
-use Rattle.command_job.proofs.Answers.{if_ok}
+use Rattle.vpc_base.proofs.Results.{if_ok}
 use Rattle.listing_text.proofs.BodyLemmas.{next_start}
 use Rattle.vpc_laws.specs.Types.{Description, End}
 use Rattle.vpc_model.specs.Sound.{is_end}

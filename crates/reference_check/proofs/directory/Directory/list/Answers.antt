@@ -1,6 +1,7 @@
 use Rattle.std.proofs.Common.{◌≡◌, ◌∙◌, bytes_eq, rules, sym}
+use Rattle.vpc_base.proofs.Tests.{find-nowhere}
 use Rattle.vpc_model.specs.declared.rows.PrefixList.{PrefixList}
-use Rattle.reference_check.proofs.Maps.{found_row, missing_row, no_row, read_row}
+use Rattle.reference_check.proofs.Maps.{found_row, missing_row, read_row}
 use Rattle.reference_check.proofs.directory.Directory.list.Goals as goal
 
 pub returns-in-Some : goal.returns-in-Some
@@ -12,5 +13,6 @@ returns-in-Some c =
 pub returns-in-None : goal.returns-in-None
 returns-in-None c =
     rw (← c.self.view_is)
-    (no_row (λ (x : PrefixList). bytes_eq x.id c.args.id.now) _
-    (missing_row (λ (x : PrefixList). x.id) c.args.id.now _ _ c.self.invariant.numbered.networks.lists (sym c.number.ensures.number ∙ c.in-None.is)))
+    (sym
+    (find-nowhere (λ (x : PrefixList). bytes_eq x.id c.args.id.now) _
+    (missing_row (λ (x : PrefixList). x.id) c.args.id.now _ _ c.self.invariant.numbered.networks.lists (sym c.number.ensures.number ∙ c.in-None.is))))

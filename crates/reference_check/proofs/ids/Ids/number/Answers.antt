@@ -1,9 +1,10 @@
 use Rattle.std.proofs.Common.{◌∙◌, bytes_eq, sym}
-use Rattle.reference_check.proofs.Maps.{bytes_eq_swap, position_map}
+use Rattle.vpc_base.proofs.Bytes.{bytes_eq-comm}
+use Rattle.vpc_base.proofs.Positions.{position_map}
 use Rattle.reference_check.proofs.ids.Ids.number.Goals as goal
 
 pub returns-clause-number : goal.returns-clause-number
 returns-clause-number c =
     rw (← c.self.view_is)
     (c.get_index_of.ensures.index
-    ∙ sym (position_map (λ k. k.items) (λ i. bytes_eq i c.args.id.now) (λ k. bytes_eq c.args.id.now k.items) (λ k. bytes_eq_swap k.items c.args.id.now) _))
+    ∙ sym (position_map (λ k. k.items) (λ i. bytes_eq i c.args.id.now) (λ k. bytes_eq c.args.id.now k.items) (λ k. bytes_eq-comm k.items c.args.id.now) _))

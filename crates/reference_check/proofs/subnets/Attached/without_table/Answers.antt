@@ -1,12 +1,12 @@
 use Rattle.std.proofs.Common.{ap, is_none, not, position, sym, ◌||◌, ◌∙◌}
 use Rattle.std.specs.List.{list_any}
+use Rattle.vpc_base.proofs.Positions.{position_map}
 use Rattle.vpc_model.specs.Accepted.{is_main_of, is_table_of}
 use Rattle.vpc_model.specs.declared.refusals.Refusal.TheVariants as refusals
 use Rattle.vpc_model.specs.declared.rows.RouteTable.{RouteTable}
 use Rattle.vpc_model.specs.declared.rows.Subnet.{Subnet}
 use Rattle.reference_check.specs.Attached.{chosen_table}
 use Rattle.reference_check.proofs.Firsts.{causes-first, causes-none, none-or_else}
-use Rattle.reference_check.proofs.Maps.{position_map}
 use Rattle.reference_check.proofs.subnets.Attached.without_table.Goals as goal
 
 pub returns-in-None : goal.returns-in-None

@@ -1,7 +1,8 @@
 -- VPCs by their ids and numbers.
-use Rattle.std.proofs.Common.{◌≡◌, ◌∙◌, ◌==◌, ◌∷◌, [], ℕ, Contains, List, ap, bytes_eq, get_or, inl, inr, sym, true}
-use Rattle.std.specs.List.{AllByRecursion}
+use Rattle.std.proofs.Common.{◌≡◌, ◌∙◌, ◌==◌, [], ℕ, Contains, List, ap, bytes_eq, get_or, inl, inr, sym, true}
 use Rattle.std.proofs.lemmas.Bool.{both_ways, cases_Bool, eq-eqb, ne_eqb}
+use Rattle.vpc_base.proofs.Bytes.{bytes_self, same_bytes}
+use Rattle.vpc_base.proofs.Members.{row-member}
 use Rattle.vpc_model.specs.declared.numbers.VpcNo.{VpcNo}
 use Rattle.vpc_model.specs.declared.rows.Description.{Description}
 use Rattle.vpc_model.specs.declared.rows.Interface.{Interface}
@@ -10,13 +11,7 @@ use Rattle.vpc_model.specs.Accepted.{IsAccepted}
 use Rattle.vpc_model.specs.Lookup.{has_vpc, subnet_at, subnet_no, vpc_at, vpc_no, vpc_of_interface}
 use Rattle.vpc_model.specs.Sound.{is_vpc}
 use Rattle.vpc_laws.proofs.Accepting.{accepted_has_all_named}
-use Rattle.vpc_laws.proofs.Members.{Contains-here, Contains-later}
-use Rattle.vpc_laws.proofs.Numbering.{accepted_numbers_are_own, bytes_self, ids_are_found, row-member, same_bytes}
-
--- what holds of each member holds of all
-pub all_members : {X : Type 0} (P : X → Type 0) (xs : List X) → ((x : X) → Contains xs x → P x) → AllByRecursion P xs
-all_members P [] each = tt
-all_members P (x ∷ xs) each = (each x (Contains-here x xs), all_members P xs (λ y in_rest. each y (Contains-later x xs y in_rest)))
+use Rattle.vpc_laws.proofs.Numbering.{accepted_numbers_are_own, ids_are_found}
 
 -- a described id is that of a VPC exactly where its number is the VPC's
 pub ids_agree : (d : Description) (v : VpcNo) (id : List ℕ) → IsAccepted d → is_vpc d v ≡ true → has_vpc d id ≡ true → bytes_eq id (vpc_at d v).id ≡ ((vpc_no d id).0 == v.0)

@@ -1,0 +1,38 @@
+-- Where interfaces and subnets lie, by their numbers.
+use Rattle.std.proofs.Common.{◌≡◌, ◌∙◌, ◌<◌, List, ap, get_or, length, subst, sym, true, ℕ}
+use Rattle.std.proofs.lemmas.Bool.{ltb-true}
+use Rattle.std.proofs.lemmas.List.{get_or-map, length-map}
+use Rattle.vpc_laws.proofs.Numbering.{accepted_numbers_are_in_range, no_subnet}
+use Rattle.vpc_laws.specs.Types.{Description, EniNo, Interface, Subnet, SubnetNo, VpcNo}
+use Rattle.vpc_model.specs.Accepted.{IsAccepted}
+use Rattle.vpc_model.specs.Lookup.{no_interface, subnet_no, subnet_of, vpc_no, vpc_of_subnet}
+use Rattle.vpc_model.specs.Sound.{is_eni, is_subnet, is_vpc}
+use Rattle.fabric.specs.Sites.{subnets_in, vpcs_in}
+
+pub subnet-within : (d : Description) (i : EniNo) (subnets : List SubnetNo) → subnets ≡ subnets_in d → is_eni d i ≡ true → i.0 < length subnets
+subnet-within d i subnets are lies =
+    subst (λ (n : ℕ). i.0 < n) (sym (ap length are ∙ length-map d.interfaces (λ (e : Interface). subnet_no d e.subnet))) (ltb-true i.0 (length d.interfaces) lies)
+
+pub subnet-at : (d : Description) (i : EniNo) (subnets : List SubnetNo) (s : SubnetNo) → subnets ≡ subnets_in d → is_eni d i ≡ true → ((none : SubnetNo) → s ≡ get_or subnets i.0 none)
+    → s ≡ subnet_of d i
+subnet-at d i subnets s are lies is =
+    is (subnet_no d no_interface.subnet)
+    ∙ (ap (λ (xs : List SubnetNo). get_or xs i.0 (subnet_no d no_interface.subnet)) are ∙ get_or-map (λ (e : Interface). subnet_no d e.subnet) d.interfaces i.0 no_interface (subnet_no d no_interface.subnet) (ltb-true i.0 (length d.interfaces) lies))
+
+pub vpc-within : (d : Description) (s : SubnetNo) (vpcs : List VpcNo) → vpcs ≡ vpcs_in d → is_subnet d s ≡ true → s.0 < length vpcs
+vpc-within d s vpcs are lies =
+    subst (λ (n : ℕ). s.0 < n) (sym (ap length are ∙ length-map d.subnets (λ (row : Subnet). vpc_no d row.vpc))) (ltb-true s.0 (length d.subnets) lies)
+
+pub vpc-at : (d : Description) (s : SubnetNo) (vpcs : List VpcNo) (v : VpcNo) → vpcs ≡ vpcs_in d → is_subnet d s ≡ true → ((none : VpcNo) → v ≡ get_or vpcs s.0 none) → v ≡ vpc_of_subnet d s
+vpc-at d s vpcs v are lies is =
+    is (vpc_no d no_subnet.vpc)
+    ∙ (ap (λ (xs : List VpcNo). get_or xs s.0 (vpc_no d no_subnet.vpc)) are ∙ get_or-map (λ (row : Subnet). vpc_no d row.vpc) d.subnets s.0 no_subnet (vpc_no d no_subnet.vpc) (ltb-true s.0 (length d.subnets) lies))
+
+-- the numbers are those of rows
+pub subnet-lies : (d n : Description) (i : EniNo) (s : SubnetNo) → n ≡ d → IsAccepted n → is_eni d i ≡ true → s ≡ subnet_of d i → is_subnet d s ≡ true
+subnet-lies d n i s same accepted lies is =
+    subst (λ (x : SubnetNo). is_subnet d x ≡ true) (sym is) ((accepted_numbers_are_in_range d (subst IsAccepted same accepted)).subnet_of_interface i lies)
+
+pub vpc-lies : (d n : Description) (s : SubnetNo) (v : VpcNo) → n ≡ d → IsAccepted n → is_subnet d s ≡ true → v ≡ vpc_of_subnet d s → is_vpc d v ≡ true
+vpc-lies d n s v same accepted lies is =
+    subst (λ (x : VpcNo). is_vpc d x ≡ true) (sym is) ((accepted_numbers_are_in_range d (subst IsAccepted same accepted)).vpc_of_subnet s lies)
