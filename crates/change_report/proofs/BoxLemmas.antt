@@ -1,8 +1,9 @@
 -- The boxes that are asked for: none is empty, and no two share a header.
-use Rattle.std.proofs.Common.{◌≡◌, ◌==◌, ◌++◌, ◌∷◌, ◌∙◌, [], All, AllPairs, Bool, IfSome, List, None, Option, Some, ap, arith, cond, false, get_or, map, refl, subst, suc, sym, true, ℕ}
+use Rattle.std.proofs.Common.{◌≡◌, ◌==◌, ◌∷◌, ◌∙◌, [], All, AllPairs, Bool, IfSome, List, None, Option, Some, ap, arith, cond, false, get_or, map, refl, subst, suc, sym, true, ℕ}
 use Rattle.std.proofs.lemmas.Bool.Decides.{nat_tests}
 use Rattle.std.proofs.lemmas.List.Elements.{All-append, All-cons, All-map, All-nil, All-head, All-tail}
 use Rattle.std.proofs.lemmas.List.Kept.{AllPairs-cons}
+use Rattle.vpc_base.proofs.Pairs.{AllPairs-joined}
 use Rattle.header_boxes.proofs.Held.{in_from_holds}
 use Rattle.header_boxes.specs.Boxes.{AreDisjoint, IsValid}
 use Rattle.header_boxes.specs.declared.boxes.Box5.{Box5}
@@ -92,14 +93,6 @@ disjoint_by_source pairs src dst b apart h one other =
     let a = in_from_holds h (sides_between pairs src dst) one in
     let c = in_from_holds h b other in
     apart h.src a.src.0 a.src.1 c.src.0 c.src.1
-
--- two lists, each item of the one disjoint from each of the other
-pub AllPairs-joined : {X : Type 0} (R : X → X → Type 0) (xs ys : List X) → AllPairs R xs → AllPairs R ys → All (λ x. All (R x) ys) xs → AllPairs R (xs ++ ys)
-AllPairs-joined R [] ys one other across = other
-AllPairs-joined R (x ∷ xs) ys one other across =
-    AllPairs-cons R x (xs ++ ys)
-    (All-append (R x) xs ys (λ k d lt. one 0 (suc k) d (omega arith) (omega arith)) (All-head (λ y. All (R y) ys) x xs across))
-    (AllPairs-joined R xs ys (λ i j d lt inside. one (suc i) (suc j) d (omega arith) (omega arith)) other (All-tail (λ y. All (R y) ys) x xs across))
 
 across_sources : (pairs : ReachPairs) (targets : List (ℕ × ℕ)) (src : ℕ × ℕ) (boxes : List Box5) → All (IsFromOther src) boxes
     → All (λ b. All (AreDisjoint b) boxes) (map (sides_between pairs src) targets)

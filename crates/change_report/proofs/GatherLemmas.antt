@@ -8,12 +8,12 @@ use Rattle.journey_changes.specs.Sent.{AreSentWell, IsToward, Sent, sent}
 use Rattle.journey_changes.specs.declared.changes.Change.{Change}
 use Rattle.journey_changes.specs.declared.fates.Toward.{Toward}
 use Rattle.ordered_cover.specs.declared.rows.Gathered.{Gathered}
-use Rattle.query_words.specs.ChangeQuery.{AreChangedEnds, IsChangedEnd}
+use Rattle.query_words.specs.ChangeQuery.{IsChangedEnd}
 use Rattle.query_words.specs.declared.changes.ChangeQuery.{ChangeQuery}
 use Rattle.query_words.specs.declared.changes.ChangedEnd.{ChangedEnd}
 use Rattle.vpc_laws.specs.Types.{Description, End}
 use Rattle.vpc_model.specs.Sound.{is_end}
-use Rattle.change_report.specs.Asked.{Comparison}
+use Rattle.change_report.specs.Asked.{Comparison, HasEnds}
 use Rattle.change_report.specs.Told.{sent_after, sent_before, toward_of}
 use Rattle.change_report.specs.Walked.{nowhere}
 
@@ -31,17 +31,17 @@ toward_after : (before after : Description) (goal : Option ChangedEnd) → IfSom
 toward_after before after None there = tt
 toward_after before after (Some goal) there = toward_well after goal.after there.after_is
 
-pub sent_well_before : (c : Comparison) (start : ChangedEnd) → AreChangedEnds c.before c.after c.query → IsChangedEnd c.before c.after start → AreSentWell (sent_before c start)
+pub sent_well_before : (c : Comparison) (start : ChangedEnd) → HasEnds c → IsChangedEnd c.before c.after start → AreSentWell (sent_before c start)
 sent_well_before c start ends there = record { start = there.before_is; toward = toward_before c.before c.after c.query.goal ends.goal }
 
-pub sent_well_after : (c : Comparison) (start : ChangedEnd) → AreChangedEnds c.before c.after c.query → IsChangedEnd c.before c.after start → AreSentWell (sent_after c start)
+pub sent_well_after : (c : Comparison) (start : ChangedEnd) → HasEnds c → IsChangedEnd c.before c.after start → AreSentWell (sent_after c start)
 sent_well_after c start ends there = record { start = there.after_is; toward = toward_after c.before c.after c.query.goal ends.goal }
 
 -- where there is no start none needs to be described
-pub from_nowhere_before : (c : Comparison) → AreChangedEnds c.before c.after c.query → AreSentWell (sent_before c nowhere)
+pub from_nowhere_before : (c : Comparison) → HasEnds c → AreSentWell (sent_before c nowhere)
 from_nowhere_before c ends = record { start = tt; toward = toward_before c.before c.after c.query.goal ends.goal }
 
-pub from_nowhere_after : (c : Comparison) → AreChangedEnds c.before c.after c.query → AreSentWell (sent_after c nowhere)
+pub from_nowhere_after : (c : Comparison) → HasEnds c → AreSentWell (sent_after c nowhere)
 from_nowhere_after c ends = record { start = tt; toward = toward_after c.before c.after c.query.goal ends.goal }
 
 -- ---- requests, by the parts of what is asked

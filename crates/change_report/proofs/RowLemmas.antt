@@ -8,16 +8,16 @@ use Rattle.header_boxes.specs.declared.rows.Row.{Row}
 use Rattle.journey_changes.proofs.Telling.{changes_are_tellable}
 use Rattle.journey_changes.specs.Telling.{IsTellable}
 use Rattle.journey_changes.specs.declared.changes.Change.{Change}
-use Rattle.query_words.specs.ChangeQuery.{AreChangedEnds, IsChangedEnd}
+use Rattle.query_words.specs.ChangeQuery.{IsChangedEnd}
 use Rattle.query_words.specs.declared.changes.ChangedEnd.{ChangedEnd}
 use Rattle.vpc_laws.specs.Types.{Header}
 use Rattle.vpc_model.specs.Accepted.{IsAccepted}
 use Rattle.change_report.proofs.GatherLemmas.{sent_well_after, sent_well_before}
-use Rattle.change_report.specs.Asked.{Comparison, boxes_at}
+use Rattle.change_report.specs.Asked.{Comparison, HasEnds, boxes_at}
 use Rattle.change_report.specs.Told.{change_in, cuts_in, sent_after, sent_before}
 
 pub rows_are_tellable : (c : Comparison) (start : ChangedEnd) (boxes : List Box5) (rows : List (Row Change)) → IsAccepted c.before → IsAccepted c.after
-    → AreChangedEnds c.before c.after c.query → IsChangedEnd c.before c.after start → AreRowsOver (change_in c start) (cuts_in c) boxes rows
+    → HasEnds c → IsChangedEnd c.before c.after start → AreRowsOver (change_in c start) (cuts_in c) boxes rows
     → All (λ r. IsTellable c.before c.after r.word) rows
 rows_are_tellable c start boxes rows first second ends there are k x below =
     let row = get_or rows k x in
@@ -27,7 +27,7 @@ rows_are_tellable c start boxes rows first second ends there are k x below =
     (are.word k x below low (holds_low row.part (valid_if_within row.part part.whole part.within)))
 
 -- those that are gathered from a start, all or a part, as they are handed on
-module _ (c : Comparison) (targets : List (ℕ × ℕ)) (start : ChangedEnd) (first : IsAccepted c.before) (second : IsAccepted c.after) (ends : AreChangedEnds c.before c.after c.query) (there : IsChangedEnd c.before c.after start) where
+module _ (c : Comparison) (targets : List (ℕ × ℕ)) (start : ChangedEnd) (first : IsAccepted c.before) (second : IsAccepted c.after) (ends : HasEnds c) (there : IsChangedEnd c.before c.after start) where
   pub whole_is_tellable : (rows given : List (Row Change)) (room : ℕ) → given ≡ rows → IsWholeOver (change_in c start) (cuts_in c) (boxes_at c targets start) room rows
       → All (λ r. IsTellable c.before c.after r.word) given
   whole_is_tellable rows given room is k =

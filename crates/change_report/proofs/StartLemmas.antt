@@ -1,11 +1,10 @@
 -- Where requests start: ends of either network.
-use Rattle.std.proofs.Common.{◌≡◌, ◌<◌, ◌∷◌, ◌&&◌, [], All, Bool, IfSome, List, None, Option, Some, arith, cond, false, filter, get_or, length, map, refl, subst, sym, true, ℕ}
-use Rattle.std.proofs.lemmas.Bool.{lt-ltb}
+use Rattle.std.proofs.Common.{◌≡◌, ◌∷◌, ◌&&◌, [], All, Bool, IfSome, List, None, Option, Some, cond, false, filter, get_or, length, map, refl, subst, sym, true, ℕ}
 use Rattle.std.proofs.lemmas.List.Elements.{All-append, All-cons, All-filter, All-map, All-nil}
-use Rattle.std.proofs.lemmas.List.FromFn.{get_or-map-range_with_len, length-map-range_with_len}
 use Rattle.std.proofs.lemmas.List.Sorted.{All-permutation}
 use Rattle.std.specs.List.{range_with_len}
 use Rattle.described_hosts.specs.Hosts.{hosts_of, id_of, is_host, numbered}
+use Rattle.described_hosts.proofs.HostLemmas.{numbers_are_described}
 use Rattle.query_words.specs.ChangeQuery.{IsChangedEnd, internet_in_both}
 use Rattle.query_words.specs.declared.changes.ChangedEnd.{ChangedEnd}
 use Rattle.vpc_laws.proofs.Numbering.{ids_are_found}
@@ -14,13 +13,6 @@ use Rattle.vpc_model.specs.Lookup.{eni_no, has_interface, interface_at}
 use Rattle.vpc_model.specs.Sound.{is_end, is_eni}
 use Rattle.vpc_model.specs.declared.places.End.TheVariants as ends
 use Rattle.change_report.specs.Asked.{AreAllStarts, AreHostsOfEither, from_after, from_before, host_with_id, hosts_of_either, is_goal, is_host_at, is_new, is_start, starts_among}
-
-numbers_are_described : (d : Description) → All (λ i. is_eni d i ≡ true) (map numbered (range_with_len 0 (length d.interfaces)))
-numbers_are_described d k x below =
-    let n = length d.interfaces in
-    let long = length-map-range_with_len numbered 0 n in
-    let within : k < n = omega (arith, long, below) in
-    subst (λ (i : EniNo). is_eni d i ≡ true) (sym (get_or-map-range_with_len numbered 0 n k k x within (omega arith))) (lt-ltb k n within)
 
 pub hosts_are_described : (d : Description) → All (λ i. is_eni d i ≡ true) (hosts_of d)
 hosts_are_described d = All-filter (λ (i : EniNo). is_host (interface_at d i)) (λ i. is_eni d i ≡ true) (map numbered (range_with_len 0 (length d.interfaces))) (numbers_are_described d)

@@ -5,13 +5,13 @@ use Rattle.command_job.specs.declared.status.Status.{Status}
 use Rattle.command_job.specs.declared.status.Status.TheVariants as ends
 use Rattle.listing_text.specs.Answered.{IsDecidedBy, IsTold, host_limit, status_by}
 use Rattle.listing_text.specs.Told.{FewCells as FewCellsOf, SomeTold}
-use Rattle.query_words.specs.ChangeQuery.{AreChangedEnds, change_query_of}
+use Rattle.query_words.specs.ChangeQuery.{change_query_of}
 use Rattle.query_words.specs.ReachQuery.{AreReachPairs}
 use Rattle.query_words.specs.declared.changes.ChangeQuery.{ChangeQuery}
 use Rattle.query_words.specs.declared.changes.ChangedEnd.{ChangedEnd}
 use Rattle.query_words.specs.declared.refusal.QueryRefusal.{QueryRefusal}
 use Rattle.vpc_laws.specs.Types.{Description, Header}
-use Rattle.change_report.specs.Asked.{AreStarts, AreTargets, Comparison, comparison, hosts_of_either}
+use Rattle.change_report.specs.Asked.{AreStarts, AreTargets, Comparison, HasEnds, comparison, hosts_of_either}
 use Rattle.change_report.specs.Told.{wanted}
 use Rattle.change_report.specs.Texts.{part_of, part_text, start_id, whole_of, whole_text}
 
@@ -42,7 +42,7 @@ pub record IsAnswerTo (c : Comparison) (words : List (List ℕ)) (status : Statu
 
 -- a query whose ends are described and whose sides are not empty, with the words that gave it
 pub record CanBeTold {T : Type 0} (c : Comparison) (words : List T) : Type 0 where
-  pub ends_are : AreChangedEnds c.before c.after c.query
+  pub ends_are : HasEnds c
   pub pairs_are : AreReachPairs c.query.pairs
   pub counted : 3 ≤ length words
 

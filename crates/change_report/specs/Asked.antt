@@ -7,7 +7,7 @@ use Rattle.std.specs.Prelude.{◌≡◌, ◌==◌, ◌&&◌, ◌++◌, ◌∷◌
 use Rattle.described_hosts.specs.Hosts.{hosts_of, id_of, is_host}
 use Rattle.header_boxes.specs.declared.boxes.Box5.{Box5}
 use Rattle.listing_text.specs.Sides.{AreEachAlone, alone, sides_between}
-use Rattle.query_words.specs.ChangeQuery.{has_source, internet_in_both, primary_in}
+use Rattle.query_words.specs.ChangeQuery.{AreChangedEnds, has_source, internet_in_both, primary_in}
 use Rattle.query_words.specs.Sides.{all_addresses}
 use Rattle.query_words.specs.declared.changes.ChangeQuery.{ChangeQuery}
 use Rattle.query_words.specs.declared.changes.ChangedEnd.{ChangedEnd}
@@ -26,6 +26,10 @@ pub record Comparison : Type 0 where
 
 abbrev pub comparison : Description → Description → ChangeQuery → Comparison
 comparison before after query = record { before = before; after = after; query = query }
+
+-- the query's ends are described where they are asked for
+abbrev pub HasEnds : Comparison → Type 0
+HasEnds c = AreChangedEnds c.before c.after c.query
 
 -- ---- ends of either network
 

@@ -10,6 +10,7 @@ use command_job::{Answer, deciders_of};
 use fabric::Fabric;
 use query_words::ChangeQuery;
 use reference_check::Network;
+use security_groups::AlikeGroups;
 use std::alloc::Global;
 use std::mem;
 use vpc_base::{Header, NoMemory};
@@ -43,6 +44,14 @@ fn answer_by<J: Comparing>(
     ensures { IfOk result (λ a.
         J.answers job.now (comparison before.now after.now query.now) a.status a.text.items) }
 {
+    // Once for all parts that are asked about.
+    let alike = AlikeGroups::of(
+        alloc,
+        before.network(),
+        before.groups(),
+        after.network(),
+        after.groups(),
+    )?;
     let kinds = Kinds::of(alloc, before.network())?;
     let decide = Box::new(
         alloc,
@@ -67,6 +76,7 @@ fn answer_by<J: Comparing>(
         },
         before_deciders: &before_deciders,
         after_deciders: &after_deciders,
+        alike: &alike,
     };
     job.answer_asked(alloc, &asked)
 }

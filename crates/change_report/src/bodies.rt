@@ -2,9 +2,9 @@
 ghost use Rattle.std.specs.Prelude.{◌≡◌, ◌≤◌, ◌+◌, ◌-◌, ◌++◌, All, IfOk, OnOk, length};
 ghost use Rattle.journey_changes.specs.Telling.{IsTellable};
 ghost use Rattle.listing_text.specs.Bodies.{IsAdded, IsBody};
-ghost use Rattle.query_words.specs.ChangeQuery.{AreChangedEnds, IsChangedEnd};
+ghost use Rattle.query_words.specs.ChangeQuery.{IsChangedEnd};
 ghost use Rattle.query_words.specs.ReachQuery.{AreReachPairs};
-ghost use Rattle.change_report.specs.Asked.{AreTargets};
+ghost use Rattle.change_report.specs.Asked.{AreTargets, HasEnds};
 ghost use Rattle.change_report.specs.Texts.{lines_at};
 ghost use Rattle.change_report.specs.Told.{wanted};
 ghost use Rattle.change_report.specs.Walked.{AreWalksOf};
@@ -68,7 +68,7 @@ fn add_start(
     body: &mut Body,
 ) -> Result<(), NoMemory>
     requires walks { AreWalksOf compared.now walks.old.before.sent walks.old.after.sent }
-    requires ends { AreChangedEnds compared.now.before compared.now.after compared.now.query }
+    requires ends { HasEnds compared.now }
     requires pairs { AreReachPairs compared.now.query.pairs }
     requires targets { AreTargets compared.now targets.now }
     requires start { IsChangedEnd compared.now.before compared.now.after start }
@@ -100,7 +100,7 @@ fn body_by(
     starts: &[ChangedEnd],
 ) -> Result<Body, NoMemory>
     requires walks { AreWalksOf compared.now walks.old.before.sent walks.old.after.sent }
-    requires ends { AreChangedEnds compared.now.before compared.now.after compared.now.query }
+    requires ends { HasEnds compared.now }
     requires pairs { AreReachPairs compared.now.query.pairs }
     requires targets { AreTargets compared.now targets.now }
     requires starts { All (IsChangedEnd compared.now.before compared.now.after) starts.now }
@@ -128,7 +128,7 @@ pub fn body_of(
     targets: &[(u32, u32)],
     starts: &[ChangedEnd],
 ) -> Result<Body, NoMemory>
-    requires ends { AreChangedEnds asked.now.compared.before asked.now.compared.after asked.now.compared.query }
+    requires ends { HasEnds asked.now.compared }
     requires pairs { AreReachPairs asked.now.compared.query.pairs }
     requires targets { AreTargets asked.now.compared targets.now }
     requires starts { All (IsChangedEnd asked.now.compared.before asked.now.compared.after) starts.now }

@@ -3,10 +3,11 @@ ghost use Rattle.std.specs.Prelude.{◌≡◌, All, AllPairs, IfOk, Some, option
 ghost use Rattle.box_gather.specs.Over.{IsGatheredOver};
 ghost use Rattle.header_boxes.specs.Boxes.{AreDisjoint, IsValid};
 ghost use Rattle.listing_text.specs.Bodies.{IsGatheredFrom};
-ghost use Rattle.query_words.specs.ChangeQuery.{AreChangedEnds, IsChangedEnd};
+ghost use Rattle.query_words.specs.ChangeQuery.{IsChangedEnd};
 ghost use Rattle.query_words.specs.ReachQuery.{AreReachPairs};
+ghost use Rattle.security_groups.specs.Index.{HasRulesOf};
 ghost use Rattle.vpc_model.specs.Appliances.{appliances_of};
-ghost use Rattle.change_report.specs.Asked.{AreTargets};
+ghost use Rattle.change_report.specs.Asked.{AreTargets, HasEnds};
 ghost use Rattle.change_report.specs.Told.{change_in, cuts_in, sent_after, sent_before, toward_of, wanted};
 ghost use Rattle.change_report.specs.Walked.{AreWalksOf, nowhere};
 
@@ -17,18 +18,22 @@ use box_gather::{Gathered, gather_over};
 use header_boxes::Box5;
 use journey_changes::{Change, ChangeProbe, FateProbe, Toward};
 use query_words::ChangedEnd;
+use security_groups::AlikeGroups;
 use std::alloc::Global;
 use vpc_base::NoMemory;
 use vpc_model::End;
 
-/// A query about two networks, and what the appliances that they describe forward.
+/// A query about two networks, what the appliances that they describe forward, and which groups of both let in the same.
 #[derive(Drop)]
 pub struct Asked<'a> {
     pub compared: Compared<'a>,
     pub before_deciders: &'a Deciders,
     pub after_deciders: &'a Deciders,
+    pub alike: &'a AlikeGroups<'a>,
     ghost described_before: { before_deciders.now.appliances ≡ appliances_of compared.before },
     ghost described_after: { after_deciders.now.appliances ≡ appliances_of compared.after },
+    ghost rules_before: { HasRulesOf compared.before alike.now.one },
+    ghost rules_after: { HasRulesOf compared.after alike.now.other },
 }
 
 // ---- where requests are to arrive
@@ -65,7 +70,7 @@ pub fn toward_after(goal: Option<ChangedEnd>) -> Toward
 // ---- what is asked
 
 fn probe_before<'a>(asked: &Asked<'a>) -> FateProbe<'a>
-    requires { AreChangedEnds asked.now.compared.before asked.now.compared.after asked.now.compared.query }
+    requires { HasEnds asked.now.compared }
     ensures { result.sent ≡ sent_before asked.now.compared nowhere }
 {
     FateProbe::of(
@@ -77,7 +82,7 @@ fn probe_before<'a>(asked: &Asked<'a>) -> FateProbe<'a>
 }
 
 fn probe_after<'a>(asked: &Asked<'a>) -> FateProbe<'a>
-    requires { AreChangedEnds asked.now.compared.before asked.now.compared.after asked.now.compared.query }
+    requires { HasEnds asked.now.compared }
     ensures { result.sent ≡ sent_after asked.now.compared nowhere }
 {
     FateProbe::of(
@@ -91,10 +96,10 @@ fn probe_after<'a>(asked: &Asked<'a>) -> FateProbe<'a>
 /// The walks of a query's requests in both networks, toward the goal, as it stands in each, or toward any end. They are made
 /// once, since each has room for all that a walk may leave behind, and turned to one start after the other.
 pub fn walks_of<'a>(asked: &Asked<'a>) -> ChangeProbe<'a>
-    requires { AreChangedEnds asked.now.compared.before asked.now.compared.after asked.now.compared.query }
+    requires { HasEnds asked.now.compared }
     ensures { AreWalksOf asked.now.compared result.before.sent result.after.sent }
 {
-    ChangeProbe::of(probe_before(asked), probe_after(asked))
+    ChangeProbe::of(probe_before(asked), probe_after(asked), asked.alike)
 }
 
 // What changes for the headers of boxes, which are sent from a start in both networks.
@@ -107,7 +112,7 @@ fn gather_from(
     room: u32,
 ) -> Result<Gathered<Change>, NoMemory>
     requires walks { AreWalksOf compared.now walks.old.before.sent walks.old.after.sent }
-    requires ends { AreChangedEnds compared.now.before compared.now.after compared.now.query }
+    requires ends { HasEnds compared.now }
     requires start { IsChangedEnd compared.now.before compared.now.after start }
     requires valid { All IsValid boxes.now }
     requires disjoint { AllPairs AreDisjoint boxes.now }
@@ -129,7 +134,7 @@ pub fn gather_at(
     room: u32,
 ) -> Result<Gathered<Change>, NoMemory>
     requires walks { AreWalksOf compared.now walks.old.before.sent walks.old.after.sent }
-    requires ends { AreChangedEnds compared.now.before compared.now.after compared.now.query }
+    requires ends { HasEnds compared.now }
     requires pairs { AreReachPairs compared.now.query.pairs }
     requires start { IsChangedEnd compared.now.before compared.now.after start }
     requires targets { AreTargets compared.now targets.now }

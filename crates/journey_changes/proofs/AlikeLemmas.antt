@@ -1,5 +1,5 @@
 -- Nothing changes for requests that come to interfaces which let in the same.
-use Rattle.std.proofs.Common.{◌≡◌, ◌∙◌, ◌<◌, ◌^◌, ◌&&◌, ◌∷◌, [], Bool, IfSome, List, None, Ok, Option, Some, ap, cond, false, not, refl, subst, sym, true, ℕ}
+use Rattle.std.proofs.Common.{◌≡◌, ◌∙◌, ◌&&◌, ◌∷◌, [], Bool, IfSome, List, None, Ok, Option, Some, ap, cond, false, not, refl, subst, sym, true, ℕ}
 use Rattle.std.specs.List.{list_any}
 use Rattle.std.specs.Prelude.{◌==◌, is_some}
 use Rattle.box_images.proofs.BodyLemmas.{body_through}
@@ -19,7 +19,8 @@ use Rattle.header_boxes.proofs.BoxLaws.{within_holds}
 use Rattle.header_boxes.proofs.CellNumbers.{aligned_through}
 use Rattle.header_boxes.specs.Boxes.{holds, low_of}
 use Rattle.header_boxes.specs.declared.boxes.Box5.{Box5}
-use Rattle.security_groups.specs.Index.{GroupLists, HasRulesOf, allowed}
+use Rattle.security_groups.specs.Alike.{BothGroups, GroupsLetInSame}
+use Rattle.security_groups.specs.Index.{GroupLists, HasRulesOf}
 use Rattle.vpc_base.specs.Cuts.{AreAmong}
 use Rattle.vpc_base.specs.declared.headers.Dir.TheVariants as dirs
 use Rattle.vpc_base.specs.declared.headers.Header.{Header}
@@ -27,7 +28,6 @@ use Rattle.vpc_base.specs.declared.headers.Label.TheVariants as labels
 use Rattle.vpc_laws.specs.Types.{Description, End, EniNo, Interface, Phase, Stop}
 use Rattle.vpc_model.specs.Appliances.{appliances_of}
 use Rattle.vpc_model.specs.Connections.{Connection, open_passing, passing_groups}
-use Rattle.vpc_model.specs.Filter.{far_address}
 use Rattle.vpc_model.specs.Groups.{first_rule}
 use Rattle.vpc_model.specs.Lookup.{has_address, interface_at}
 use Rattle.vpc_model.specs.Sound.{is_eni}
@@ -63,6 +63,10 @@ come_if q d b s sides (Some x) is same toward k = subst (λ (r : Sent). ComeTo r
 
 -- ---- interfaces that let in the same
 
+-- an index has the rules of the network that requests are sent in, whatever these are
+pub rules_as : (q r : Sent) (groups : GroupLists) → q.network ≡ r.network → HasRulesOf r.network groups → HasRulesOf q.network groups
+rules_as q r groups same rules = subst (λ (d : Description). HasRulesOf d groups) (sym same) rules
+
 passed-by : (conns : List Connection) (c : Connection) (rule : Option RuleRef) → is_passed (open_passing conns c rule) ≡ is_some rule
 passed-by conns c None = refl
 passed-by conns c (Some r) = refl
@@ -79,14 +83,14 @@ passes d i h (g ∷ gs) = passed-by [] (record { eni = i; dir = dirs.Inward; hea
 five : (a b c x y k : Bool) (p q r s t u : Bool) → a ≡ x → b ≡ y → c ≡ k → p ≡ q → r ≡ s → (not a && (not (b && not c) && passed p r)) ≡ (not x && (not (y && not k) && passed q s))
 five a b c x y k p q r s t u e1 e2 e3 e4 e5 = cc
 
-pub lets_alike : (d c : Description) (e i : EniNo) (a b : GroupLists) → AskAlike (interface_at d e) (interface_at c i) → HasRulesOf d a → HasRulesOf c b → is_eni d e ≡ true → is_eni c i ≡ true
-    → ((h : Header) → far_address dirs.Inward h < 2 ^ 32 → allowed a e dirs.Inward h ≡ allowed b i dirs.Inward h) → LetInAlike d e c i
-lets_alike d c e i a b rows one other there here same h fits =
+pub lets_alike : (d c : Description) (e i : EniNo) (both : BothGroups) → AskAlike (interface_at d e) (interface_at c i) → HasRulesOf d both.one → HasRulesOf c both.other → is_eni d e ≡ true → is_eni c i ≡ true
+    → GroupsLetInSame both e i → LetInAlike d e c i
+lets_alike d c e i both rows one other there here same h fits =
     let row = interface_at d e in
     let far = interface_at c i in
     let addressed : has_address row h.dst ≡ has_address far h.dst = among row far rows.addresses in
     let ruled : is_some (first_rule d row dirs.Inward h) ≡ is_some (first_rule c far dirs.Inward h)
-    = ap is_some (sym (one.rules e dirs.Inward h there fits.src) ∙ same h fits.src ∙ other.rules i dirs.Inward h here fits.src) in
+    = ap is_some (sym (one.rules e dirs.Inward h there fits.src)) ∙ same h fits.src ∙ ap is_some (other.rules i dirs.Inward h here fits.src) in
     ap (λ (x : Bool). not row.idle && (not (row.checked && not (has_address row h.dst)) && x)) (passes d e h row.groups)
     ∙ (five row.idle row.checked (has_address row h.dst) far.idle far.checked (has_address far h.dst) (has_groups row.groups) (has_groups far.groups)
     (is_some (first_rule d row dirs.Inward h)) (is_some (first_rule c far dirs.Inward h)) true true rows.idle rows.checked addressed rows.groups ruled

@@ -1,14 +1,13 @@
 -- Changes can be told: the ends that are reached are described, and the stops have texts.
-use Rattle.std.proofs.Common.{◌≡◌, [], Bool, Err, IfSome, None, Ok, Option, Some, ap, cond, false, refl, subst, true}
-use Rattle.box_walk.proofs.Telling.{start-sound}
+use Rattle.std.proofs.Common.{◌≡◌, [], Bool, Err, IfSome, None, Ok, Option, Some, ap, cond, false, subst, true}
 use Rattle.box_walk.specs.Journeys.{journey_after, journey_by, journey_of}
 use Rattle.box_walk.specs.declared.journeys.Journey.{Journey}
 use Rattle.box_walk.specs.declared.journeys.Journey.TheVariants as journeys
+use Rattle.box_walk.proofs.JourneyLemmas.{same-itself}
 use Rattle.vpc_base.specs.Header.{reply_of}
 use Rattle.vpc_base.specs.declared.headers.Header.{Header}
 use Rattle.vpc_base.specs.declared.headers.Label.TheVariants as labels
-use Rattle.vpc_laws.proofs.Same.{ends_are_told_apart}
-use Rattle.vpc_laws.proofs.Telling.{verdicts_are_told, walks_are_sound}
+use Rattle.vpc_laws.proofs.Telling.{start-sound, verdicts_are_told, walks_are_sound}
 use Rattle.vpc_laws.specs.Sound.{EndsWell, IsTold}
 use Rattle.vpc_laws.specs.Types.{Description, End, Outcome, Verdict}
 use Rattle.vpc_model.specs.Accepted.{IsAccepted}
@@ -41,14 +40,11 @@ by_verdict : (d : Description) (end : End) (v : Verdict) → is_end d end ≡ tr
 by_verdict d end verdicts.Through there told = there
 by_verdict d end (verdicts.Stopped phase s) there told = told
 
-same_itself : (e : End) → same_end e e ≡ true
-same_itself e = let told = ends_are_told_apart e e in told.1 refl
-
 -- a request that has arrived at an end is judged as one toward it
 arrived : (d : Description) (a : Appliances) (start end : End) (h k : Header) (w : Walk)
     → verdict_of_request d a start end h w (outcomes.Arrived end k) ≡ verdict_of_arrival d a start end h w (reply_of k)
 arrived d a start end h k w =
-    ap (λ (b : Bool). cond b (verdict_of_arrival d a start end h w (reply_of k)) (verdicts.Stopped phases.Request (stops.WrongPlace end))) (same_itself end)
+    ap (λ (b : Bool). cond b (verdict_of_arrival d a start end h w (reply_of k)) (verdicts.Stopped phases.Request (stops.WrongPlace end))) (same-itself end)
 
 by_place : (d : Description) (a : Appliances) (start end : End) (h k : Header) (w : Walk) (back : Bool) → is_end d end ≡ true
     → IsTold d (verdict_of_arrival d a start end h w (reply_of k))

@@ -1,11 +1,12 @@
 // Interfaces of two networks that let in the same.
 ghost use Rattle.std.specs.Prelude.{◌≡◌, IsTrue};
 ghost use Rattle.journey_changes.specs.Alike.{AskAlike, LetInAlike, has_groups};
+ghost use Rattle.security_groups.specs.Index.{HasRulesOf};
 ghost use Rattle.vpc_model.specs.Sound.{is_eni};
 
 use fabric::Fabric;
 use fabric::rows::interface_at;
-use vpc_base::Dir;
+use security_groups::AlikeGroups;
 use vpc_model::{EniNo, Interface};
 
 fn has_groups(row: &Interface) -> bool
@@ -50,11 +51,12 @@ fn ask_alike(one: &Interface, other: &Interface) -> bool
 }
 
 /// Whether an interface of one network lets in what one of another does, as far as equal rows and rules tell.
-pub fn let_in_alike(f: &Fabric, e: EniNo, g: &Fabric, i: EniNo) -> bool
+pub fn let_in_alike(f: &Fabric, e: EniNo, g: &Fabric, i: EniNo, groups: &AlikeGroups) -> bool
     requires one { IsTrue (is_eni f.now e) }
     requires other { IsTrue (is_eni g.now i) }
+    requires rules { HasRulesOf f.now groups.now.one }
+    requires other_rules { HasRulesOf g.now groups.now.other }
     ensures { IsTrue result → LetInAlike f.now e g.now i }
 {
-    ask_alike(interface_at(f, e), interface_at(g, i))
-        && f.groups().allows_same(e, g.groups(), i, Dir::Inward)
+    ask_alike(interface_at(f, e), interface_at(g, i)) && groups.let_in_same(e, i)
 }

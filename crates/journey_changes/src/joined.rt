@@ -4,6 +4,7 @@ ghost use Rattle.vpc_base.specs.Cuts.{AreAmong};
 ghost use Rattle.vpc_base.specs.declared.headers.Header.{Header};
 ghost use Rattle.header_boxes.specs.Boxes.{IsValid, holds, low_of};
 ghost use Rattle.box_images.specs.Answers.{Answers};
+ghost use Rattle.security_groups.specs.Index.{HasRulesOf};
 ghost use Rattle.journey_changes.specs.Alike.{ComeTo};
 ghost use Rattle.journey_changes.specs.Changes.{change_by, change_cuts, change_of};
 ghost use Rattle.journey_changes.specs.Joined.{closed_at, opened_at};
@@ -17,6 +18,7 @@ use box_images::{Field, Image, Part};
 use box_walk::Arrivals;
 use header_boxes::Box5;
 use ordered_cover::Probe;
+use security_groups::AlikeGroups;
 use vpc_model::End;
 
 // Ports fewer than these are asked part by part.
@@ -51,23 +53,41 @@ fn same_image(one: &Image, other: &Image) -> bool
 pub struct ChangeProbe<'a> {
     before: FateProbe<'a>,
     after: FateProbe<'a>,
+    groups: &'a AlikeGroups<'a>,
+    ghost rules_before: { HasRulesOf before.sent.network groups.now.one },
+    ghost rules_after: { HasRulesOf after.sent.network groups.now.other },
 }
 
 impl<'a> Drop for ChangeProbe<'a> {
     fn drop(self) {
-        let ChangeProbe { before, after } = self;
+        let ChangeProbe {
+            before,
+            after,
+            groups: _,
+        } = self;
         drop(before);
         drop(after);
     }
 }
 
 impl<'a> ChangeProbe<'a> {
-    /// The probe for requests that one probe follows in the first network, and the other in the second.
-    pub fn of(before: FateProbe<'a>, after: FateProbe<'a>) -> ChangeProbe<'a>
+    /// The probe for requests that one probe follows in the first network, and the other in the second, where the groups of
+    /// both were compared.
+    pub fn of(
+        before: FateProbe<'a>,
+        after: FateProbe<'a>,
+        groups: &'a AlikeGroups<'a>,
+    ) -> ChangeProbe<'a>
+        requires rules_before { HasRulesOf before.sent.network groups.now.one }
+        requires rules_after { HasRulesOf after.sent.network groups.now.other }
         ensures before { result.before.sent ≡ before.entry.sent }
         ensures after { result.after.sent ≡ after.entry.sent }
     {
-        ChangeProbe { before, after }
+        ChangeProbe {
+            before,
+            after,
+            groups,
+        }
     }
 
     /// Asks about requests from other starts from here on, by the same moments.
@@ -134,6 +154,7 @@ impl<'a> ChangeProbe<'a> {
                 one.end,
                 self.after.fabric(),
                 other.end,
+                self.groups,
             ),
         }
     }
@@ -161,7 +182,7 @@ impl<'a> ChangeProbe<'a> {
             (change_of self.now.before.sent self.now.after.sent) sides.now
             (record { body = b; told = None })) }
     {
-        // To compare all rules takes longer than to ask the few that divide a part of few ports.
+        // To follow requests in both networks takes longer than to ask the few rules that divide a part of few ports.
         if sides.q.1 - sides.q.0 < FEW_PORTS {
             return None;
         }

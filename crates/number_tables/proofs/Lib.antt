@@ -3,3 +3,4 @@ pub mod Among
 pub mod KeyLemmas
 pub mod Following
 pub mod Between
+pub mod Pairs

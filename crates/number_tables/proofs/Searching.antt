@@ -1,24 +1,14 @@
 -- The first entry with a key, among entries that are sorted by key.
 use Rattle.std.proofs.Common.{◌≡◌, ◌∙◌, ◌&&◌, ◌∷◌, ◌<◌, ◌≤◌, ◌==◌, ◌⊎◌, [], ℕ, Bool, List, None, Some, ap, arith, false, find, inl, inr, length, nat_lt, not, option_map, refl, slice_index_or, subst, suc, sym, true, zero}
-use Rattle.std.specs.List.{filter}
 use Rattle.std.specs.List.Sorted.{IsNonDecreasingBy, IsPartitionPoint, IsStableByKey, ties}
 use Rattle.std.specs.Ordering.{is_lt, nat_cmp}
-use Rattle.std.proofs.lemmas.Bool.{both_ways, cases_Bool, cases_lt, eq-eqb, false_from_ne_true, ltb-false, ltb-true, ne_eqb}
+use Rattle.std.proofs.lemmas.Bool.{cases_lt, eq-eqb, ltb-false, ltb-true, ne_eqb}
 use Rattle.std.proofs.lemmas.Bool.Decides.{nat_tests}
+use Rattle.vpc_base.proofs.Tests.{find-kept}
 use Rattle.number_tables.specs.declared.tables.Entry.{Entry}
 use Rattle.number_tables.specs.Entries.{value_at}
 
 -- ---- searches
-
-pub find-kept : {X : Type 0} (p d : X → Bool) → ((x : X) → p x ≡ true → d x ≡ true) → (xs : List X) → find p (filter d xs) ≡ find p xs
-find-kept p d implies [] = refl
-find-kept p d implies (x ∷ xs) =
-    elim (cases_Bool (d x)) [
-      | inl kept ↦ elim (cases_Bool (p x)) [ inl passes ↦ rw (kept, passes) refl | inr fails ↦ rw (kept, fails) (find-kept p d implies xs) ]
-      | inr dropped ↦
-          let fails : p x ≡ false = false_from_ne_true (p x) (λ passes. both_ways (d x) dropped (implies x passes)) in
-          rw (dropped, fails) (find-kept p d implies xs)
-    ]
 
 pub find-first : {X : Type 0} (p : X → Bool) (xs : List X) (n : ℕ) (d : X) → n < length xs → ((i : ℕ) → i < n → p (slice_index_or xs i d) ≡ false) → p (slice_index_or xs n d) ≡ true
     → find p xs ≡ Some (slice_index_or xs n d)

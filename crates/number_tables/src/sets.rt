@@ -1,7 +1,8 @@
 // Sets of numbers.
-ghost use Rattle.std.specs.Prelude.{◌==◌, ◌≡◌, ◌≤◌, IsPermutation, ℕ};
+ghost use Rattle.std.specs.Prelude.{◌==◌, ◌≡◌, ◌≤◌, IsPermutation, IsTrue, ℕ};
 ghost use Rattle.std.specs.List.{list_any};
 ghost use Rattle.std.specs.List.Sorted.{IsNonDecreasing};
+ghost use Rattle.number_tables.specs.Above.{AreAsFarAbove};
 
 use std::marker::Model;
 
@@ -18,6 +19,23 @@ fn until(numbers: &[u64], last: u64) -> &[u64]
     ensures { (k : ℕ) → k ≤ last → list_any (λ n. n == k) result.now ≡ list_any (λ n. n == k) numbers.now }
 {
     &numbers[..numbers.partition_point(|n| *n <= last)]
+}
+
+// Whether the numbers of one list are as far above a number as those of another are above another number.
+fn are_as_far_above(first: u64, numbers: &[u64], other_first: u64, others: &[u64]) -> bool
+    ensures { IsTrue result → AreAsFarAbove first numbers.now other_first others.now }
+{
+    if numbers.len() != others.len() {
+        return false;
+    }
+    for k in 0..numbers.len() {
+        // As far above: the sums are equal, and sums of 128 bits don't wrap.
+        let one = u128::from(numbers[k]) + u128::from(other_first);
+        if one != u128::from(others[k]) + u128::from(first) {
+            return false;
+        }
+    }
+    true
 }
 
 /// A set of numbers. Contracts see them in ascending order.
@@ -44,7 +62,7 @@ impl Model for NumberSet {
 }
 
 impl NumberSet {
-    ghost use Rattle.std.specs.Prelude.{◌==◌, ◌≤◌, IsTrue, ℕ};
+    ghost use Rattle.std.specs.Prelude.{◌==◌, ◌+◌, ◌<◌, ◌^◌, ◌≤◌, IsTrue, ℕ};
     ghost use Rattle.std.specs.List.{list_any};
     ghost use Rattle.std.specs.List.Sorted.{IsNonDecreasing};
     ghost use Rattle.number_tables.specs.Next.{IsNext};
@@ -66,12 +84,17 @@ impl NumberSet {
         &self.numbers[below..]
     }
 
-    /// Whether another set has the same numbers from one to another, both included. It compares these, and finds them by a search.
-    pub fn is_same_between(&self, other: &NumberSet, first: u64, last: u64) -> bool
-        ensures { IsTrue result → (k : ℕ) → first ≤ k → k ≤ last
-            → list_any (λ n. n == k) self.now ≡ list_any (λ n. n == k) other.now }
+    /// Whether another set has the same numbers from another one on, up to `most` more, as this one has from the first on. It
+    /// compares these, and finds them by a search.
+    pub fn is_same_above(&self, first: u64, other: &NumberSet, other_first: u64, most: u64) -> bool
+        requires one { first + most < 2 ^ 64 }
+        requires other { other_first + most < 2 ^ 64 }
+        ensures { IsTrue result → (k : ℕ) → k ≤ most
+            → list_any (λ n. n == first + k) self.now ≡ list_any (λ n. n == other_first + k) other.now }
     {
-        until(self.from(first), last) == until(other.from(first), last)
+        let numbers = until(self.from(first), first + most);
+        let others = until(other.from(other_first), other_first + most);
+        are_as_far_above(first, numbers, other_first, others)
     }
 
     /// Whether the number is there. It reads about log2 n numbers.

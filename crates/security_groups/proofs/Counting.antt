@@ -5,6 +5,10 @@ use Rattle.std.proofs.lemmas.Bool.{cases_Bool, or_from}
 use Rattle.std.proofs.lemmas.List.{get_or-map, take-map}
 use Rattle.std.proofs.lemmas.List.Elements.{Contains-get_or}
 use Rattle.std.proofs.lemmas.Map.Keys.{IsDistinct-head, IsDistinct-tail}
+use Rattle.std.proofs.Math.Bool.{or-false}
+use Rattle.vpc_base.proofs.Bytes.{bytes_eq-comm, bytes_self, same_bytes}
+use Rattle.vpc_base.proofs.Members.{AllByRecursion-at, member-list_any, row-member}
+use Rattle.vpc_base.proofs.Positions.{position-at}
 use Rattle.vpc_model.specs.declared.numbers.GroupNo.{GroupNo}
 use Rattle.vpc_model.specs.declared.numbers.VpcNo.{VpcNo}
 use Rattle.vpc_model.specs.declared.rows.Description.{Description}
@@ -16,13 +20,10 @@ use Rattle.vpc_model.specs.Groups.{are_peers, reference_counts}
 use Rattle.vpc_model.specs.Lookup.{group_at, group_of_id, has_vpc, no_group, vpc_at, vpc_no}
 use Rattle.vpc_model.specs.Sound.{is_vpc}
 use Rattle.vpc_laws.proofs.Accepting.{accepted_has_all_named, accepted_has_nothing_twice}
-use Rattle.vpc_laws.proofs.Members.{AllByRecursion-at, member-list_any}
-use Rattle.vpc_laws.proofs.Numbering.{accepted_numbers_are_own, bytes_self, position-at, row-member, same_bytes}
-use Rattle.reference_check.proofs.Maps.{bytes_eq_swap}
+use Rattle.vpc_laws.proofs.Numbering.{accepted_numbers_are_own}
 use Rattle.security_groups.specs.Peers.{ArePeers, are_joined}
 use Rattle.security_groups.specs.Resolved.{counted}
 use Rattle.security_groups.proofs.Numbered.{position-cons}
-use Rattle.security_groups.proofs.OnceEach.{or_false}
 use Rattle.security_groups.proofs.PeerPairs.{joined-is}
 use Rattle.security_groups.proofs.Steps.{map-next}
 
@@ -34,7 +35,7 @@ is_new [] i d differ within = absurd (omega arith)
 is_new (x ∷ xs) zero d differ within = refl
 is_new (x ∷ xs) (suc i) d differ within =
     let apart = AllByRecursion-at (λ y. bytes_eq x y ≡ false) xs (get_or xs i d) (IsDistinct-head bytes_eq x xs differ) (Contains-get_or xs i d (omega arith)) in
-    or_from (bytes_eq (get_or xs i d) x) (list_any (bytes_eq (get_or xs i d)) (take i xs)) (bytes_eq_swap (get_or xs i d) x ∙ apart) (is_new xs i d (IsDistinct-tail bytes_eq x xs differ) (omega arith))
+    or_from (bytes_eq (get_or xs i d) x) (list_any (bytes_eq (get_or xs i d)) (take i xs)) (bytes_eq-comm (get_or xs i d) x ∙ apart) (is_new xs i d (IsDistinct-tail bytes_eq x xs differ) (omega arith))
 
 -- the id of a prefix list isn't among the earlier ones
 pub list-is_new : (d : Description) (i : ℕ) (l : PrefixList) → IsAccepted d → i < length d.lists → l ≡ get_or d.lists i l → list_any (bytes_eq l.id) (map (λ (x : PrefixList). x.id) (take i d.lists)) ≡ false
@@ -66,7 +67,7 @@ lists-next d i l bytes now next fresh accepted within is same so_far tells added
 -- none after it has its id
 no-other : (p : Group → Bool) (id : List ℕ) (gs : List Group) → AllByRecursion (λ (y : List ℕ). bytes_eq id y ≡ false) (map (λ (g : Group). g.id) gs) → list_any (λ (g : Group). bytes_eq g.id id && p g) gs ≡ false
 no-other p id [] differ = refl
-no-other p id (g ∷ gs) differ = rw (bytes_eq_swap g.id id, differ.0) (no-other p id gs differ.1)
+no-other p id (g ∷ gs) differ = rw (bytes_eq-comm g.id id, differ.0) (no-other p id gs differ.1)
 
 -- so a test of those with an id is the test of the one that is found
 only-found : (p : Group → Bool) (id : List ℕ) (gs : List Group) (k : ℕ) → IsDistinct bytes_eq (map (λ (g : Group). g.id) gs) → position (λ (g : Group). bytes_eq g.id id) gs ≡ Some k
@@ -80,7 +81,7 @@ only-found p id (g ∷ gs) k differ found =
           let same : g.id ≡ id = same_bytes g.id id here in
           let apart = IsDistinct-head bytes_eq g.id (map (λ (x : Group). x.id) gs) differ in
           let rest = no-other p id gs (subst (λ (i : List ℕ). AllByRecursion (λ (y : List ℕ). bytes_eq i y ≡ false) (map (λ (x : Group). x.id) gs)) same apart) in
-          rw (here, rest, ← first) (or_false (p g))
+          rw (here, rest, ← first) (or-false (p g))
       | inr other ↦
           let at : option_map (λ j. suc j) (position (λ (x : Group). bytes_eq x.id id) gs) ≡ Some k =
           subst (λ (b : Bool). cond b (Some 0) (option_map (λ j. suc j) (position (λ (x : Group). bytes_eq x.id id) gs)) ≡ Some k) other (sym (position-cons (λ (x : Group). bytes_eq x.id id) g gs) ∙ found) in

@@ -11,8 +11,9 @@ use Rattle.cut_laws.specs.Dividing.{Divide}
 use Rattle.vpc_base.specs.Cuts.{AreAmong, CutLists, no_cuts}
 use Rattle.vpc_base.specs.declared.headers.Dir.{Dir}
 use Rattle.vpc_base.specs.declared.headers.Dir.TheVariants as dirs
-use Rattle.vpc_laws.proofs.Members.{Contains-cases, Contains-here, Contains-later, Contains-none, filter_map-member}
-use Rattle.vpc_laws.proofs.Numbering.{position-at}
+use Rattle.vpc_base.proofs.Members.{Contains-cases, Contains-here, Contains-later, Contains-none, filter_map-member}
+use Rattle.vpc_base.proofs.Positions.{position-at}
+use Rattle.vpc_base.proofs.Zips.{zip_at}
 use Rattle.vpc_model.specs.Cuts.{all_permissions, cuts_at, cuts_at_interface, cuts_of_group, cuts_of_group_id, cuts_of_permission, on_sides, standing_cuts}
 use Rattle.vpc_model.specs.Groups.{permissions_of}
 use Rattle.vpc_model.specs.Lookup.{group_at, group_of_id, no_group, no_interface}
@@ -29,7 +30,6 @@ use Rattle.security_groups.specs.Members.{groups_with, number_of}
 use Rattle.security_groups.specs.Resolved.{AreRulesOf, HasRulesIn, IsGroupOf, IsResolved, IsRuleOf}
 use Rattle.security_groups.specs.declared.rules.Rule.{Rule}
 use Rattle.security_groups.proofs.RuleCuts.{all-members, once-member, rule-divides}
-use Rattle.security_groups.proofs.Zips.{zip_at}
 
 -- ---- the rules of a direction
 

@@ -1,5 +1,5 @@
 -- Groups asked of images.
-use Rattle.std.proofs.Common.{◌≡◌, ◌∙◌, ◌||◌, ◌<◌, ◌∷◌, [], ℕ, Bool, List, None, Option, Some, ap, arith, false, get_or, is_some, length, option_map, refl, slice_index_or, subst, suc, sym, true, zero}
+use Rattle.std.proofs.Common.{◌≡◌, ◌∙◌, ◌||◌, ◌<◌, ◌∷◌, [], ℕ, Bool, List, None, Option, Some, ap, false, get_or, is_some, length, refl, slice_index_or, subst, sym, true}
 use Rattle.std.specs.Prelude.{if◌then◌else◌, nat_lt}
 use Rattle.std.specs.List.{Contains, list_any}
 use Rattle.std.proofs.lemmas.List.{get_or_default}
@@ -7,6 +7,8 @@ use Rattle.std.proofs.lemmas.List.Elements.{All-contains}
 use Rattle.address_sets.specs.declared.sets.Run.{Run}
 use Rattle.vpc_base.specs.declared.headers.Dir.{Dir}
 use Rattle.vpc_base.specs.declared.headers.Header.{Header}
+use Rattle.vpc_base.proofs.Members.{member-list_any}
+use Rattle.vpc_base.proofs.Options.{is_some-option_map}
 use Rattle.header_boxes.specs.declared.boxes.Box5.{Box5}
 use Rattle.box_images.specs.Answers.{Answers}
 use Rattle.box_images.specs.Images.{header_at}
@@ -42,20 +44,11 @@ rules-found groups dir n g rules below is same = same ∙ ap (rules_of dir) (is 
 
 -- ---- a rule that allows is one of the rules
 
-list_any-contains : {X : Type 0} (p : X → Bool) (xs : List X) (x : X) → Contains xs x → p x ≡ true → list_any p xs ≡ true
-list_any-contains p [] x (k, below, e) passes = absurd (omega arith)
-list_any-contains p (y ∷ ys) x (zero, below, e) passes = rw (ap p e ∙ passes) refl
-list_any-contains p (y ∷ ys) x (suc k, below, e) passes = ap (λ b. p y || b) (list_any-contains p ys x (k, omega arith, e) passes) ∙ or_true (p y)
-  where
-    or_true : (b : Bool) → (b || true) ≡ true
-    or_true true = refl
-    or_true false = refl
-
 pub one-allows : (lists : List (List Run)) (members : List ℕ) (dir : Dir) (rules : List Rule) (number : ℕ) (i : Image) (x : Part Bool) → number < length rules → x.told ≡ true
     → Answers (DivideRules lists members rules) (λ h. allows lists members dir (header_at i h) (rule_at rules number)) i.part x
     → Answers (DivideRules lists members rules) (λ h. any_allows lists members dir rules (header_at i h)) i.part (record { body = x.body; told = true })
 one-allows lists members dir rules number i x below passes k = record {
-  told = λ h t. sym (list_any-contains (allows lists members dir (header_at i h)) rules (rule_at rules number)
+  told = λ h t. sym (member-list_any (allows lists members dir (header_at i h)) rules (rule_at rules number)
       (number, below, get_or_default rules number (rule_at rules number) _ below) (sym (k.told h t) ∙ passes));
   body = k.body;
   aligned = k.aligned;
@@ -65,7 +58,7 @@ pub one-group-allows : (lists : List (List Run)) (members : List ℕ) (groups : 
     → IsAllowedOn lists members dir (rules_in groups dir n) i b
     → Answers (DivideGroups lists members groups dir named) (λ h. any_group_allows lists members groups dir named (header_at i h)) i.part (record { body = b; told = true })
 one-group-allows lists members groups named dir n i b has k = record {
-  told = λ h t. sym (list_any-contains (λ m. any_allows lists members dir (rules_in groups dir m) (header_at i h)) named n has (sym (k.told h t)));
+  told = λ h t. sym (member-list_any (λ m. any_allows lists members dir (rules_in groups dir m) (header_at i h)) named n has (sym (k.told h t)));
   body = k.body;
   aligned = λ cuts all. k.aligned cuts (All-contains (λ m. DivideRules lists members (rules_in groups dir m) cuts) named n all has);
 }
@@ -95,10 +88,6 @@ is_some-least p (r ∷ rs) =
 is_some-or_else : {X : Type 0} (a b : Option X) → is_some (or_else a b) ≡ (is_some a || is_some b)
 is_some-or_else None b = refl
 is_some-or_else (Some x) b = refl
-
-is_some-option_map : {X Y : Type 0} (f : X → Y) (o : Option X) → is_some (option_map f o) ≡ is_some o
-is_some-option_map f None = refl
-is_some-option_map f (Some x) = refl
 
 pub is_some-first_of : (lists : List (List Run)) (members : List ℕ) (groups : List GroupRules) (dir : Dir) (h : Header) (named : List ℕ)
     → is_some (first_of lists members groups dir h named) ≡ any_group_allows lists members groups dir named h

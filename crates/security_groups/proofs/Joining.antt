@@ -6,6 +6,7 @@ use Rattle.std.proofs.lemmas.List.{get_or-drop, get_or-take, get_or_default, len
 use Rattle.std.proofs.lemmas.List.Elements.{All-cons, All-contains, All-head, All-nil, All-push, All-tail, AllWithin-more, at_read}
 use Rattle.std.proofs.lemmas.List.Folds.{list_any-append}
 use Rattle.std.proofs.lemmas.List.Sorted.{All-permutation, IsPermutation-refl, IsPermutation-sym, list_any-IsPermutation}
+use Rattle.std.proofs.Math.Bool.{or-false}
 use Rattle.address_sets.specs.Runs.{is_in, is_of}
 use Rattle.address_sets.specs.declared.sets.Run.{Run}
 use Rattle.box_images.specs.Answers.{Answers}
@@ -18,7 +19,7 @@ use Rattle.image_tests.proofs.Answering.{answers_more, answers_same}
 use Rattle.vpc_base.specs.Cuts.{CutLists}
 use Rattle.vpc_base.specs.declared.headers.Dir.{Dir}
 use Rattle.vpc_base.specs.declared.headers.Header.{Header}
-use Rattle.vpc_laws.proofs.Members.{flat_map-member}
+use Rattle.vpc_base.proofs.Members.{flat_map-member}
 use Rattle.vpc_model.specs.Cuts.{cuts_of_rule}
 use Rattle.vpc_model.specs.Filter.{far_address, is_between, matches_proto}
 use Rattle.security_groups.specs.Dividing.{IsAllowedOn, rule_at}
@@ -26,7 +27,7 @@ use Rattle.security_groups.specs.Rules.{DivideRule, DivideRules, allows, any_all
 use Rattle.security_groups.specs.Joined.{AreAlike, IsJoint, SayTheSame}
 use Rattle.security_groups.specs.Once.{once}
 use Rattle.security_groups.specs.declared.rules.Rule.{Rule}
-use Rattle.security_groups.proofs.OnceEach.{list_any-once, or_false}
+use Rattle.security_groups.proofs.OnceEach.{list_any-once}
 use Rattle.security_groups.proofs.RuleCuts.{all-members, once-member, turns-alike}
 use Rattle.security_groups.proofs.Runs.{take-add}
 
@@ -230,7 +231,7 @@ same-next rules others alike one so_far joint = record { same = same; divide = d
     same : (lists : List (List Run)) (members : List ℕ) (dir : Dir) (h : Header) → any_allows lists members dir (others ++ one ∷ []) h ≡ any_allows lists members dir (rules ++ alike) h
     same lists members dir h =
         list_any-append (allows lists members dir h) others (one ∷ [])
-        ∙ ap (λ b. any_allows lists members dir others h || b) (or_false (allows lists members dir h one) ∙ joint.same lists members dir h)
+        ∙ ap (λ b. any_allows lists members dir others h || b) (or-false (allows lists members dir h one) ∙ joint.same lists members dir h)
         ∙ ap (λ b. b || any_allows lists members dir alike h) (so_far.same lists members dir h)
         ∙ sym (list_any-append (allows lists members dir h) rules alike)
 

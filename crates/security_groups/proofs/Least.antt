@@ -5,12 +5,12 @@ use Rattle.std.proofs.lemmas.Bool.{both_ways, cases_Bool, cases_lt, le-leb, le-l
 use Rattle.std.proofs.lemmas.List.Elements.{All-head, All-tail}
 use Rattle.std.proofs.lemmas.List.Folds.{list_any-append}
 use Rattle.std.proofs.lemmas.List.Sorted.{list_any-IsPermutation}
+use Rattle.std.proofs.Math.Bool.{or-false}
 use Rattle.vpc_model.specs.declared.rows.Description.{Description}
 use Rattle.vpc_model.specs.declared.rows.Permission.{Permission}
 use Rattle.security_groups.specs.declared.rules.Rule.{Rule}
 use Rattle.security_groups.specs.Asking.{least, lesser}
 use Rattle.security_groups.specs.Resolved.{AreRulesOf}
-use Rattle.security_groups.proofs.OnceEach.{or_false}
 use Rattle.security_groups.proofs.Steps.{take_next}
 
 -- ---- the lesser of two numbers
@@ -28,7 +28,7 @@ reaches (Some n) k = nat_le n k
 -- the lesser of two is at most this where one of them is
 reaches-lesser : (a b : Option ℕ) (k : ℕ) → reaches (lesser a b) k ≡ (reaches a k || reaches b k)
 reaches-lesser None b k = refl
-reaches-lesser (Some m) None k = sym (or_false (nat_le m k))
+reaches-lesser (Some m) None k = sym (or-false (nat_le m k))
 reaches-lesser (Some m) (Some n) k =
     elim (cases_lt n m) [
       | inl less ↦ rw (lt-ltb n m less) (smaller less (nat_le m k) refl)
@@ -45,7 +45,7 @@ reaches-lesser (Some m) (Some n) k =
     greater more true e =
         let below = leb-true n k e in
         rw (le-leb m k (omega arith)) refl
-    greater more false e = rw e (sym (or_false (nat_le m k)))
+    greater more false e = rw e (sym (or-false (nat_le m k)))
 
 -- numbers that are at most the same ones are the same
 same_reach : (a b : Option ℕ) → ((k : ℕ) → reaches a k ≡ reaches b k) → a ≡ b

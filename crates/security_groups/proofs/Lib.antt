@@ -1,5 +1,4 @@
 pub mod Steps
-pub mod Zips
 pub mod OnceEach
 pub mod MemberSteps
 pub mod Numbered

@@ -8,6 +8,10 @@ use Rattle.prefix_text.specs.Block.{holds}
 use Rattle.vpc_base.specs.declared.headers.Dir.{Dir}
 use Rattle.vpc_base.specs.declared.headers.Dir.TheVariants as dirs
 use Rattle.vpc_base.specs.declared.headers.Header.{Header}
+use Rattle.vpc_base.proofs.Options.{option_map-map}
+use Rattle.vpc_base.proofs.Positions.{position-at}
+use Rattle.vpc_base.proofs.Tests.{list_any-agree}
+use Rattle.vpc_base.proofs.Zips.{zip_at}
 use Rattle.vpc_model.specs.declared.rows.Description.{Description}
 use Rattle.vpc_model.specs.declared.rows.Group.{Group}
 use Rattle.vpc_model.specs.declared.rows.Permission.{Permission}
@@ -15,7 +19,6 @@ use Rattle.vpc_model.specs.Choice.{or_else}
 use Rattle.vpc_model.specs.Filter.{far_address}
 use Rattle.vpc_model.specs.Groups.{first_rule_of, is_member, names_address, permission_allows, permissions_of, reference_counts, rule_of_group}
 use Rattle.vpc_model.specs.Lookup.{entries_of, no_group, no_interface}
-use Rattle.vpc_laws.proofs.Numbering.{position-at}
 use Rattle.security_groups.specs.declared.groups.GroupRules.{GroupRules}
 use Rattle.security_groups.specs.declared.rules.Rule.{Rule}
 use Rattle.security_groups.specs.Asking.{first_in_group, first_of, least, no_rules, rules_of}
@@ -24,9 +27,8 @@ use Rattle.security_groups.specs.Index.{GroupLists, HasRulesOf}
 use Rattle.security_groups.specs.Members.{groups_with, number_of}
 use Rattle.security_groups.specs.Resolved.{AreRulesOf, HasRulesIn, IsGroupOf, IsResolved, IsRuleOf, counted, list_no}
 use Rattle.security_groups.proofs.Least.{least-IsPermutation, least-find}
-use Rattle.security_groups.proofs.Numbered.{any_entry-is, any_if, any_member-is, list_any-alike, list_any-filter_map, position-cons}
+use Rattle.security_groups.proofs.Numbered.{any_entry-is, any_if, any_member-is, list_any-filter_map, position-cons}
 use Rattle.security_groups.proofs.OnceEach.{first_value, first_value-once, list_any-once}
-use Rattle.security_groups.proofs.Zips.{zip_at}
 
 -- a rule names what its permission names
 names-is : (d : Description) (i : GroupLists) (vpc : List ℕ) (n a : ℕ) (p : Permission) (r : Rule) → IsResolved d i → IsRuleOf d vpc n p r → a < 2 ^ 32 → names i.lists i.members a r ≡ names_address d vpc a p
@@ -35,12 +37,12 @@ names-is d i vpc n a p r resolved rule fits =
     ap (list_any (has_entry i.lists a)) rule.lists
     ∙ list_any-once (has_entry i.lists a) (filter_map (list_no d) p.lists)
     ∙ list_any-filter_map (has_entry i.lists a) (list_no d) p.lists
-    ∙ list_any-alike (λ l. any_if (has_entry i.lists a) (list_no d l)) (λ l. list_any (holds a) (entries_of d l)) (λ l. any_entry-is d i.lists a l resolved.lists.entries) p.lists in
+    ∙ list_any-agree (λ l. any_if (has_entry i.lists a) (list_no d l)) (λ l. list_any (holds a) (entries_of d l)) (λ l. any_entry-is d i.lists a l resolved.lists.entries) p.lists in
     let groups : list_any (has_member i.members a) r.groups ≡ list_any (λ g. reference_counts d vpc g && is_member d g a) p.groups =
     ap (list_any (has_member i.members a)) rule.groups
     ∙ list_any-once (has_member i.members a) (filter_map (counted d vpc) p.groups)
     ∙ list_any-filter_map (has_member i.members a) (counted d vpc) p.groups
-    ∙ list_any-alike (λ g. any_if (has_member i.members a) (counted d vpc g)) (λ g. reference_counts d vpc g && is_member d g a) (λ g. any_member-is d i.members vpc a g resolved.membership.keys resolved.membership.fit fits) p.groups in
+    ∙ list_any-agree (λ g. any_if (has_member i.members a) (counted d vpc g)) (λ g. reference_counts d vpc g && is_member d g a) (λ g. any_member-is d i.members vpc a g resolved.membership.keys resolved.membership.fit fits) p.groups in
     rw (rule.blocks a, lists, groups) refl
 
 -- a rule allows what its permission allows
@@ -67,11 +69,6 @@ first-is d i vpc n dir h (p ∷ ps) (r ∷ rs) resolved rules fits =
     next : (o : Option ℕ) → option_map (λ k. k + (n + 1)) o ≡ option_map (λ k. k + n) (option_map (λ k. suc k) o)
     next None = refl
     next (Some k) = ap Some (omega arith)
-
--- a map after a map
-option_map-map : {X Y Z : Type 0} (g : Y → Z) (f : X → Y) (o : Option X) → option_map g (option_map f o) ≡ option_map (λ x. g (f x)) o
-option_map-map g f None = refl
-option_map-map g f (Some x) = refl
 
 -- and the least number in any order
 least-is : (d : Description) (i : GroupLists) (vpc : List ℕ) (dir : Dir) (h : Header) (ps : List Permission) (rs : List Rule) → IsResolved d i → HasRulesIn d vpc ps rs → far_address dir h < 2 ^ 32

@@ -1,8 +1,7 @@
 -- Members of groups are addresses of interfaces, which are cut out everywhere.
-use Rattle.std.proofs.Common.{◌≡◌, ◌∙◌, ◌&&◌, ◌<◌, ◌==◌, ◌^◌, ◌∷◌, [], ℕ, Contains, List, Option, ap, arith, inl, inr, map, subst, sym, true}
-use Rattle.std.specs.List.{flat_map}
+use Rattle.std.proofs.Common.{◌≡◌, ◌∙◌, ◌&&◌, ◌<◌, ◌==◌, ◌^◌, ℕ, Contains, List, Option, ap, arith, map, subst, sym, true}
 use Rattle.std.proofs.lemmas.Bool.{and_parts, eqb-true}
-use Rattle.std.proofs.lemmas.List.Elements.{All-contains, Contains-append_left, Contains-append_right}
+use Rattle.std.proofs.lemmas.List.Elements.{All-contains, Contains-append_left}
 use Rattle.cut_laws.proofs.Among.{among_through, on_sides_among}
 use Rattle.cut_laws.proofs.Rows.{interfaces_are_standing}
 use Rattle.cut_laws.specs.Dividing.{CutOut, Divide}
@@ -11,26 +10,10 @@ use Rattle.number_tables.specs.Keys.{key_of}
 use Rattle.security_groups.specs.Rules.{has_member}
 use Rattle.security_groups.specs.Members.{AreFit, HasMembersOf, all_members, groups_with, key_with, keys_with}
 use Rattle.vpc_base.specs.Cuts.{CutLists}
-use Rattle.vpc_laws.proofs.Members.{Contains-cases, Contains-here, Contains-later, Contains-none, flat_map-member, list_any-member}
+use Rattle.vpc_base.proofs.Members.{Contains-flat_map, flat_map-member, list_any-member, map-member}
 use Rattle.vpc_model.specs.Cuts.{address_cuts, cuts_of_blocks, cuts_of_interface, on_sides, pair_cuts, public_cuts, standing_cuts}
 use Rattle.vpc_model.specs.declared.rows.Description.{Description}
 use Rattle.vpc_model.specs.declared.rows.Interface.{Interface}
-
-map-member : {X Y : Type 0} (f : X → Y) (xs : List X) (y : Y) → Contains (map f xs) y → (x : X) × Contains xs x × (f x ≡ y)
-map-member f [] y has = absurd (Contains-none y has)
-map-member f (x ∷ xs) y has =
-    elim (Contains-cases (f x) y (map f xs) has) [
-      | inl here ↦ (x, Contains-here x xs, here)
-      | inr later ↦ let rest = map-member f xs y later in (rest.0, Contains-later x xs rest.0 rest.1, rest.2)
-    ]
-
-pub flat_map-has : {X Y : Type 0} (f : X → List Y) (xs : List X) (x : X) (y : Y) → Contains xs x → Contains (f x) y → Contains (flat_map f xs) y
-flat_map-has f [] x y at has = absurd (Contains-none x at)
-flat_map-has f (z ∷ zs) x y at has =
-    elim (Contains-cases z x zs at) [
-      | inl here ↦ Contains-append_left (f z) (flat_map f zs) y (subst (λ w. Contains (f w) y) (sym here) has)
-      | inr later ↦ Contains-append_right (f z) (flat_map f zs) y (flat_map-has f zs x y later has)
-    ]
 
 -- a private address of an interface is cut out by standing cuts
 private-cut-out : (d : Description) (e : Interface) (x : ℕ × Option ℕ) → Contains d.interfaces e → Contains e.addresses x → Divide (cuts_of_blocks (address_cuts x.0)) (standing_cuts d)
@@ -40,7 +23,7 @@ private-cut-out d e x has at =
     (on_sides_among few (cuts_of_interface e)
     (record {
       proto = λ c k. k;
-      addr = λ c k. flat_map-has pair_cuts e.addresses x c at (Contains-append_left (address_cuts x.0) (public_cuts x.1) c k);
+      addr = λ c k. Contains-flat_map pair_cuts e.addresses x c at (Contains-append_left (address_cuts x.0) (public_cuts x.1) c k);
       p = λ c k. k;
       q = λ c k. k;
     }))

@@ -1,11 +1,14 @@
 -- Groups, members and prefix lists, found by numbers as by ids.
 use Rattle.std.proofs.Common.{◌≡◌, ◌∙◌, ◌&&◌, ◌+◌, ◌<◌, ◌==◌, ◌||◌, ◌∷◌, ◌^◌, [], ℕ, Bool, List, None, Option, Some, ap, arith, bytes_eq, cond, false, find, get_or, inl, inr, length, ltb, map, option_map, position, refl, subst, suc, sym, true}
-use Rattle.std.proofs.Math.Path.{fun_ext}
 use Rattle.std.specs.List.{All, AllByRecursion, AllZip, filter_map, flat_map, list_any, position_or_len}
 use Rattle.std.proofs.lemmas.Bool.{and_right, both_ways, cases_Bool, cases_lt, eq-eqb, false_from_ne_true, le-ltb, lt-ltb, ne_eqb}
 use Rattle.std.proofs.lemmas.List.{get_or_default}
 use Rattle.std.proofs.lemmas.List.Elements.{All-head, All-tail, recursion_from_All}
 use Rattle.std.proofs.lemmas.List.Folds.{list_any-append}
+use Rattle.vpc_base.proofs.Bytes.{bytes_self, same_bytes}
+use Rattle.vpc_base.proofs.Positions.{missing_number, position-at}
+use Rattle.vpc_base.proofs.Tests.{find-nowhere, list_any-agree}
+use Rattle.vpc_base.proofs.Zips.{zip_at}
 use Rattle.address_sets.specs.declared.sets.Run.{Run}
 use Rattle.prefix_text.specs.Block.{Block, holds}
 use Rattle.vpc_model.specs.declared.numbers.GroupNo.{GroupNo}
@@ -15,8 +18,7 @@ use Rattle.vpc_model.specs.declared.rows.Interface.{Interface}
 use Rattle.vpc_model.specs.declared.rows.PrefixList.{PrefixList}
 use Rattle.vpc_model.specs.Groups.{are_peers, is_member, reference_counts}
 use Rattle.vpc_model.specs.Lookup.{entries_of, has_address, is_listed, no_group}
-use Rattle.vpc_laws.proofs.Numbering.{bytes_self, position-at, same_bytes}
-use Rattle.reference_check.proofs.Maps.{found_number, missing_number, no_row, read_row}
+use Rattle.reference_check.proofs.Maps.{found_number, read_row}
 use Rattle.number_tables.specs.Keys.{key_of}
 use Rattle.number_tables.proofs.KeyLemmas.{key_of-same}
 use Rattle.security_groups.specs.Rules.{has_entry, has_member}
@@ -24,7 +26,6 @@ use Rattle.security_groups.specs.Lists.{HasEntriesOf}
 use Rattle.security_groups.specs.Members.{AreFit, all_members, groups_with, key_with, keys_with, number_of}
 use Rattle.security_groups.specs.Resolved.{counted, list_no}
 use Rattle.security_groups.proofs.OnceEach.{list_any-once}
-use Rattle.security_groups.proofs.Zips.{zip_at}
 
 -- ---- searches
 
@@ -57,10 +58,6 @@ list_any-filter_map {X = X} {Y = Y} p f (x ∷ xs) = by (f x) refl (list_any-fil
     by None e rest = rw e rest
     by (Some y) e rest = rw e (ap (λ (b : Bool). p y || b) rest)
 
--- tests that agree
-pub list_any-alike : {X : Type 0} (p q : X → Bool) → ((x : X) → p x ≡ q x) → (xs : List X) → list_any p xs ≡ list_any q xs
-list_any-alike p q same xs = ap (λ test. list_any test xs) (fun_ext same)
-
 -- ---- prefix lists
 
 -- an entry by a list's number is one by its id
@@ -77,7 +74,7 @@ any_entry-is d lists a id zip = by (list_no d id) refl
     by : (o : Option ℕ) → list_no d id ≡ o → any_if (has_entry lists a) (list_no d id) ≡ list_any (holds a) (entries_of d id)
     by None missing =
         let test : (PrefixList → Bool) = λ l. bytes_eq l.id id in
-        let found : find test d.lists ≡ None = sym (no_row test d.lists (missing_number test d.lists missing)) in
+        let found : find test d.lists ≡ None = find-nowhere test d.lists (missing_number test d.lists missing) in
         let entries : entries_of d id ≡ [] = ap entries_if found in
         ap (any_if (has_entry lists a)) missing ∙ sym (ap (list_any (holds a)) entries)
     by (Some k) some =
@@ -129,7 +126,7 @@ pub groups_with-is : (d : Description) (group : List ℕ) (k : ℕ) (e : Interfa
 groups_with-is d group k e found =
     list_any-once (λ n. n == k) (filter_map (number_of d) e.groups)
     ∙ list_any-filter_map (λ n. n == k) (number_of d) e.groups
-    ∙ list_any-alike (λ i. any_if (λ n. n == k) (number_of d i)) (λ i. bytes_eq i group) (number-is d group k found) e.groups
+    ∙ list_any-agree (λ i. any_if (λ n. n == k) (number_of d i)) (λ i. bytes_eq i group) (number-is d group k found) e.groups
 
 -- ---- members
 

@@ -3,18 +3,10 @@ use Rattle.std.proofs.Common.{◌≡◌, ◌∙◌, ◌++◌, ◌==◌, ◌||◌
 use Rattle.std.specs.List.{list_any}
 use Rattle.std.proofs.lemmas.Bool.{cases_Bool, eqb-true}
 use Rattle.std.proofs.lemmas.List.Folds.{list_any-append}
+use Rattle.std.proofs.Math.Bool.{or-false, or_assoc}
 use Rattle.vpc_model.specs.Choice.{or_else}
+use Rattle.vpc_model.proofs.Choice.{or_else-none}
 use Rattle.security_groups.specs.Once.{once, once_after}
-
--- what is no alternative
-pub or_false : (a : Bool) → (a || false) ≡ a
-or_false true = refl
-or_false false = refl
-
--- three tests
-or_assoc : (a b c : Bool) → (a || b || c) ≡ (a || (b || c))
-or_assoc true b c = refl
-or_assoc false b c = refl
 
 -- a number that is kept adds nothing
 kept-any : (p : ℕ → Bool) (n : ℕ) (kept : List ℕ) → list_any (λ k. n == k) kept ≡ true → (z : Bool) → (list_any p kept || z) ≡ (list_any p kept || (p n || z))
@@ -33,14 +25,14 @@ kept-any p n (k ∷ ks) has z =
 
 -- a test of what is kept and of the rest
 list_any-once_after : (p : ℕ → Bool) (kept ns : List ℕ) → list_any p (once_after kept ns) ≡ (list_any p kept || list_any p ns)
-list_any-once_after p kept [] = sym (or_false (list_any p kept))
+list_any-once_after p kept [] = sym (or-false (list_any p kept))
 list_any-once_after p kept (n ∷ ns) =
     elim (cases_Bool (list_any (λ k. n == k) kept)) [
       | inl has ↦ rw has (list_any-once_after p kept ns ∙ kept-any p n kept has (list_any p ns))
       | inr new ↦
           rw new
           (list_any-once_after p (kept ++ n ∷ []) ns
-          ∙ ap (λ (b : Bool). b || list_any p ns) (list_any-append p kept (n ∷ []) ∙ ap (λ (b : Bool). list_any p kept || b) (or_false (p n)))
+          ∙ ap (λ (b : Bool). b || list_any p ns) (list_any-append p kept (n ∷ []) ∙ ap (λ (b : Bool). list_any p kept || b) (or-false (p n)))
           ∙ or_assoc (list_any p kept) (p n) (list_any p ns))
     ]
 
@@ -57,11 +49,6 @@ first_value f (n ∷ ns) = or_else (f n) (first_value f ns)
 or_else_assoc : {X : Type 0} (a b c : Option X) → or_else (or_else a b) c ≡ or_else a (or_else b c)
 or_else_assoc None b c = refl
 or_else_assoc (Some x) b c = refl
-
--- no value changes nothing
-or_else_none : {X : Type 0} (a : Option X) → or_else a None ≡ a
-or_else_none None = refl
-or_else_none (Some x) = refl
 
 -- the first value of two lists
 first_value-append : {X : Type 0} (f : ℕ → Option X) (xs ys : List ℕ) → first_value f (xs ++ ys) ≡ or_else (first_value f xs) (first_value f ys)
@@ -85,14 +72,14 @@ kept-first {X} f n (k ∷ ks) has z =
 
 -- the first value of what is kept and of the rest
 first_value-once_after : {X : Type 0} (f : ℕ → Option X) (kept ns : List ℕ) → first_value f (once_after kept ns) ≡ or_else (first_value f kept) (first_value f ns)
-first_value-once_after f kept [] = sym (or_else_none (first_value f kept))
+first_value-once_after f kept [] = sym (or_else-none (first_value f kept))
 first_value-once_after f kept (n ∷ ns) =
     elim (cases_Bool (list_any (λ k. n == k) kept)) [
       | inl has ↦ rw has (first_value-once_after f kept ns ∙ kept-first f n kept has (first_value f ns))
       | inr new ↦
           rw new
           (first_value-once_after f (kept ++ n ∷ []) ns
-          ∙ ap (λ o. or_else o (first_value f ns)) (first_value-append f kept (n ∷ []) ∙ ap (or_else (first_value f kept)) (or_else_none (f n)))
+          ∙ ap (λ o. or_else o (first_value f ns)) (first_value-append f kept (n ∷ []) ∙ ap (or_else (first_value f kept)) (or_else-none (f n)))
           ∙ or_else_assoc (first_value f kept) (f n) (first_value f ns))
     ]
 

@@ -3,6 +3,8 @@ use Rattle.std.proofs.Common.{◌≡◌, ◌∙◌, ◌&&◌, ◌<◌, ◌==◌,
 use Rattle.std.specs.List.{flat_map, list_any}
 use Rattle.std.proofs.lemmas.Bool.{both_ways, cases_Bool, eq-eqb, false_from_ne_true, ltb-true, ne_eqb}
 use Rattle.std.proofs.lemmas.List.Folds.{list_any-append}
+use Rattle.std.proofs.Math.Bool.{and_comm, or-false}
+use Rattle.vpc_base.proofs.Bytes.{bytes_self, same_bytes}
 use Rattle.vpc_model.specs.declared.rows.Description.{Description}
 use Rattle.vpc_model.specs.declared.rows.Peering.{Peering}
 use Rattle.vpc_model.specs.declared.rows.Vpc.{Vpc}
@@ -10,11 +12,10 @@ use Rattle.vpc_model.specs.Accepted.{IsAccepted}
 use Rattle.vpc_model.specs.Groups.{are_peers, is_pair_of}
 use Rattle.vpc_model.specs.Lookup.{has_vpc, vpc_at, vpc_no}
 use Rattle.vpc_laws.proofs.Lengths.{accepted_has_short_lists}
-use Rattle.vpc_laws.proofs.Numbering.{bytes_self, ids_are_found, same_bytes}
+use Rattle.vpc_laws.proofs.Numbering.{ids_are_found}
 use Rattle.number_tables.specs.Keys.{key_of}
 use Rattle.security_groups.specs.Peers.{ArePeers, are_joined, both_keys, numbers_if}
 use Rattle.number_tables.proofs.KeyLemmas.{key_of-same}
-use Rattle.security_groups.proofs.OnceEach.{or_false}
 
 -- two described ids are the same exactly where their numbers are
 pub same_vpc : (d : Description) (a b : List ℕ) → has_vpc d a ≡ true → has_vpc d b ≡ true → bytes_eq a b ≡ ((vpc_no d a).0 == (vpc_no d b).0)
@@ -44,16 +45,9 @@ vpc-fits d a accepted has =
 undescribed : (d : Description) (x a : List ℕ) → has_vpc d x ≡ false → has_vpc d a ≡ true → bytes_eq x a ≡ false
 undescribed d x a lacks has = false_from_ne_true (bytes_eq x a) (λ same. both_ways (has_vpc d x) lacks (subst (λ (i : List ℕ). has_vpc d i ≡ true) (sym (same_bytes x a same)) has))
 
--- two tests in either order
-and_comm : (a b : Bool) → (a && b) ≡ (b && a)
-and_comm true true = refl
-and_comm true false = refl
-and_comm false true = refl
-and_comm false false = refl
-
 -- two tests that agree with two others
 two : (x y s t : Bool) → x ≡ s → y ≡ t → (x || (y || false)) ≡ (s || t)
-two x y s t same alike = ap (λ (b : Bool). b || (y || false)) same ∙ ap (λ (b : Bool). s || b) (or_false y ∙ alike)
+two x y s t same alike = ap (λ (b : Bool). b || (y || false)) same ∙ ap (λ (b : Bool). s || b) (or-false y ∙ alike)
 
 -- the key of two described VPCs
 pair-key : (d : Description) (a b x y : List ℕ) → IsAccepted d → has_vpc d a ≡ true → has_vpc d b ≡ true → has_vpc d x ≡ true → has_vpc d y ≡ true

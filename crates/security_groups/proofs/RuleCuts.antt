@@ -9,7 +9,7 @@ use Rattle.cut_laws.proofs.Among.{among_through, none_within, on_sides_among}
 use Rattle.cut_laws.proofs.Turning.{blocks-divide}
 use Rattle.cut_laws.specs.Dividing.{Divide, DivideTurns}
 use Rattle.vpc_base.specs.Cuts.{AreAmong, CutLists}
-use Rattle.vpc_laws.proofs.Members.{filter_map-member, flat_map-member, list_any-member, member-list_any}
+use Rattle.vpc_base.proofs.Members.{Contains-flat_map, filter_map-member, flat_map-member, list_any-member, member-list_any}
 use Rattle.vpc_model.specs.Cuts.{block_cuts, blocks_of_permission, cuts_of_blocks, cuts_of_permission, cuts_of_rule, on_sides, standing_cuts}
 use Rattle.vpc_model.specs.Lookup.{entries_of}
 use Rattle.vpc_model.specs.declared.rows.Description.{Description}
@@ -19,7 +19,7 @@ use Rattle.security_groups.specs.Index.{GroupLists}
 use Rattle.security_groups.specs.Once.{once}
 use Rattle.security_groups.specs.Resolved.{IsResolved, IsRuleOf, list_no}
 use Rattle.security_groups.specs.declared.rules.Rule.{Rule}
-use Rattle.security_groups.proofs.MemberCuts.{flat_map-has, members-are-cut-out}
+use Rattle.security_groups.proofs.MemberCuts.{members-are-cut-out}
 use Rattle.security_groups.proofs.Numbered.{any_entry-is, any_if}
 use Rattle.security_groups.proofs.OnceEach.{list_any-once}
 
@@ -45,7 +45,7 @@ blocks-among d p blocks within =
       proto = none_within all.proto;
       addr = λ c has.
           let b = flat_map-member block_cuts blocks c has in
-          flat_map-has block_cuts (blocks_of_permission d p) b.0 c (within b.0 b.1) b.2;
+          Contains-flat_map block_cuts (blocks_of_permission d p) b.0 c (within b.0 b.1) b.2;
       p = none_within all.p;
       q = none_within all.q;
     }
@@ -78,7 +78,7 @@ list-divides d i vpc n p r cuts resolved rule divide l has =
     let id : List ℕ = named.0 in
     turns-alike (λ a. has_entry i.lists a l) (λ a. list_any (holds a) (entries_of d id)) cuts
     (λ a. sym (ap (any_if (has_entry i.lists a)) named.2) ∙ any_entry-is d i.lists a id resolved.lists.entries)
-    (turns-divide d p cuts (entries_of d id) (λ b at. Contains-append_right p.blocks (flat_map (entries_of d) p.lists) b (flat_map-has (entries_of d) p.lists id b named.1 at)) divide)
+    (turns-divide d p cuts (entries_of d id) (λ b at. Contains-append_right p.blocks (flat_map (entries_of d) p.lists) b (Contains-flat_map (entries_of d) p.lists id b named.1 at)) divide)
 
 -- all that it asks
 pub rule-divides : (d : Description) (i : GroupLists) (vpc : List ℕ) (n : ℕ) (p : Permission) (r : Rule) (cuts : CutLists) → IsResolved d i → IsRuleOf d vpc n p r → AreAmong (standing_cuts d) cuts → Divide (cuts_of_permission d p) cuts

@@ -1,5 +1,6 @@
 -- Rules that are asked of images run by run.
 use Rattle.std.proofs.Common.{◌≡◌, ◌∙◌, ◌&&◌, ◌||◌, ◌*◌, ◌+◌, ◌-◌, ◌<◌, ◌≤◌, ◌∷◌, ⊎_elim, [], ℕ, Bool, List, ap, arith, drop, false, get_or, length, nat_le, refl, subst, sym, take, true}
+use Rattle.std.proofs.Math.Bool.{or-false}
 use Rattle.std.proofs.Math.Seq.{drop-drop}
 use Rattle.std.specs.List.{All, AllWithin, list_any}
 use Rattle.std.specs.List.Sorted.{IsNonDecreasingBy}
@@ -31,7 +32,6 @@ use Rattle.image_tests.proofs.Trying.{header_of_rest}
 use Rattle.image_tests.specs.Tests.{cuts_of_range}
 use Rattle.security_groups.specs.declared.rules.Rule.{Rule}
 use Rattle.vpc_model.specs.Filter.{far_address, matches_proto}
-use Rattle.security_groups.proofs.OnceEach.{or_false}
 use Rattle.security_groups.proofs.Runs.{starts-later}
 use Rattle.security_groups.specs.Dividing.{AllowsNone, IsLeftWith}
 use Rattle.security_groups.specs.Rules.{DivideRule, DivideRules, allows, any_allows, names}
@@ -49,7 +49,7 @@ none-of p (r ∷ rs) all =
     rw fails (none-of p rs (All-tail (λ x. p x ≡ false) r rs all))
 
 pub first-decide : (p : Rule → Bool) (rules : List Rule) (n : ℕ) → list_any p (drop n rules) ≡ false → list_any p rules ≡ list_any p (take n rules)
-first-decide p rules n none = any-parts p rules n ∙ ap (λ b. list_any p (take n rules) || b) none ∙ or_false (list_any p (take n rules))
+first-decide p rules n none = any-parts p rules n ∙ ap (λ b. list_any p (take n rules) || b) none ∙ or-false (list_any p (take n rules))
 
 -- a run, and the runs after it
 pub run-parts : (p : Rule → Bool) (rules : List Rule) (k : ℕ) → list_any p (drop (64 * k) rules) ≡ (list_any p (run_of k rules) || list_any p (drop (64 * (k + 1)) rules))

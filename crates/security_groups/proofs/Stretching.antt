@@ -4,6 +4,7 @@ use Rattle.std.specs.List.{Contains, list_any}
 use Rattle.std.proofs.lemmas.Bool.{cases_lt}
 use Rattle.std.proofs.lemmas.List.{take_all, take_more}
 use Rattle.std.proofs.lemmas.List.Folds.{list_any-append, list_any_at}
+use Rattle.std.proofs.Math.Bool.{or-false}
 use Rattle.address_sets.specs.Runs.{IsStretch, is_in}
 use Rattle.address_sets.specs.declared.sets.Run.{Run}
 use Rattle.box_images.specs.Answers.{Answers}
@@ -23,7 +24,6 @@ use Rattle.vpc_model.specs.Filter.{far_address, is_between, matches_proto}
 use Rattle.security_groups.specs.Dividing.{AllowsNone, IsStretchOf}
 use Rattle.security_groups.specs.Rules.{DivideRule, allows, has_member, names}
 use Rattle.security_groups.specs.declared.rules.Rule.{Rule}
-use Rattle.security_groups.proofs.OnceEach.{or_false}
 
 -- ---- one test
 
@@ -104,7 +104,7 @@ any-next enough test named a k last next x below fails is s t =
     more b =
         ap (list_any (test b)) (take_more named k 0 below)
         ∙ list_any-append (test b) (take k named) (get_or named k 0 ∷ [])
-        ∙ ap (λ c. list_any (test b) (take k named) || c) (or_false (test b (get_or named k 0)))
+        ∙ ap (λ c. list_any (test b) (take k named) || c) (or-false (test b (get_or named k 0)))
 
 pub any-found : (enough : CutLists → Type 0) (test : ℕ → ℕ → Bool) (named : List ℕ) (a k : ℕ) (x : ℕ × Bool) → k < length named → x.1 ≡ true
     → IsStretchOf enough (λ b. test b (get_or named k 0)) a x → IsStretchOf enough (λ b. list_any (test b) named) a x

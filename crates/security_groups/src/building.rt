@@ -1,7 +1,7 @@
 // Rules with the numbers of what they name.
 ghost use Rattle.std.specs.Prelude.{◌≡◌, ◌<◌, ◌^◌, Contains, IfOk, IsTrue, length, map};
 ghost use Rattle.std.specs.List.{AllZip, filter_map};
-ghost use Rattle.vpc_model.specs.Lookup.{group_at, has_vpc, vpc_at, vpc_no};
+ghost use Rattle.vpc_model.specs.Lookup.{group_at, vpc_at, vpc_no};
 ghost use Rattle.vpc_model.specs.Sound.{is_vpc};
 ghost use Rattle.security_groups.specs.Once.{once};
 ghost use Rattle.security_groups.specs.Peers.{ArePeers};
@@ -45,16 +45,6 @@ impl Named {
     }
 }
 
-fn number_of_vpc(n: &Network, id: &Id) -> VpcNo
-    requires { IsTrue (has_vpc n.now id.now) }
-    ensures { result ≡ vpc_no n.now id.now }
-{
-    match n.vpc(id.bytes()) {
-        Some(vpc) => vpc,
-        None => unreachable!(),
-    }
-}
-
 // The VPC of a group of the network.
 fn vpc_of_group(n: &Network, group: &Group) -> VpcNo
     requires { Contains n.now.groups group.now }
@@ -63,7 +53,7 @@ fn vpc_of_group(n: &Network, group: &Group) -> VpcNo
     ensures own { let v = vpc_at n.now result in v.id ≡ group.now.vpc }
 {
     let _ = n.description();
-    number_of_vpc(n, &group.vpc)
+    n.vpc_named(&group.vpc)
 }
 
 // The VPC of the group with this number.
@@ -110,7 +100,8 @@ fn counted_groups(
     Ok(OwnList::of(kept))
 }
 
-fn list_no(n: &Network, lists: &ListNumbers, id: &Id) -> Option<u32>
+/// The number of the prefix list with this id.
+pub fn list_no(n: &Network, lists: &ListNumbers, id: &Id) -> Option<u32>
     requires { lists.now ≡ map (λ l. l.id) n.now.lists }
     ensures { result ≡ list_no n.now id.now }
 {

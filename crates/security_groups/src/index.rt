@@ -1,15 +1,15 @@
 // The index of a network's security groups.
-ghost use Rattle.std.specs.Prelude.{◌≡◌, [], IfOk, slice_index_or};
+ghost use Rattle.std.specs.Prelude.{◌≡◌, IfOk};
 ghost use Rattle.std.specs.List.{AllZip};
 ghost use Rattle.security_groups.specs.Resolved.{HasListsOf, IsGroupOf};
 
-use crate::alike::{Names, same_groups};
 use crate::building::{Named, group_rules};
 use crate::groups::{GroupRules, any_of_on, first_of};
 use crate::lists::entries_of;
 use crate::members::Membership;
 use address_sets::AddressSet;
 use box_images::{Image, Part};
+use number_tables::NumberSet;
 use reference_check::Network;
 use std::alloc::{AllocError, Global};
 use std::marker::Model;
@@ -21,17 +21,6 @@ fn resolved_rules(alloc: Global, n: &Network) -> Result<Vec<GroupRules>, AllocEr
 {
     let named = Named::of(alloc, n)?;
     group_rules(alloc, n, &named, n.description().groups.as_slice())
-}
-
-// The numbers of an interface's groups.
-fn groups_at(interfaces: &[OwnList<u32>], e: EniNo) -> &[u32]
-    ensures { result.now ≡ slice_index_or interfaces.now e.0 [] }
-{
-    let e = e.0 as usize;
-    if e >= interfaces.len() {
-        return &[];
-    }
-    interfaces[e].as_slice()
 }
 
 // The entries of each prefix list, and the rules of each group.
@@ -83,9 +72,7 @@ impl Model for GroupIndex {
 }
 
 impl GroupIndex {
-    ghost use Rattle.std.specs.Prelude.{◌≡◌, ◌<◌, ◌^◌, IfOk, IsTrue, is_some};
-    ghost use Rattle.vpc_base.specs.declared.headers.Header.{Header as Packet};
-    ghost use Rattle.vpc_model.specs.Filter.{far_address};
+    ghost use Rattle.std.specs.Prelude.{◌≡◌, [], IfOk, is_some, slice_index_or};
     ghost use Rattle.box_images.specs.Answers.{Answers};
     ghost use Rattle.box_images.specs.Images.{IsImageOfWalk, IsValidImage, header_at};
     ghost use Rattle.security_groups.specs.Dividing.{DivideAt, HasRuleCuts};
@@ -139,26 +126,33 @@ impl GroupIndex {
         any_of_on(lists, &self.membership.members, groups, named, dir, i)
     }
 
-    /// Whether an interface's groups are those of another interface in another index, by their numbers, and have the same
-    /// rules there, which name the same addresses. It compares these rules, and what they name.
-    pub fn allows_same(&self, e: EniNo, other: &GroupIndex, i: EniNo, dir: Dir) -> bool
-        ensures { IsTrue result → (h : Packet) → far_address dir h < 2 ^ 32
-            → allowed self.now e dir h ≡ allowed other.now i dir h }
+    pub(crate) fn lists(&self) -> &[AddressSet]
+        ensures { result.now ≡ self.now.lists }
     {
-        let named = groups_at(self.membership.interfaces.as_slice(), e);
-        let names = Names {
-            lists: self.rules.lists.as_slice(),
-            other_lists: other.rules.lists.as_slice(),
-            members: &self.membership.members,
-            other_members: &other.membership.members,
-        };
-        named == groups_at(other.membership.interfaces.as_slice(), i)
-            && same_groups(
-                &names,
-                self.rules.groups.as_slice(),
-                other.rules.groups.as_slice(),
-                named,
-                dir,
-            )
+        self.rules.lists.as_slice()
+    }
+
+    pub(crate) fn members(&self) -> &NumberSet
+        ensures { result.now ≡ self.now.members }
+    {
+        &self.membership.members
+    }
+
+    pub(crate) fn groups(&self) -> &[GroupRules]
+        ensures { result.now ≡ self.now.groups }
+    {
+        self.rules.groups.as_slice()
+    }
+
+    // The numbers of an interface's groups.
+    pub(crate) fn groups_of(&self, e: EniNo) -> &[u32]
+        ensures { result.now ≡ slice_index_or self.now.interfaces e.0 [] }
+    {
+        let interfaces = self.membership.interfaces.as_slice();
+        let e = e.0 as usize;
+        if e >= interfaces.len() {
+            return &[];
+        }
+        interfaces[e].as_slice()
     }
 }

@@ -11,7 +11,8 @@ use address_sets::{AddressSet, Run};
 use std::alloc::{AllocError, Global};
 use vpc_base::OwnList;
 
-fn are_alike(one: &Rule, other: &Rule) -> bool
+/// Whether two rules are for one protocol and the same ports.
+pub fn are_alike(one: &Rule, other: &Rule) -> bool
     ensures { result ≡ true → AreAlike one.now other.now }
 {
     one.proto == other.proto && (one.q_from == other.q_from && one.q_to == other.q_to)

@@ -18,6 +18,7 @@ mod rules;
 mod runs_on;
 mod tables;
 
+pub use alike::AlikeGroups;
 pub use groups::GroupRules;
 pub use index::GroupIndex;
 pub use rules::Rule;

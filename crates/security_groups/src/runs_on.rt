@@ -125,6 +125,16 @@ pub fn before_next(
     i.part
 }
 
+// Whether a rule allows the packet, where most rules end before its port: that is asked first and in place.
+fn allows_at(lists: &[AddressSet], members: &NumberSet, rule: &Rule, dir: Dir, h: &Header) -> bool
+    ensures { result ≡ allows lists.now members.now dir h.now rule.now }
+{
+    if rule.q_to < h.q {
+        return false;
+    }
+    allows(lists, members, rule, dir, h)
+}
+
 fn allowing_in(
     lists: &[AddressSet],
     members: &NumberSet,
@@ -135,7 +145,7 @@ fn allowing_in(
     ensures { FindsOne (allows lists.now members.now dir h.now) rules.now result }
 {
     for (k, rule) in rules.iter().enumerate() {
-        if allows(lists, members, rule, dir, h) {
+        if allows_at(lists, members, rule, dir, h) {
             return Some(k);
         }
     }

@@ -1,5 +1,5 @@
 use Rattle.std.proofs.Common.{map, string_bytes}
-use Rattle.command_job.proofs.Answers.{if_ok}
+use Rattle.vpc_base.proofs.Results.{if_ok}
 use Rattle.change_report.specs.Answered.{IsAnswerTo, IsPrinted}
 use Rattle.change_report.proofs.AnswerLemmas.{answered_by}
 use Rattle.change_report.proofs.answers.answer_asked.Goals as goal

@@ -1,5 +1,5 @@
 use Rattle.std.proofs.Common.{map, string_bytes}
-use Rattle.command_job.proofs.Answers.{if_ok, if_ok_two}
+use Rattle.vpc_base.proofs.Results.{if_ok, if_ok_two}
 use Rattle.query_words.proofs.EventLemmas.{refused_if_told}
 use Rattle.query_words.specs.ChangeQuery.{change_query_of}
 use Rattle.change_report.specs.Answered as answered

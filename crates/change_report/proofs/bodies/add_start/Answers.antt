@@ -1,6 +1,6 @@
 use Rattle.std.proofs.Common.{refl, subst}
+use Rattle.vpc_base.proofs.Results.{on_ok_three}
 use Rattle.journey_changes.specs.declared.changes.Change.{Change}
-use Rattle.listing_text.proofs.BodyLemmas.{on_ok_three}
 use Rattle.listing_text.specs.Bodies.{IsGatheredFrom}
 use Rattle.listing_text.specs.Bodies as bodies
 use Rattle.ordered_cover.specs.declared.rows.Gathered.{Gathered}

@@ -1,6 +1,7 @@
 use Rattle.std.proofs.Common.{◌∙◌, get_or, sym}
 use Rattle.std.proofs.lemmas.List.{get_or_default}
-use Rattle.listing_text.proofs.BodyLemmas.{body-part, body-whole, none_if, so_far-few, so_far-more, so_far-none, some_if}
+use Rattle.vpc_base.proofs.Options.{none_if, some_if}
+use Rattle.listing_text.proofs.BodyLemmas.{body-part, body-whole, so_far-few, so_far-more, so_far-none}
 use Rattle.change_report.specs.Texts.{lines_at}
 use Rattle.change_report.specs.Told.{wanted}
 use Rattle.change_report.specs.Walked.{nowhere}

@@ -1,5 +1,5 @@
 use Rattle.std.proofs.Common.{◌∙◌, All, AllPairs, List, subst, sym}
-use Rattle.command_job.proofs.Answers.{if_ok}
+use Rattle.vpc_base.proofs.Results.{if_ok}
 use Rattle.header_boxes.specs.Boxes.{AreDisjoint, IsValid}
 use Rattle.header_boxes.specs.declared.boxes.Box5.{Box5}
 use Rattle.change_report.proofs.BoxLemmas.{boxes_at-as, boxes_at-disjoint, boxes_at-valid}

@@ -1,5 +1,5 @@
 use Rattle.std.proofs.Common.{◌∙◌, sym, subst}
-use Rattle.command_job.proofs.Answers.{if_ok}
+use Rattle.vpc_base.proofs.Results.{if_ok}
 use Rattle.box_gather.specs.Over.{IsGatheredOver}
 use Rattle.journey_changes.specs.Changes.{change_of, cuts_of_both}
 use Rattle.journey_changes.specs.Sent.{AreSentWell, Sent}

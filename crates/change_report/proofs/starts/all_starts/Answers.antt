@@ -1,5 +1,5 @@
 use Rattle.std.proofs.Common.{◌≡◌, ◌∙◌, ap}
-use Rattle.command_job.proofs.Answers.{if_ok}
+use Rattle.vpc_base.proofs.Results.{if_ok}
 use Rattle.change_report.specs.Asked.{AreAllStarts, starts_among}
 use Rattle.change_report.proofs.starts.all_starts.Goals as goal
 

@@ -1,4 +1,4 @@
-use Rattle.command_job.proofs.Answers.{if_ok}
+use Rattle.vpc_base.proofs.Results.{if_ok}
 use Rattle.change_report.proofs.StartLemmas.{starts_are_ends}
 use Rattle.change_report.proofs.starts.starts_of.Goals as goal
 

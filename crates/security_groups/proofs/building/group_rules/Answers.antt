@@ -1,6 +1,6 @@
 use Rattle.std.proofs.Common.{arith}
+use Rattle.vpc_base.proofs.Zips.{zip_next}
 use Rattle.security_groups.specs.Resolved.{IsGroupOf}
-use Rattle.security_groups.proofs.Zips.{zip_next}
 use Rattle.security_groups.proofs.building.group_rules.Goals as goal
 
 pub loop-group-preserved : goal.loop-group-preserved

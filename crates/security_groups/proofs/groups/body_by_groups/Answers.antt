@@ -1,6 +1,6 @@
 use Rattle.std.proofs.Common.{arith, get_or}
 use Rattle.std.proofs.lemmas.List.{get_or_default}
-use Rattle.image_tests.proofs.Trying.{row_has}
+use Rattle.vpc_base.proofs.Members.{row_has}
 use Rattle.security_groups.proofs.GroupsOn.{one-group-allows}
 use Rattle.security_groups.proofs.groups.body_by_groups.Goals as goal
 

@@ -1,6 +1,7 @@
 use Rattle.std.proofs.Common.{arith, get_or, true}
 use Rattle.std.proofs.lemmas.List.{get_or_default}
-use Rattle.image_tests.proofs.Trying.{any_passes, none_passes_yet, one_passes, row_has, trying_first, trying_last, trying_next}
+use Rattle.vpc_base.proofs.Members.{row_has}
+use Rattle.image_tests.proofs.Trying.{any_passes, none_passes_yet, one_passes, trying_first, trying_last, trying_next}
 use Rattle.security_groups.proofs.GroupsOn.{group_of_rest, group_test}
 use Rattle.security_groups.proofs.groups.each_group_on.Goals as goal
 use Rattle.security_groups.specs.Dividing.{DivideGroups}

@@ -1,8 +1,8 @@
 use Rattle.std.proofs.Common.{◌∙◌, ap, arith}
 use Rattle.std.specs.List.{list_any}
+use Rattle.vpc_base.proofs.Zips.{zip_next}
 use Rattle.prefix_text.specs.Block.{holds}
 use Rattle.security_groups.specs.Lists.{HasEntriesOf}
-use Rattle.security_groups.proofs.Zips.{zip_next}
 use Rattle.security_groups.proofs.lists.entries_of.Goals as goal
 
 pub loop-list-preserved : goal.loop-list-preserved

@@ -1,5 +1,6 @@
 use Rattle.std.proofs.Common.{◌+◌, arith, subst, sym, true}
-use Rattle.image_tests.proofs.Trying.{IsTrying, any_passes, none_passes_yet, one_passes, row_has, trying_first, trying_last, trying_next, trying_passed}
+use Rattle.vpc_base.proofs.Members.{row_has}
+use Rattle.image_tests.proofs.Trying.{IsTrying, any_passes, none_passes_yet, one_passes, trying_first, trying_last, trying_next, trying_passed}
 use Rattle.security_groups.proofs.AskingOn.{none_of_rest, rule_of_rest, rule_test}
 use Rattle.security_groups.proofs.RunsOn.{ports-above-rest}
 use Rattle.security_groups.proofs.runs_on.any_in_on.Goals as goal

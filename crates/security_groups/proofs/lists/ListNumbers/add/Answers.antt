@@ -1,5 +1,5 @@
 use Rattle.std.proofs.Common.{◌∙◌, ap, bytes_eq, not, refl, sym}
-use Rattle.reference_check.proofs.Maps.{list_any_map}
+use Rattle.vpc_base.proofs.Tests.{list_any_map}
 use Rattle.security_groups.proofs.lists.ListNumbers.add.Goals as goal
 
 pub returns-clause-fresh : goal.returns-clause-fresh

@@ -1,5 +1,6 @@
 use Rattle.std.proofs.Common.{◌∙◌, ap, bytes_eq, sym}
-use Rattle.reference_check.proofs.Maps.{bytes_eq_swap, position_map}
+use Rattle.vpc_base.proofs.Bytes.{bytes_eq-comm}
+use Rattle.vpc_base.proofs.Positions.{position_map}
 use Rattle.security_groups.proofs.lists.ListNumbers.place.Goals as goal
 
 pub returns-clause-number : goal.returns-clause-number
@@ -8,4 +9,4 @@ returns-clause-number c =
     (c.get_index_of.ensures.index
     ∙ sym
     (position_map (λ k. k.items) (λ i. bytes_eq i c.args.id.now) (λ k. bytes_eq c.bytes.result.now k.items)
-    (λ k. bytes_eq_swap k.items c.args.id.now ∙ ap (λ b. bytes_eq b k.items) (sym c.bytes.ensures.value)) _))
+    (λ k. bytes_eq-comm k.items c.args.id.now ∙ ap (λ b. bytes_eq b k.items) (sym c.bytes.ensures.value)) _))
