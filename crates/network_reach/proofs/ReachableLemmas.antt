@@ -10,9 +10,7 @@ use Rattle.block_report.specs.Hops.{hop_lines}
 use Rattle.block_report.specs.Reports.{arrived_header, lines_of_walk, reachable_text, reply_lines}
 use Rattle.block_report.specs.Walks.{outcome_line}
 use Rattle.block_report.specs.Words.{header_text, line_end, word}
-use Rattle.vpc_laws.proofs.Same.{ends_are_told_apart}
-use Rattle.vpc_laws.proofs.Telling.{walks_are_sound}
-use Rattle.box_walk.proofs.Telling.{start-sound}
+use Rattle.vpc_laws.proofs.Telling.{start-sound, walks_are_sound}
 use Rattle.vpc_laws.specs.Sound.{IsSoundHop}
 use Rattle.vpc_laws.specs.Types.{Description, End, Header, Hop, Outcome, Phase, Stop, Verdict}
 use Rattle.vpc_model.specs.Accepted.{IsAccepted}
@@ -27,6 +25,7 @@ use Rattle.vpc_model.specs.declared.outcomes.Outcome.TheVariants as outcomes
 use Rattle.vpc_model.specs.declared.outcomes.Phase.TheVariants as phases
 use Rattle.vpc_model.specs.declared.outcomes.Verdict.TheVariants as verdicts
 use Rattle.vpc_model.specs.declared.stops.Stop.TheVariants as stops
+use Rattle.box_walk.proofs.JourneyLemmas.{same-itself, same-only}
 use Rattle.network_reach.specs.Reachable.{arrival_text, packet_line, packet_text, phase_text}
 
 -- ---- what a request that gets through has passed
@@ -50,15 +49,12 @@ tested false v other not is = absurd (not is)
 stopped : (phase : Phase) (s : Stop) → verdicts.Stopped phase s ≡ verdicts.Through → ⊥
 stopped phase s is = cc
 
-same-ends : (a b : End) → same_end a b ≡ true → a ≡ b
-same-ends a b is = let told = ends_are_told_apart a b in told.0 is
-
 returned : (start : End) (h : Header) (o : Outcome) → verdict_of_reply start h o ≡ verdicts.Through → (k : Header) × (o ≡ outcomes.Arrived start k)
 returned start h (outcomes.Stopped s) is = absurd (stopped phases.Reply s is)
 returned start h (outcomes.Arrived end k) is =
     let through = tested (same_end end start && is_header k (reply_of h)) verdicts.Through (verdicts.Stopped phases.Reply (stops.WrongReturn end)) (stopped phases.Reply (stops.WrongReturn end)) is in
     let parts = and_parts (same_end end start) (is_header k (reply_of h)) through.0 in
-    (k, ap (λ (e : End). outcomes.Arrived e k) (same-ends end start parts.0))
+    (k, ap (λ (e : End). outcomes.Arrived e k) (same-only end start parts.0))
 
 answered : (d : Description) (a : Appliances) (start goal : End) (h : Header) (request : Walk) (o : Option Header) → verdict_of_arrival d a start goal h request o ≡ verdicts.Through
     → (r : Header) × ((o ≡ Some r) × ArrivesAt (reply_walk d a goal r request) start)
@@ -72,7 +68,7 @@ arrived : (d : Description) (a : Appliances) (start goal : End) (h : Header) (re
 arrived d a start goal h request (outcomes.Stopped s) at is = absurd (stopped phases.Request s is)
 arrived d a start goal h request (outcomes.Arrived end k) at is =
     let through = tested (same_end end goal) (verdict_of_arrival d a start goal h request (reply_of k)) (verdicts.Stopped phases.Request (stops.WrongPlace end)) (stopped phases.Request (stops.WrongPlace end)) is in
-    (record { header = k; outcome = at ∙ ap (λ (e : End). outcomes.Arrived e k) (same-ends end goal through.0) }, answered d a start goal h request (reply_of k) through.1)
+    (record { header = k; outcome = at ∙ ap (λ (e : End). outcomes.Arrived e k) (same-only end goal through.0) }, answered d a start goal h request (reply_of k) through.1)
 
 gets-through : (d : Description) (a : Appliances) (start goal : End) (h : Header) → verdict_of d a start goal h ≡ verdicts.Through → GetsThrough d a start goal h
 gets-through d a start goal h is =
@@ -80,14 +76,11 @@ gets-through d a start goal h is =
     let parts = arrived d a start goal h request request.outcome refl is in
     record { request = parts.0; answer = parts.1.0; replied = parts.1.1.0; reply = parts.1.1.1 }
 
-nothing-stops : (d : Description) (v : Verdict) → ending_of d v ≡ None → v ≡ verdicts.Through
+pub nothing-stops : (d : Description) (v : Verdict) → ending_of d v ≡ None → v ≡ verdicts.Through
 nothing-stops d verdicts.Through is = refl
 nothing-stops d (verdicts.Stopped phase s) is = cc
 
 -- ---- its hops
-
-same-goal : (goal : End) → same_end goal goal ≡ true
-same-goal goal = let told = ends_are_told_apart goal goal in told.1 refl
 
 then-first : (b : Bool) (xs ys : List Hop) → b ≡ true → cond b xs ys ≡ xs
 then-first true xs ys is = refl
@@ -98,7 +91,7 @@ reply-hops : (d : Description) (a : Appliances) (start goal : End) (h : Header) 
 reply-hops d a start goal h x =
     let request = request_walk d a start h in
     ap (hops_after d a goal request) x.request.outcome
-    ∙ (then-first (same_end goal goal) (hops_of_reply d a goal request (reply_of x.request.header)) _ (same-goal goal)
+    ∙ (then-first (same_end goal goal) (hops_of_reply d a goal request (reply_of x.request.header)) _ (same-itself goal)
     ∙ ap (hops_of_reply d a goal request) x.replied)
 
 -- all hops are sound

@@ -5,13 +5,15 @@ use Rattle.std.specs.Prelude.{option_map, slice_index_or}
 use Rattle.std.proofs.lemmas.List.{length-map}
 use Rattle.header_boxes.proofs.Held.{holds_low, valid_if_within}
 use Rattle.header_boxes.specs.Boxes.{low_of}
-use Rattle.header_boxes.specs.Rows.{AreTrueRows, IsFirst, NoneThrough}
+use Rattle.header_boxes.specs.Rows.{AreTrueRows, IsFirst, IsFirstThrough, NoneThrough}
 use Rattle.header_boxes.specs.declared.boxes.Box5.{Box5}
 use Rattle.header_boxes.specs.declared.rows.Row.{Row}
 use Rattle.block_report.specs.Reports.{HaveText, told_row, told_rows}
 use Rattle.box_walk.proofs.Texts.{ending_of-stop, stop_told}
 use Rattle.box_walk.specs.Asking.{Asking, asked, stopped_of, whether, word_of}
-use Rattle.ordered_cover.specs.Cover.{IsBlocked, IsMore}
+use Rattle.ordered_cover.specs.Cover.{IsBlocked, IsMore, IsSearched}
+use Rattle.ordered_cover.specs.declared.rows.Searched.{Searched}
+use Rattle.ordered_cover.specs.declared.rows.Searched.TheVariants as searches
 use Rattle.query_words.specs.declared.queries.Query.{Query}
 use Rattle.vpc_laws.proofs.Telling.{verdicts_are_told}
 use Rattle.vpc_laws.specs.Types.{Description, Header, Phase, Stop, StopText}
@@ -72,6 +74,21 @@ pub first_by_stops : {E : Type 0} (d : Description) (query : Query) (a : Asking)
 first_by_stops d query a (Ok o) is found =
     first_is d query o (first_unstopped (stops_of d query) query.sides o (subst (λ (b : Asking). IsFirst (stopped_of b) query.sides o) is found))
 first_by_stops d query a (Err e) is found = tt
+
+-- what a search of some parts answers
+pub searched_by_stops : {E : Type 0} (d : Description) (query : Query) (a : Asking) (r : Result Searched E) → a ≡ asked d query.start query.goal
+    → IfOk r (IsSearched (stopped_of a) query.sides) → IfOk r (IsSearched (meaning_in d query) query.sides)
+searched_by_stops d query a (Ok (searches.Found h)) is found =
+    first_is d query (Some h) (first_unstopped (stops_of d query) query.sides (Some h) (subst (λ (b : Asking). IsFirst (stopped_of b) query.sides (Some h)) is found))
+searched_by_stops d query a (Ok searches.Blocked) is none =
+    first_is d query None (first_unstopped (stops_of d query) query.sides None (subst (λ (b : Asking). IsFirst (stopped_of b) query.sides None) is none))
+searched_by_stops d query a (Ok searches.Unfinished) is found = tt
+searched_by_stops d query a (Err e) is found = tt
+
+-- a cover's first header that gets through is the query's
+pub through_is : (d : Description) (query : Query) (a : Asking) (h : Header) → a ≡ asked d query.start query.goal
+    → IsFirstThrough (word_of a) query.sides h → IsReached d query (answers.Through h)
+through_is d query a h is found = first_is d query (Some h) (subst (λ (b : Asking). IsFirst (word_of b) query.sides (Some h)) is found)
 
 -- what is told where something stops a header
 untold : (d : Description) (o : Option (Phase × Stop)) → o ≡ None → option_map (tell d) o ≡ None

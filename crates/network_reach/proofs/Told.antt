@@ -1,13 +1,14 @@
 -- Rows whose words are told in other words.
-use Rattle.std.proofs.Common.{◌≡◌, ◌≢◌, ◌<◌, true, List, [], ◌∷◌, Option, Some, None, refl, sym, ap, subst, ◌∙◌, length, map, arith}
-use Rattle.std.specs.List.{All, AllPairs}
+use Rattle.std.proofs.Common.{◌≡◌, ◌≢◌, true, List, Option, None, sym, ap, ◌∙◌, map}
+use Rattle.std.specs.List.{All}
 use Rattle.std.specs.Prelude.{option_map, slice_index_or}
-use Rattle.std.proofs.lemmas.List.{get_or-map, length-map}
 use Rattle.std.proofs.lemmas.List.Elements.{All-map}
-use Rattle.address_sets.proofs.Blocks.{list_any-map}
 use Rattle.vpc_base.specs.Cuts.{CutLists}
 use Rattle.vpc_base.specs.Header.{IsBefore}
 use Rattle.vpc_base.specs.declared.headers.Header.{Header}
+use Rattle.vpc_base.proofs.Options.{option_map-None}
+use Rattle.vpc_base.proofs.Pairs.{AllPairs-map}
+use Rattle.vpc_base.proofs.Tests.{list_any-map}
 use Rattle.header_boxes.specs.Boxes.{AreDisjoint, IsWithin, holds, low_of}
 use Rattle.header_boxes.specs.Cells.{IsAligned}
 use Rattle.header_boxes.specs.Rows.{AreOrdered, AreTrueRows, AreWhole, HasWord, IsFirstOutside, IsFirstThrough, NoneThrough, is_covered}
@@ -25,13 +26,9 @@ told_row tell r = record { part = r.part; word = tell r.word }
 
 -- ---- headers that get through
 
-none_told : {V W : Type 0} (tell : V → W) (o : Option V) → option_map tell o ≡ None → o ≡ None
-none_told tell None e = refl
-none_told tell (Some v) e = cc
-
 still_stopped : {V W : Type 0} (tell : V → W) (word : Header → Option V) (meaning : Header → Option W) (box : Box5) → Tells tell word meaning box
     → (h : Header) → holds h box ≡ true → word h ≢ None → meaning h ≢ None
-still_stopped tell word meaning box tells h held some e = some (none_told tell (word h) (sym (tells h held) ∙ e))
+still_stopped tell word meaning box tells h held some e = some (option_map-None tell (word h) (sym (tells h held) ∙ e))
 
 pub first_told : {V W : Type 0} (tell : V → W) (word : Header → Option V) (meaning : Header → Option W) (box : Box5) (h : Header) → Tells tell word meaning box
     → IsFirstThrough word box h → IsFirstThrough meaning box h
@@ -47,15 +44,6 @@ none_through_told tell word meaning box tells none h held = still_stopped tell w
 
 -- ---- rows
 
-pairs_map : {X Y : Type 0} (R : Y → Y → Type 0) (f : X → Y) (xs : List X) → AllPairs (λ a b. R (f a) (f b)) xs → AllPairs R (map f xs)
-pairs_map R f [] pairs i j d before within = absurd (omega arith)
-pairs_map {Y = Y} R f (x ∷ xs) pairs i j d before within =
-    let j_in : j < length (x ∷ xs) = omega (arith, length-map (x ∷ xs) f) in
-    let first = get_or-map f (x ∷ xs) i x d (omega arith) in
-    let second = get_or-map f (x ∷ xs) j x d j_in in
-    subst (λ (y : Y). R y (slice_index_or (map f (x ∷ xs)) j d)) (sym first)
-    (subst (λ (y : Y). R (f (slice_index_or (x ∷ xs) i x)) y) (sym second) (pairs i j x before j_in))
-
 has_word : {V W : Type 0} (tell : V → W) (word : Header → Option V) (meaning : Header → Option W) (box : Box5) → Tells tell word meaning box
     → (row : Row V) → IsWithin row.part box → HasWord word row → HasWord meaning (told_row tell row)
 has_word tell word meaning box tells row within has h held = tells h (within_holds row.part box h within held) ∙ ap (option_map tell) (has h held)
@@ -64,14 +52,14 @@ pub true_told : {V W : Type 0} (tell : V → W) (word : Header → Option V) (me
     → AreTrueRows word box rows → AreTrueRows meaning box (map (told_row tell) rows)
 true_told {W = W} tell word meaning box rows tells are = record {
   within = All-map (λ (r : Row W). IsWithin r.part box) (told_row tell) rows are.within;
-  disjoint = pairs_map (λ (a b : Row W). AreDisjoint a.part b.part) (told_row tell) rows are.disjoint;
+  disjoint = AllPairs-map (λ (a b : Row W). AreDisjoint a.part b.part) (told_row tell) rows are.disjoint;
   word = All-map (HasWord meaning) (told_row tell) rows (λ k x below. has_word tell word meaning box tells (slice_index_or rows k x) (are.within k x below) (are.word k x below));
 }
 
 -- they stay ordered
 pub ordered_told : {V W : Type 0} (tell : V → W) (box : Box5) (cuts : CutLists) (rows : List (Row V)) → AreOrdered cuts box rows → AreOrdered cuts box (map (told_row tell) rows)
 ordered_told {W = W} tell box cuts rows are = record {
-  ascending = pairs_map (λ (a b : Row W). IsBefore (low_of a.part) (low_of b.part)) (told_row tell) rows are.ascending;
+  ascending = AllPairs-map (λ (a b : Row W). IsBefore (low_of a.part) (low_of b.part)) (told_row tell) rows are.ascending;
   aligned = All-map (λ (r : Row W). IsAligned cuts r.part box) (told_row tell) rows are.aligned;
 }
 

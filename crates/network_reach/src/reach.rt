@@ -1,8 +1,10 @@
 // The answer to a query.
 ghost use Rattle.std.specs.Prelude.{◌≡◌, IfOk};
-ghost use Rattle.box_walk.specs.Asking.{asked};
+ghost use Rattle.box_walk.specs.Asking.{asked, word_of};
 ghost use Rattle.header_boxes.specs.Rows.{IsFirst, NoneThrough};
+ghost use Rattle.ordered_cover.specs.Cover.{IsMore, IsSearched};
 ghost use Rattle.vpc_model.specs.Appliances.{appliances_of};
+ghost use Rattle.vpc_model.specs.Cuts.{cuts_of};
 ghost use Rattle.network_reach.specs.Reached.{IsQueryIn, IsReached, meaning_in};
 
 use appliances::Deciders;
@@ -10,12 +12,15 @@ use box_walk::{RoundProbe, ThroughProbe};
 use cut_points::cells_in;
 use fabric::Fabric;
 use header_boxes::Row;
-use ordered_cover::Cover;
-use ordered_cover::search::{cover, first};
+use ordered_cover::search::{cover, first, first_within};
+use ordered_cover::{Cover, Searched};
 use query_words::Query;
 use std::alloc::Global;
 use vpc_base::{Header, NoMemory};
 use vpc_model::{Phase, Stop};
+
+// So many parts are asked of for a header that gets through before rows are made, where rows cost as little.
+const FEW_PARTS: u32 = 256;
 
 /// What is known of the requests of a query.
 #[derive(Drop)]
@@ -44,6 +49,63 @@ fn first_by(
     first(alloc, &ThroughProbe::of(round), query.sides)
 }
 
+// How many parts are asked of for a header that gets through before rows are made. Requests that are sent to one address
+// fall into the same parts in both. Of those to many addresses a search doesn't tell apart what misses the goal: it asks
+// all of its parts.
+fn parts_first(query: &Query) -> u32 {
+    if query.sides.dst.0 == query.sides.dst.1 {
+        FEW_PARTS
+    } else {
+        u32::MAX
+    }
+}
+
+// What a search of these parts tells, without asking what stops the others.
+fn glance(
+    alloc: Global,
+    f: &Fabric,
+    round: &RoundProbe,
+    query: &Query,
+) -> Result<Searched, NoMemory>
+    requires query { IsQueryIn f.now query.now }
+    requires round { asked round.now.fabric.now round.now.start round.now.goal
+        ≡ asked f.now query.now.start query.now.goal }
+    ensures { IfOk result (IsSearched (meaning_in f.now query.now) query.now.sides) }
+{
+    first_within(
+        alloc,
+        &ThroughProbe::of(round),
+        query.sides,
+        parts_first(query),
+    )
+}
+
+// The answer where there are more rows than a report may have: what comes after them is searched for a header that
+// gets through alone.
+fn beyond(
+    alloc: Global,
+    f: &Fabric,
+    round: &RoundProbe,
+    query: &Query,
+    rows: Vec<Row<(Phase, Stop)>>,
+    next: Header,
+) -> Result<Reached, NoMemory>
+    requires query { IsQueryIn f.now query.now }
+    requires round { asked round.now.fabric.now round.now.start round.now.goal
+        ≡ asked f.now query.now.start query.now.goal }
+    requires more { IsMore (word_of (asked f.now query.now.start query.now.goal)) (cuts_of f.now)
+        query.now.sides query.now.max rows.items next }
+    ensures { IfOk result (IsReached f.now query.now) }
+{
+    match first_by(alloc, f, round, query)? {
+        Some(h) => Ok(Reached::Through(h)),
+        None => {
+            let cells = cells_in(alloc, f.network().description(), &query.sides)?;
+            Ok(Reached::More(rows, next, cells))
+        }
+    }
+}
+
 // The report of a query of which no request gets through. As many rows are asked for as it may have, and what comes
 // after them isn't.
 fn blocked(
@@ -69,9 +131,31 @@ fn blocked(
     }
 }
 
+// The answer by rows. Those of a report are made at once, since they tell whether a header gets through as a search does.
+fn by_rows(
+    alloc: Global,
+    f: &Fabric,
+    round: &RoundProbe,
+    query: &Query,
+) -> Result<Reached, NoMemory>
+    requires query { IsQueryIn f.now query.now }
+    requires round { asked round.now.fabric.now round.now.start round.now.goal
+        ≡ asked f.now query.now.start query.now.goal }
+    ensures { IfOk result (IsReached f.now query.now) }
+{
+    // That the network is accepted is a clause of this call.
+    let _ = f.network().description();
+    match cover(alloc, round, query.sides, query.max)? {
+        Cover::Found(h) => Ok(Reached::Through(h)),
+        Cover::Blocked(rows) => Ok(Reached::Blocked(rows)),
+        Cover::More(rows, next) => beyond(alloc, f, round, query, rows, next),
+    }
+}
+
 /// Which requests of a query get through, with their replies, or what stops each of them. The first header that gets
-/// through is searched for first, by a probe that doesn't tell apart what stops the others; only where there is none
-/// are rows made, and their number limits the report alone.
+/// through is searched for first, by a probe that doesn't tell apart what stops the others: among a few parts where all requests
+/// are sent to one address, which answers most questions, else among all. Then rows are made. Their number limits the
+/// report alone: where there are more, and some parts weren't searched, the search goes over all requests.
 ///
 /// Each part that is asked is as large as the rows on its two walks let it be. Only where rows are left out are
 /// the cuts of the description gathered, and those that divide a side of the query sorted. Fails for want of
@@ -88,9 +172,10 @@ pub fn reach(
 {
     let mut probe = RoundProbe::of(f, deciders, query.start, query.goal);
     probe.look_ahead(&query.sides);
-    match first_by(alloc, f, &probe, query)? {
-        Some(h) => Ok(Reached::Through(h)),
-        None => blocked(alloc, f, &probe, query),
+    match glance(alloc, f, &probe, query)? {
+        Searched::Found(h) => Ok(Reached::Through(h)),
+        Searched::Blocked => blocked(alloc, f, &probe, query),
+        Searched::Unfinished => by_rows(alloc, f, &probe, query),
     }
 }
 

@@ -7,6 +7,7 @@ use Rattle.std.proofs.lemmas.List.Kept.{AllPairs-cons}
 use Rattle.std.proofs.lemmas.List.Sums.{sum_by-cons}
 use Rattle.std.specs.List.{AllPairs}
 use Rattle.vpc_base.specs.Cuts.{CutLists}
+use Rattle.vpc_base.proofs.Pairs.{AllPairs-map}
 use Rattle.header_boxes.specs.Boxes.{holds, IsWithin, AreDisjoint, low_of}
 use Rattle.header_boxes.specs.Cells.{IsAligned, cell_of, cells_of}
 use Rattle.header_boxes.specs.declared.boxes.Box5.{Box5}
@@ -71,12 +72,6 @@ module _ {X : Type 0} (f : X → ℕ) where
   length-le-bound xs n below apart = let a = all_below xs n below in let b = few_below xs n apart in omega (arith, a, b)
 
 -- ---- boxes
-AllPairs-map : {X Y : Type 0} (R : Y → Y → Type 0) (f : X → Y) (xs : List X) → AllPairs (λ a b. R (f a) (f b)) xs → AllPairs R (map f xs)
-AllPairs-map R f [] h = λ i j d lt inside. absurd (omega arith)
-AllPairs-map R f (x ∷ xs) h =
-    AllPairs-cons R (f x) (map f xs) (All-map (R (f x)) f xs (λ k d lt. h 0 (suc k) d (omega arith) (omega arith)))
-    (AllPairs-map R f xs (λ i j d lt inside. h (suc i) (suc j) d (omega arith) (omega arith)))
-
 -- there are no more disjoint aligned boxes than cells
 pub boxes_within_cells : (cuts : CutLists) (sides : Box5) (boxes : List Box5) → All (λ b. IsWithin b sides) boxes → All (λ b. IsAligned cuts b sides) boxes → AllPairs AreDisjoint boxes
     → length boxes ≤ cells_of cuts sides

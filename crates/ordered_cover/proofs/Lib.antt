@@ -1,6 +1,5 @@
 pub mod Lists
 pub mod Order
-pub mod Boxes
 pub mod Rests
 pub mod Cells
 pub mod Splits

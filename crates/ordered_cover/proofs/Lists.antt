@@ -28,7 +28,11 @@ IsPermutation-add_more old added now new k d lt all one =
     subst (λ v. IsPermutation (old ++ v) new) (sym (take_more added k d lt))
     (subst (λ v. IsPermutation v new) (append_assoc old (take k added) (get_or added k d ∷ [])) (IsPermutation-push_more _ _ _ _ all one))
 
-zero_for : (b : Bool) → b ≢ true → one_if b ≡ 0
+pub at_most_one : (b : Bool) → one_if b ≤ 1
+at_most_one true = omega arith
+at_most_one false = omega arith
+
+pub zero_for : (b : Bool) → b ≢ true → one_if b ≡ 0
 zero_for true h = absurd (h refl)
 zero_for false h = refl
 

@@ -1,6 +1,6 @@
 -- Ranges of open numbers, from the first on.
-use Rattle.std.proofs.Common.{◌≡◌, ◌≢◌, ◌≤◌, ◌<◌, ◌+◌, ◌&&◌, ◌||◌, ◌⊎◌, ℕ, Bool, true, false, List, [], ◌∷◌, ◌++◌, Option, All, refl, ap, sym, ◌∙◌, subst, arith, inl, inr, ⊎_elim}
-use Rattle.std.proofs.lemmas.Bool.{cases_lt}
+use Rattle.std.proofs.Common.{◌≡◌, ◌≢◌, ◌≤◌, ◌<◌, ◌+◌, ◌&&◌, ◌||◌, ℕ, Bool, true, false, List, [], ◌∷◌, ◌++◌, Option, All, refl, ap, sym, ◌∙◌, subst, arith, ⊎_elim}
+use Rattle.std.proofs.lemmas.Bool.{and_parts, cases_lt, or_cases, or_right}
 use Rattle.std.proofs.lemmas.Bool.Decides.{nat_tests}
 use Rattle.std.proofs.lemmas.List.Elements.{All-nil, All-push, All-weaker}
 use Rattle.std.proofs.lemmas.List.Folds.{list_any-append}
@@ -8,7 +8,7 @@ use Rattle.std.proofs.lemmas.List.Quantifiers.{all_pairs_push}
 use Rattle.vpc_base.specs.declared.headers.Header.{Header}
 use Rattle.header_boxes.specs.Boxes.{IsValid, in_range}
 use Rattle.header_boxes.specs.declared.boxes.Box5.{Box5}
-use Rattle.header_boxes.proofs.Held.{holds_from_in, in_from_holds}
+use Rattle.header_boxes.proofs.Held.{holds_from_in, in_from_holds, range_holds, range_in}
 use Rattle.ordered_cover.specs.Passed.{AreDecided, AreOpenBelow, AreRangesBelow}
 use Rattle.ordered_cover.specs.Ports.{AreOpenPorts, IsOpenPort, is_in_ranges}
 use Rattle.ordered_cover.proofs.Lists.{all_before, of_last, pairs_before, pairs_with_last}
@@ -93,24 +93,6 @@ in_joined before r first last q touch le b =
 
 -- ---- the numbers that are decided
 
-or_either : (a b : Bool) → (a || b) ≡ true → (a ≡ true) ⊎ (b ≡ true)
-or_either true b e = inl refl
-or_either false b e = inr e
-
-or_second : (a b : Bool) → b ≡ true → (a || b) ≡ true
-or_second true b e = refl
-or_second false b e = e
-
-and_both : (a b : Bool) → (a && b) ≡ true → (a ≡ true) × (b ≡ true)
-and_both true b e = (refl, e)
-and_both false b e = absurd cc
-
-range_of : (r : ℕ × ℕ) (q : ℕ) → in_range r q ≡ true → (r.0 ≤ q) × (q ≤ r.1)
-range_of r q e = (grind (arith, nat_tests), grind (arith, nat_tests))
-
-in_range_of : (r : ℕ × ℕ) (q : ℕ) → r.0 ≤ q → q ≤ r.1 → in_range r q ≡ true
-in_range_of r q ge le = grind (arith, nat_tests)
-
 module _ {W : Type 0} {meaning : Header → Option W} {sides : Box5} where
   -- none at first
   pub open_at_start : (ranges : List (ℕ × ℕ)) → ranges ≡ [] → IsValid sides → AreOpenBelow meaning sides sides ranges
@@ -182,10 +164,10 @@ module _ {W : Type 0} {meaning : Header → Option W} {sides : Box5} where
           ⊎_elim
           (λ before. let o = (b.hold q).0 before in let lt = o.0 in let begins = d.begins in (omega (arith, lt, begins), o.1))
           (λ now.
-          let both = and_both are_open (in_range (left.q.0, last) q) now in
-          let r = range_of (left.q.0, last) q both.1 in
+          let both = and_parts are_open (in_range (left.q.0, last) q) now in
+          let r = range_in (left.q.0, last) q both.1 in
           (omega (arith, r), open_in_sides q ((d.each q r.0 r.1).0 both.0)))
-          (or_either (is_in_ranges old q) (are_open && in_range (left.q.0, last) q) (sym (more q) ∙ t))
+          (or_cases (is_in_ranges old q) (are_open && in_range (left.q.0, last) q) (sym (more q) ∙ t))
 
       held : (q : ℕ) → q < last + 1 → IsOpenPort meaning sides q → is_in_ranges new q ≡ true
       held q lt o =
@@ -193,8 +175,8 @@ module _ {W : Type 0} {meaning : Header → Option W} {sides : Box5} where
           (λ before. more q ∙ ap (λ v. v || (are_open && in_range (left.q.0, last) q)) ((b.hold q).1 (before, o)))
           (λ ge.
           let le : q ≤ last = omega (arith, lt) in
-          more q ∙ or_second (is_in_ranges old q) (are_open && in_range (left.q.0, last) q)
-          (ap (λ v. v && in_range (left.q.0, last) q) ((d.each q ge le).1 (open_in_left q ge o)) ∙ in_range_of (left.q.0, last) q ge le))
+          more q ∙ or_right (is_in_ranges old q) (are_open && in_range (left.q.0, last) q)
+          (ap (λ v. v && in_range (left.q.0, last) q) ((d.each q ge le).1 (open_in_left q ge o)) ∙ range_holds (left.q.0, last) q ge le))
           (cases_lt q left.q.0)
 
       -- more is decided

@@ -3,11 +3,11 @@ use Rattle.std.proofs.Common.{◌≡◌, ◌≢◌, ◌≤◌, ◌<◌, ◌+◌,
 use Rattle.std.proofs.lemmas.Bool.{cases_lt}
 use Rattle.std.specs.Option.{is_some}
 use Rattle.vpc_base.specs.declared.headers.Header.{Header}
+use Rattle.vpc_base.proofs.Options.{some_if}
 use Rattle.header_boxes.specs.Boxes.{holds, IsRangeWithin, IsValid, IsWithin, low_of}
 use Rattle.header_boxes.specs.declared.boxes.Box5.{Box5}
-use Rattle.header_boxes.proofs.Held.{IsIn, holds_from_in, holds_whole, in_from_holds, within_itself}
+use Rattle.header_boxes.proofs.Held.{IsIn, holds_from_in, holds_whole, in_from_holds, within_itself, within_trans}
 use Rattle.ordered_cover.specs.Passed.{AreDecided, IsAfter, IsAsking, IsPassed, IsSidePassed, ahead, at_dst, at_end, at_p, at_proto, at_src}
-use Rattle.ordered_cover.proofs.Boxes.{within_trans}
 
 -- ---- one side
 
@@ -99,10 +99,6 @@ module _ {sides asked part : Box5} (within : IsWithin part asked) (low : low_of 
 
 -- ---- the search
 
-has_some : {W : Type 0} (o : Option W) → is_some o ≡ true → o ≢ None
-has_some None e n = absurd cc
-has_some (Some w) e n = absurd cc
-
 rest : {part side : ℕ × ℕ} → IsRangeWithin part side → part.1 < side.1 → IsRangeWithin (part.1 + 1, side.1) side
 rest w more = record { begins = omega (arith, w.begins, w.valid); valid = omega (arith, more); ends = omega arith }
 
@@ -144,7 +140,7 @@ module _ {W : Type 0} {meaning : Header → Option W} {sides : Box5} where
     still_closed : is_some word ≡ true → (h : Header) → IsIn h sides → h.q ≤ part.q.1 → IsPassed asked h ⊎ IsInBut part h → meaning h ≢ None
     still_closed some h i le (inl passed) n = a.closed h (holds_from_in h sides i) (let e = within.q.ends in omega (arith, e, le)) passed n
     still_closed some h i le (inr j) n =
-        has_some word some
+        some_if word some
         (sym (means h (holds_from_in h part (record { proto = j.0; src = j.1.0; dst = j.1.1.0; p = j.1.1.1; q = (let b = i.q.0 in omega (arith, begins, b), le) }))) ∙ n)
 
     pub asking_next : {next : Option Box5} → is_some word ≡ true → IsAfter sides part next → IfSome next (IsAsking meaning sides)

@@ -10,36 +10,25 @@ use Rattle.std.specs.List.Sorted.{IsPermutation}
 use Rattle.vpc_base.specs.Header.{IsBefore}
 use Rattle.vpc_base.specs.Cuts.{AreAmong, CutLists}
 use Rattle.vpc_base.specs.declared.headers.Header.{Header}
+use Rattle.vpc_base.proofs.Options.{some_if, some_not_none}
 use Rattle.header_boxes.specs.Boxes.{holds, IsValid, IsWithin, AreDisjoint, low_of, volume_of}
 use Rattle.header_boxes.specs.Cells.{IsAligned, cells_of}
 use Rattle.header_boxes.specs.declared.boxes.Box5.{Box5}
 use Rattle.header_boxes.proofs.BoxLaws.{aligned_grows, low_is_least, volume_is_positive}
 use Rattle.header_boxes.proofs.CellNumbers.{aligned_through, aligned_to_itself}
-use Rattle.header_boxes.proofs.Held.{holds_low, holds_whole, valid_if_within, within_itself}
+use Rattle.header_boxes.proofs.Held.{holds_low, holds_whole, valid_if_within, within_itself, within_trans}
 use Rattle.header_boxes.specs.Rows.{IsFirstThrough, NoneThrough, HasWord, is_covered}
 use Rattle.ordered_cover.specs.Cover.{IsBlocked, IsMore}
 use Rattle.ordered_cover.specs.Gathered.{HoldAllTold, LeaveSomeOut}
 use Rattle.ordered_cover.specs.Joined.{AreJoined, GoesOn, GoesOnEitherWay}
 use Rattle.ordered_cover.specs.Open.{one_if, every, told, holders, row_holders, IsLeast, IsAsked, AreSplit, AreSplitBySome}
 use Rattle.header_boxes.specs.declared.rows.Row.{Row}
-use Rattle.ordered_cover.proofs.Lists.{one_at, any_from_one, none_from_zero, zero_from_all}
+use Rattle.ordered_cover.proofs.Lists.{one_at, any_from_one, none_from_zero, zero_from_all, zero_for, at_most_one}
 use Rattle.ordered_cover.proofs.Order.{before_trans, before_upto, before_other}
-use Rattle.ordered_cover.proofs.Boxes.{within_trans}
 use Rattle.ordered_cover.proofs.Cells.{more_cells}
-
-at_most_one : (b : Bool) → one_if b ≤ 1
-at_most_one true = omega arith
-at_most_one false = omega arith
 
 one_for : (b : Bool) → b ≡ true → one_if b ≡ 1
 one_for b h = ap one_if h
-
-zero_unless : (b : Bool) → b ≢ true → one_if b ≡ 0
-zero_unless true h = absurd (h refl)
-zero_unless false h = refl
-
-some_none : {W : Type 0} (o : Option W) (w : W) → o ≡ Some w → o ≢ None
-some_none o w e n = let k = sym e ∙ n in absurd (cc)
 
 holder_at : (boxes : List Box5) (h : Header) (k : ℕ) (d : Box5) → k < length boxes → holds h (get_or boxes k d) ≡ true → 1 ≤ holders boxes h
 holder_at boxes h = one_at (holds h) boxes
@@ -56,7 +45,7 @@ none_open open_boxes b least k before =
 clear_in_rows : {W : Type 0} {meaning : Header → Option W} (rows : List (Row W)) → All (HasWord meaning) rows → (k : Header) → is_covered rows k ≡ true → meaning k ≢ None
 clear_in_rows {meaning = meaning} rows words k covered =
     let a = Any-from_list_any (λ r. holds k r.part) rows covered in
-    some_none (meaning k) a.1.word (subst (HasWord meaning) a.3 (words a.0 a.1 a.2) k a.4)
+    some_not_none (meaning k) a.1.word (subst (HasWord meaning) a.3 (words a.0 a.1 a.2) k a.4)
 
 -- where rows hold every header none gets through
 pub none_through-from_blocked : {W : Type 0} {meaning : Header → Option W} {cuts : CutLists} {sides : Box5} {max : ℕ} {rows : List (Row W)}
@@ -212,7 +201,7 @@ module _ {W : Type 0} {meaning : Header → Option W} {cuts : CutLists} {sought 
       once = λ h. let p = open_or_part s a h in let e = s.once h in omega (arith, p, e);
       all = λ h inside wanted.
           let p = open_or_part s a h in let e = s.all h inside wanted in
-          let z : one_if (holds h part) ≡ 0 = zero_unless (holds h part) (λ in_part. unsought h (a.means h in_part) wanted) in
+          let z : one_if (holds h part) ≡ 0 = zero_for (holds h part) (λ in_part. unsought h (a.means h in_part) wanted) in
           omega (arith, p, e, z);
       within = within_new s a;
       aligned = aligned_new s a;
@@ -344,15 +333,11 @@ is_told : {W : Type 0} (o : Option W) → o ≢ None → is_some o ≡ true
 is_told None some = absurd (some refl)
 is_told (Some w) some = refl
 
-not_told : {W : Type 0} (o : Option W) → o ≡ None → is_some o ≢ true
-not_told None e t = absurd cc
-not_told (Some w) e t = absurd cc
-
 module _ {W : Type 0} {meaning : Header → Option W} {cuts : CutLists} {sides : Box5} where
   -- headers that are told nothing are passed over
   pub told_past : {old new : List Box5} {part : Box5} {rows : List (Row W)} → AreSplit meaning cuts (told meaning) sides old rows → IsAsked meaning cuts old new part None
       → AreSplit meaning cuts (told meaning) sides new rows
-  told_past s a = split_past s a (λ h. not_told (meaning h))
+  told_past s a = split_past s a (λ h e t. some_if (meaning h) t e)
 
   pub all_from_split : {open_boxes : List Box5} {rows : List (Row W)} (room : ℕ) → AreSplit meaning cuts (told meaning) sides open_boxes rows → open_boxes ≡ [] → length rows ≤ room
       → AreJoined GoesOnEitherWay rows → HoldAllTold meaning cuts sides room rows
@@ -375,7 +360,7 @@ module _ {W : Type 0} {meaning : Header → Option W} {cuts : CutLists} {sides :
         count = count;
         left_out = record {
           inside = first_inside a.whole s a.taken a.least;
-          told = some_none (meaning (low_of a.whole)) w (subst (λ (h : Header). meaning h ≡ Some w) a.low (a.means (low_of part) (holds_low part (valid_if_within part a.whole a.within))));
+          told = some_not_none (meaning (low_of a.whole)) w (subst (λ (h : Header). meaning h ≡ Some w) a.low (a.means (low_of part) (holds_low part (valid_if_within part a.whole a.within))));
           outside = first_outside a.whole s a.taken a.least;
           first = λ k inside before some. before_open old rows s a.whole a.least k inside (is_told (meaning k) some) before;
         };

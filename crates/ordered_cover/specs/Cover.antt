@@ -5,12 +5,14 @@ use Rattle.vpc_base.specs.Cuts.{AreAmong, CutLists}
 use Rattle.vpc_base.specs.declared.headers.Header.{Header}
 use Rattle.header_boxes.specs.Boxes.{holds, low_of}
 use Rattle.header_boxes.specs.Cells.{cells_of}
-use Rattle.header_boxes.specs.Rows.{IsFirstThrough, AreTrueRows, AreOrdered, AreWhole, IsFirstOutside}
+use Rattle.header_boxes.specs.Rows.{IsFirstThrough, AreTrueRows, AreOrdered, AreWhole, IsFirstOutside, NoneThrough}
 use Rattle.header_boxes.specs.declared.boxes.Box5.{Box5}
 use Rattle.header_boxes.specs.declared.rows.Row.{Row}
 use Rattle.ordered_cover.specs.Joined.{AreJoined, GoesOn}
 use Rattle.ordered_cover.specs.declared.rows.Cover.{Cover}
 use Rattle.ordered_cover.specs.declared.rows.Cover.TheVariants.{Found, Blocked, More}
+use Rattle.ordered_cover.specs.declared.rows.Searched.{Searched}
+use Rattle.ordered_cover.specs.declared.rows.Searched.TheVariants as searches
 
 -- at most max ordered true rows that hold every header; none of them could be one with the next, by the side q
 pub record IsBlocked {W : Type 0} (meaning : Header → Option W) (cuts : CutLists) (sides : Box5) (max : ℕ) (rows : List (Row W)) : Type 0 where
@@ -36,3 +38,9 @@ abbrev pub IsCover : {W : Type 0} → (Header → Option W) → CutLists → Box
 IsCover meaning cuts sides max (Found h) = IsFirstThrough meaning sides h
 IsCover meaning cuts sides max (Blocked rows) = IsBlocked meaning cuts sides max rows.items
 IsCover meaning cuts sides max (More rows next) = IsMore meaning cuts sides max rows.items next
+
+-- what a search of some parts answers: nothing where it didn't come to an end
+abbrev pub IsSearched : {W : Type 0} → (Header → Option W) → Box5 → Searched → Type 0
+IsSearched meaning sides (searches.Found h) = IsFirstThrough meaning sides h
+IsSearched meaning sides searches.Blocked = NoneThrough meaning sides
+IsSearched meaning sides searches.Unfinished = Unit {0}

@@ -12,4 +12,4 @@ pub mod search;
 
 pub use header_boxes::Row;
 pub use probe::Probe;
-pub use rows::{Cover, Gathered};
+pub use rows::{Cover, Gathered, Searched};

@@ -13,6 +13,17 @@ pub enum Cover<W> {
     More(Vec<Row<W>>, Header),
 }
 
+/// What a search of some parts found.
+#[derive(Drop)]
+pub enum Searched {
+    /// The first header that gets through.
+    Found(Header),
+    /// None gets through.
+    Blocked,
+    /// More parts are to be asked of.
+    Unfinished,
+}
+
 /// What is known of the headers of a box that are told something.
 #[derive(Drop)]
 pub enum Gathered<W> {

@@ -4,13 +4,13 @@
 ghost use Rattle.std.specs.Prelude.{◌≡◌, ◌≤◌, List, [], Option, All, IfOk, IfNone, IfSome};
 ghost use Rattle.header_boxes.specs.Boxes.{IsValid};
 ghost use Rattle.header_boxes.specs.Rows.{IsFirst};
-ghost use Rattle.ordered_cover.specs.Cover.{IsCover};
+ghost use Rattle.ordered_cover.specs.Cover.{IsCover, IsSearched};
 ghost use Rattle.ordered_cover.specs.Gathered.{IsGathered};
 ghost use Rattle.ordered_cover.specs.Open.{IsAsked};
 
 use crate::joining::{Along, join_last};
 use crate::open::OpenBoxes;
-use crate::{Cover, Gathered, Probe};
+use crate::{Cover, Gathered, Probe, Searched};
 use header_boxes::{Box5, Row};
 use std::alloc::{AllocError, Global};
 use vpc_base::{Header, NoMemory};
@@ -46,6 +46,28 @@ pub fn first<P: Probe>(alloc: Global, p: &P, sides: Box5) -> Result<Option<Heade
         }
     }
     Ok(None)
+}
+
+/// The same search over at most `most` parts.
+pub fn first_within<P: Probe>(
+    alloc: Global,
+    p: &P,
+    sides: Box5,
+    most: u32,
+) -> Result<Searched, NoMemory>
+    requires { IsValid sides }
+    ensures { IfOk result (IsSearched (P.meaning p.now) sides) }
+{
+    let mut boxes = OpenBoxes::of(alloc, sides)?;
+    'asked: for _ in 0..most {
+        let Some((part, word)) = ask(p, &mut boxes)? else {
+            return Ok(Searched::Blocked);
+        };
+        if word.is_none() {
+            return Ok(Searched::Found(part.low()));
+        }
+    }
+    Ok(Searched::Unfinished)
 }
 
 /// What the probe says of all headers of the sides, in at most `max` rows: the first header that gets through,

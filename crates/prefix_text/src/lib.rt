@@ -13,8 +13,8 @@ mod numbers;
 mod parts;
 mod ranges;
 
-pub use addresses::{dotted_quad, put_addr, read_addr};
+pub use addresses::{append_addr, dotted_quad, put_addr, read_addr};
 pub use blocks::{Prefix, cidr_notation, put_prefix, read_prefix};
 pub use laws::{addr_laws, number_laws, prefix_laws, range_laws};
 pub use numbers::{decimal_digits, put_number, read_number};
-pub use ranges::read_range;
+pub use ranges::{append_range, read_range};

@@ -55,6 +55,6 @@ pub fn put_number(out: &mut Vec<u8>, n: u128) -> Result<(), NoMemory>
     ensures ok { OnOk result (out.new.items ≡ out.old.items ++ decimal n) }
     ensures err { OnErr result (out.new.items ≡ out.old.items) }
 {
-    out.extend_from_slice(decimal_digits(n).as_slice())?;
+    out.extend_from_slice(Buffer::new().format(n).as_bytes())?;
     Ok(())
 }

@@ -1,9 +1,9 @@
 use Rattle.std.proofs.Common.{map, string_bytes}
+use Rattle.vpc_base.proofs.Results.{if_ok, if_ok_two}
 use Rattle.query_words.proofs.EventLemmas.{refused_if_told}
 use Rattle.query_words.specs.Query.{query_of}
 use Rattle.report_reader.proofs.AskedEnds.{asked_ends_are_named}
 use Rattle.network_reach.specs.Asked as asks
-use Rattle.command_job.proofs.Answers.{if_ok, if_ok_two}
 use Rattle.network_reach.proofs.asks.ask.Goals as goal
 
 pub answer_job-requires : goal.answer_job-requires

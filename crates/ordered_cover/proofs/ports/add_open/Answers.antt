@@ -1,4 +1,5 @@
 use Rattle.std.proofs.Common.{◌≡◌, ◌≢◌, ◌+◌, ◌-◌, ◌∙◌, ◌||◌, ◌&&◌, not, Bool, true, false, [], ◌∷◌, ◌++◌, ap, arith, refl, subst, sym, take}
+use Rattle.std.proofs.lemmas.Bool.{false≢true}
 use Rattle.header_boxes.specs.Boxes.{in_range}
 use Rattle.ordered_cover.specs.Passed.{AreRangesBelow}
 use Rattle.ordered_cover.specs.Ports.{is_in_ranges}
@@ -11,9 +12,6 @@ use Rattle.ordered_cover.proofs.ports.add_open.Goals.{in-Some+else-from, in_defa
 if_open : (b x y : Bool) → not b ≡ false → (x || y) ≡ (x || (b && y))
 if_open true x y e = refl
 if_open false x y e = absurd cc
-
-absurd_of : false ≡ true → ⊥
-absurd_of e = cc
 
 pub returns-then-not-found-clause-below : goal.returns-then-not-found-clause-below
 returns-then-not-found-clause-below c =
@@ -64,7 +62,7 @@ returns-clause-below c =
       | in_default w ↦
           let same : c.match-last_mut.ranges.items ≡ old = ap (λ v. v.items) w.ranges-is in
           subst (AreRangesBelow (last + 1)) (sym (c.in_ok-push.ensures.items ∙ ap (λ v. v ++ (first, last) ∷ []) same))
-          (pushed_first old first last (none_at_all old n count (λ lt. absurd_of (w.in_default.ensures.variant.1 lt))) c.requires.some c.requires.below)
+          (pushed_first old first last (none_at_all old n count (λ lt. false≢true (w.in_default.ensures.variant.1 lt))) c.requires.some c.requires.below)
     ]
 
 pub returns-clause-hold : goal.returns-clause-hold

@@ -1,9 +1,8 @@
 use Rattle.std.proofs.Common.{◌<◌, ◌∙◌, not, ap, arith, subst}
 use Rattle.vpc_base.specs.declared.headers.Header.{Header}
 use Rattle.header_boxes.specs.Boxes.{low_of}
-use Rattle.header_boxes.proofs.Held.{valid_if_within}
+use Rattle.header_boxes.proofs.Held.{valid_if_within, within_trans}
 use Rattle.ordered_cover.specs.Passed.{ahead}
-use Rattle.ordered_cover.proofs.Boxes.{within_trans}
 use Rattle.ordered_cover.proofs.Passing.{ahead_falls, asking_at_start, asking_next, decided_closed, decided_open}
 use Rattle.ordered_cover.proofs.ports.first_ports.Goals as goal
 
