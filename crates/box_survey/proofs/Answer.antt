@@ -1,6 +1,6 @@
 -- What is found of all headers.
-use Rattle.std.proofs.Common.{◌≡◌, ℕ, ◌≤◌, ◌<◌, ◌+◌, Bool, true, false, Option, None, Some, List, refl, arith, sym, subst, length, slice_get, get_or, inl, inr, ⊎_elim}
-use Rattle.std.proofs.lemmas.Bool.{cases_lt}
+use Rattle.std.proofs.Common.{◌≡◌, ℕ, ◌≤◌, ◌<◌, ◌+◌, true, false, Option, None, Some, List, refl, arith, sym, subst, length, slice_get, get_or, inl, inr, ⊎_elim}
+use Rattle.std.proofs.lemmas.Bool.{both_ways, cases_lt, true_from_ne_false}
 use Rattle.std.proofs.lemmas.Option.{get_or_from_slice_get, slice_get-get_or}
 use Rattle.std.specs.List.{All, AllPairs, list_any}
 use Rattle.std.specs.Option.{IfSome, IsSome, IsSomeAnd}
@@ -15,7 +15,7 @@ use Rattle.box_survey.specs.Findings.{AreFindings, IsNextSharing, IsSurveyed, Is
 use Rattle.box_survey.specs.declared.findings.Findings.{Findings}
 use Rattle.box_survey.proofs.Meeting.{held_if_meets, meets_if_held}
 use Rattle.box_survey.proofs.Numbers.{number_below}
-use Rattle.box_survey.proofs.Listed.{differ, held_at}
+use Rattle.box_survey.proofs.Listed.{held_at}
 
 -- ---- a cell that holds all boxes and all headers that matter
 
@@ -68,7 +68,7 @@ none_before_more boxes i j d some none f k above below share =
     (λ before. none k above before share)
     (λ ge.
     let e : k ≡ j = omega arith in
-    differ (meets_at boxes (get_or boxes i d) j) (meets_if_share boxes i j d (below_length boxes i some) (subst (λ n. ShareAt boxes i n) e share)) f)
+    both_ways (meets_at boxes (get_or boxes i d) j) f (meets_if_share boxes i j d (below_length boxes i some) (subst (λ n. ShareAt boxes i n) e share)))
     (cases_lt k j)
 
 -- some later one does
@@ -103,10 +103,6 @@ pub disjoint_if_none : (matters : Header → Type 0) (boxes : List Box5) (found 
 disjoint_if_none matters boxes found all is i j d lt within h s t =
     no_number found.least i is (all.overlaps i j lt (record { header = h; first = held_at boxes i d h (omega arith) s; second = held_at boxes j d h within t }))
 
-held_unless : (b : Bool) → (b ≡ false → ⊥) → b ≡ true
-held_unless true h = refl
-held_unless false h = absurd (h refl)
-
 pub first_uncovered : (matters : Header → Type 0) (boxes : List Box5) (found : Findings) (h : Header) → AreFindings matters boxes found → found.least ≡ None → found.outside ≡ Some h → IsFirstUncovered matters boxes h
 first_uncovered matters boxes found h all none is =
     let here = there found.outside is all.there.outside in
@@ -114,7 +110,7 @@ first_uncovered matters boxes found h all none is =
       matter = here.matter;
       outside = here.outside;
       first = λ k matter before.
-          held_unless (list_any (holds k) boxes)
+          true_from_ne_false (list_any (holds k) boxes)
           (λ out. ⊎_elim (λ s. none_some found.least none s) (λ s. upto found.outside is k s before) (all.uncovered k (record { matter = matter; outside = out })));
     }
   where
@@ -128,7 +124,7 @@ first_uncovered matters boxes found h all none is =
 
 pub hold_all : (matters : Header → Type 0) (boxes : List Box5) (found : Findings) → AreFindings matters boxes found → found.least ≡ None → found.outside ≡ None → HoldAll matters boxes
 hold_all matters boxes found all none nowhere h matter =
-    held_unless (list_any (holds h) boxes) (λ out. ⊎_elim (λ s. none_some found.least none s) (λ s. no_header found.outside nowhere s) (all.uncovered h (record { matter = matter; outside = out })))
+    true_from_ne_false (list_any (holds h) boxes) (λ out. ⊎_elim (λ s. none_some found.least none s) (λ s. no_header found.outside nowhere s) (all.uncovered h (record { matter = matter; outside = out })))
   where
     no_header : (o : Option Header) → o ≡ None → IsSomeAnd o (λ g. ¬ IsBefore h g) → ⊥
     no_header None e s = s

@@ -12,17 +12,17 @@ use Rattle.box_survey.specs.declared.sides.Side.{Side}
 use Rattle.box_survey.specs.declared.sides.Side.TheVariants as side
 
 -- the field of a header on one side
-abbrev field_on : Side → Header → ℕ
+abbrev pub field_on : Side → Header → ℕ
 field_on side.Proto h = h.proto
 field_on side.Src h = h.src
 field_on side.Dst h = h.dst
 field_on side.P h = h.p
 field_on side.Q h = h.q
 
-abbrev Lies : ℕ × ℕ → ℕ → Type 0
+abbrev pub Lies : ℕ × ℕ → ℕ → Type 0
 Lies r x = (r.0 ≤ x) × (x ≤ r.1)
 
-in_on : (s : Side) (h : Header) (b : Box5) → IsIn h b → Lies (range_on s b) (field_on s h)
+pub in_on : (s : Side) (h : Header) (b : Box5) → IsIn h b → Lies (range_on s b) (field_on s h)
 in_on side.Proto h b i = i.proto
 in_on side.Src h b i = i.src
 in_on side.Dst h b i = i.dst

@@ -2,6 +2,7 @@
 use Rattle.std.proofs.Common.{◌≡◌, ℕ, ◌≤◌, ◌<◌, ◌+◌, ◌&&◌, ◌++◌, nat_le, nat_lt, Bool, true, false, cond, None, Some, List, [], ◌∷◌, refl, arith, sym, subst, ◌∙◌, length, slice_get, get_or, take}
 use Rattle.std.proofs.lemmas.Bool.Decides.{nat_tests}
 use Rattle.std.proofs.lemmas.List.Elements.{All-append, All-cons, All-nil, All-more}
+use Rattle.std.specs.Cmp.{first_so, second_so}
 use Rattle.std.specs.List.{All}
 use Rattle.std.specs.Option.{IsSomeAnd}
 use Rattle.header_boxes.specs.declared.boxes.Box5.{Box5}
@@ -9,17 +10,16 @@ use Rattle.box_survey.specs.Cells.{do_ranges_meet, do_meet, does_some_meet, meet
 use Rattle.box_survey.specs.Cuts.{AreEnds, Divides, HoldsRange, ends_inside, range_on}
 use Rattle.box_survey.specs.declared.sides.Side.{Side}
 use Rattle.box_survey.specs.declared.sides.Side.TheVariants as side
-use Rattle.box_survey.proofs.Meeting.{and_first, and_second}
 
 one_divides : (r : ℕ × ℕ) (b : Bool) (x : ℕ) → (b ≡ true → Divides r x) → All (Divides r) (cond b (x ∷ []) [])
 one_divides r true x h = All-cons (Divides r) x [] (h refl) (All-nil (Divides r))
 one_divides r false x h = All-nil (Divides r)
 
 begins : (r : ℕ × ℕ) (x : ℕ) → (nat_lt r.0 x && nat_le x r.1) ≡ true → Divides r x
-begins r x t = let a = and_first (nat_lt r.0 x) (nat_le x r.1) t in let b = and_second (nat_lt r.0 x) (nat_le x r.1) t in (grind (arith, nat_tests), grind (arith, nat_tests))
+begins r x t = let a = first_so (nat_lt r.0 x) (nat_le x r.1) t in let b = second_so (nat_lt r.0 x) (nat_le x r.1) t in (grind (arith, nat_tests), grind (arith, nat_tests))
 
 ended : (r : ℕ × ℕ) (x : ℕ) → (nat_le r.0 x && nat_lt x r.1) ≡ true → Divides r (x + 1)
-ended r x t = let a = and_first (nat_le r.0 x) (nat_lt x r.1) t in let b = and_second (nat_le r.0 x) (nat_lt x r.1) t in (grind (arith, nat_tests), grind (arith, nat_tests))
+ended r x t = let a = first_so (nat_le r.0 x) (nat_lt x r.1) t in let b = second_so (nat_le r.0 x) (nat_lt x r.1) t in (grind (arith, nat_tests), grind (arith, nat_tests))
 
 all_divide : (r other : ℕ × ℕ) → All (Divides r) (ends_inside r other)
 all_divide r other =
@@ -54,20 +54,20 @@ side_meets : (s : Side) (b cell : Box5) → do_meet b cell ≡ true → do_range
 side_meets s b cell t = by s
   where
     r0 : (do_ranges_meet b.src cell.src && (do_ranges_meet b.dst cell.dst && (do_ranges_meet b.p cell.p && do_ranges_meet b.q cell.q))) ≡ true
-    r0 = and_second (do_ranges_meet b.proto cell.proto) _ t
+    r0 = second_so (do_ranges_meet b.proto cell.proto) _ t
 
     r1 : (do_ranges_meet b.dst cell.dst && (do_ranges_meet b.p cell.p && do_ranges_meet b.q cell.q)) ≡ true
-    r1 = and_second (do_ranges_meet b.src cell.src) _ r0
+    r1 = second_so (do_ranges_meet b.src cell.src) _ r0
 
     r2 : (do_ranges_meet b.p cell.p && do_ranges_meet b.q cell.q) ≡ true
-    r2 = and_second (do_ranges_meet b.dst cell.dst) _ r1
+    r2 = second_so (do_ranges_meet b.dst cell.dst) _ r1
 
     by : (s : Side) → do_ranges_meet (range_on s b) (range_on s cell) ≡ true
-    by side.Proto = and_first (do_ranges_meet b.proto cell.proto) _ t
-    by side.Src = and_first (do_ranges_meet b.src cell.src) _ r0
-    by side.Dst = and_first (do_ranges_meet b.dst cell.dst) _ r1
-    by side.P = and_first (do_ranges_meet b.p cell.p) _ r2
-    by side.Q = and_second (do_ranges_meet b.p cell.p) _ r2
+    by side.Proto = first_so (do_ranges_meet b.proto cell.proto) _ t
+    by side.Src = first_so (do_ranges_meet b.src cell.src) _ r0
+    by side.Dst = first_so (do_ranges_meet b.dst cell.dst) _ r1
+    by side.P = first_so (do_ranges_meet b.p cell.p) _ r2
+    by side.Q = second_so (do_ranges_meet b.p cell.p) _ r2
 
 -- no box was looked at
 pub ends_at_start : (boxes : List Box5) (cell : Box5) (s : Side) → AreEnds boxes cell s [] []

@@ -1,6 +1,6 @@
 -- What a look at a cell adds to what was found.
 use Rattle.std.proofs.Common.{◌≡◌, ℕ, ◌≤◌, ◌<◌, ◌&&◌, ◌⊎◌, true, false, Option, None, Some, List, [], refl, arith, sym, subst, ◌∙◌, length, slice_get, get_or, inl, inr, ⊎_elim}
-use Rattle.std.proofs.lemmas.Bool.{cases_lt}
+use Rattle.std.proofs.lemmas.Bool.{both_ways, cases_lt}
 use Rattle.std.proofs.lemmas.List.{get_or_default}
 use Rattle.std.proofs.lemmas.List.Kept.{AllPairs-from_increasing}
 use Rattle.std.proofs.lemmas.Option.{get_or_from_slice_get}
@@ -13,12 +13,13 @@ use Rattle.header_boxes.specs.Boxes.{holds}
 use Rattle.box_survey.specs.Survey.{HoldsAt, IsFirstIn}
 use Rattle.box_survey.specs.Cells.{AreHalves, AreMeeting, HoldsCell, meets_at}
 use Rattle.box_survey.specs.Findings.{AreThere, IsSurveyed, IsUncovered, OverlapsLater}
+use Rattle.box_survey.specs.Slices.{AreSlices}
 use Rattle.box_survey.specs.declared.sides.Cut.{Cut}
 use Rattle.box_survey.specs.declared.findings.Findings.{Findings}
-use Rattle.box_survey.proofs.Meeting.{both, held_if_meets, meets_if_held}
+use Rattle.box_survey.proofs.Meeting.{held_if_meets, meets_if_held}
 use Rattle.box_survey.proofs.Numbers.{first-held, first-least}
 use Rattle.box_survey.proofs.Order.{not_before_trans}
-use Rattle.box_survey.proofs.Listed.{any_holds, differ, none_holds}
+use Rattle.box_survey.proofs.Listed.{any_holds, none_holds}
 use Rattle.box_survey.proofs.Kept.{least_at, least_itself, least_some, no_greater_itself, no_greater_through, outside_at, outside_itself}
 
 -- ---- a cell in two halves
@@ -125,7 +126,7 @@ surveyed_covered matters boxes cell numbers found m there (k, i, lt, e, holder) 
   least = record {
     overlaps = λ h a b inside less first second.
         absurd (alone a b less (m.candidates.all a (meets_if_held boxes cell a h inside first)) (m.candidates.all b (meets_if_held boxes cell b h inside second)));
-    uncovered = λ h inside out. absurd (let f = any_holds boxes i h (holder h inside) in let n = out.outside in differ (list_any (holds h) boxes) f n);
+    uncovered = λ h inside out. absurd (let f = any_holds boxes i h (holder h inside) in let n = out.outside in both_ways (list_any (holds h) boxes) n f);
   };
 }
   where
@@ -137,6 +138,20 @@ surveyed_covered matters boxes cell numbers found m there (k, i, lt, e, holder) 
         let y : get_or numbers 0 b ≡ b = subst (λ n. get_or numbers n b ≡ b) w f in
         let s = get_or_default numbers 0 a b (omega arith) in
         omega (arith, x, y, s)
+
+-- by one of the slices that its boxes are
+pub surveyed_slices : (matters : Header → Type 0) (boxes : List Box5) (cell : Box5) (numbers : List ℕ) (found : Findings) → AreMeeting boxes cell numbers → AreThere matters boxes found
+    → AreSlices boxes cell numbers → IsSurveyed matters boxes cell found found
+surveyed_slices matters boxes cell numbers found m there slices = record {
+  there = there;
+  kept = no_greater_itself found;
+  least = record {
+    overlaps = λ h a b inside less first second.
+        let same = slices.apart h a b inside (m.candidates.all a (meets_if_held boxes cell a h inside first)) (m.candidates.all b (meets_if_held boxes cell b h inside second)) first second in
+        absurd (omega (arith, less, same));
+    uncovered = λ h inside out. absurd (let k = slices.held h inside in let f = any_holds boxes k.number h k.held in let n = out.outside in both_ways (list_any (holds h) boxes) n f);
+  };
+}
 
 above : (o : Option ℕ) (first : ℕ) → (IsSomeAnd o (λ k. k ≤ first) → ⊥) → IfSome o (λ i. first ≤ i)
 above None first not_upto = tt

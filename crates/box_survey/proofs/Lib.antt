@@ -10,4 +10,5 @@ pub mod Cut
 pub mod Ends
 pub mod Fullest
 pub mod Within
+pub mod Slicing
 pub mod Answer

@@ -9,10 +9,6 @@ use Rattle.header_boxes.specs.declared.boxes.Box5.{Box5}
 use Rattle.header_boxes.specs.Boxes.{holds}
 use Rattle.box_survey.specs.Survey.{HoldsAt}
 
-pub differ : (b : Bool) → b ≡ true → b ≡ false → ⊥
-differ true f n = cc
-differ false f n = cc
-
 -- the box of a number below the length
 pub held_at : (boxes : List Box5) (i : ℕ) (d : Box5) (h : Header) → i < length boxes → holds h (get_or boxes i d) ≡ true → HoldsAt boxes i h
 held_at boxes i d h lt t = subst (λ o. IsSomeAnd o (λ b. holds h b ≡ true)) (sym (slice_get-get_or boxes i d lt)) t

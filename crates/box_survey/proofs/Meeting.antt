@@ -1,25 +1,16 @@
 -- Which boxes share a header with a cell.
-use Rattle.std.proofs.Common.{◌≡◌, ℕ, ◌≤◌, ◌&&◌, nat_le, max, min, Bool, true, false, Option, None, Some, List, refl, arith, ap, sym, subst, ◌∙◌}
+use Rattle.std.proofs.Common.{◌≡◌, ℕ, ◌≤◌, ◌&&◌, nat_le, max, min, true, Option, None, Some, List, arith, sym, subst, ◌∙◌}
 use Rattle.std.proofs.lemmas.Bool.Decides.{nat_tests}
+use Rattle.std.specs.Cmp.{first_so, second_so}
 use Rattle.std.specs.Option.{IsSomeAnd}
 use Rattle.std.specs.List.{slice_get}
+use Rattle.std.proofs.lemmas.Bool.{and_from}
 use Rattle.vpc_base.specs.declared.headers.Header.{Header}
 use Rattle.header_boxes.specs.declared.boxes.Box5.{Box5}
 use Rattle.header_boxes.specs.Boxes.{holds, IsValid, IsRangeWithin, IsWithin, common_box, low_of}
 use Rattle.header_boxes.proofs.Held.{holds-common_box, holds_low, holds_whole, valid_if_holds}
 use Rattle.box_survey.specs.Survey.{HoldsAt}
 use Rattle.box_survey.specs.Cells.{HoldsCell, do_ranges_meet, do_meet, does_some_meet, meets_at, holds_range, holds_sides}
-
-pub and_first : (a b : Bool) → (a && b) ≡ true → a ≡ true
-and_first true b h = refl
-and_first false b h = h
-
-pub and_second : (a b : Bool) → (a && b) ≡ true → b ≡ true
-and_second true b h = h
-and_second false b h = cc
-
-pub both : (a b : Bool) → a ≡ true → b ≡ true → (a && b) ≡ true
-both a b e f = ap (λ v. v && b) e ∙ f
 
 -- ---- two boxes
 
@@ -31,46 +22,46 @@ ranges_meet a b h = grind (arith, nat_tests)
 
 valid_if_meet : (a b : Box5) → do_meet a b ≡ true → IsValid (common_box a b)
 valid_if_meet a b t =
-    let r0 = and_second (do_ranges_meet a.proto b.proto) _ t in
-    let r1 = and_second (do_ranges_meet a.src b.src) _ r0 in
-    let r2 = and_second (do_ranges_meet a.dst b.dst) _ r1 in
+    let r0 = second_so (do_ranges_meet a.proto b.proto) _ t in
+    let r1 = second_so (do_ranges_meet a.src b.src) _ r0 in
+    let r2 = second_so (do_ranges_meet a.dst b.dst) _ r1 in
     record {
-      proto = common_valid a.proto b.proto (and_first (do_ranges_meet a.proto b.proto) _ t);
-      src = common_valid a.src b.src (and_first (do_ranges_meet a.src b.src) _ r0);
-      dst = common_valid a.dst b.dst (and_first (do_ranges_meet a.dst b.dst) _ r1);
-      p = common_valid a.p b.p (and_first (do_ranges_meet a.p b.p) _ r2);
-      q = common_valid a.q b.q (and_second (do_ranges_meet a.p b.p) _ r2);
+      proto = common_valid a.proto b.proto (first_so (do_ranges_meet a.proto b.proto) _ t);
+      src = common_valid a.src b.src (first_so (do_ranges_meet a.src b.src) _ r0);
+      dst = common_valid a.dst b.dst (first_so (do_ranges_meet a.dst b.dst) _ r1);
+      p = common_valid a.p b.p (first_so (do_ranges_meet a.p b.p) _ r2);
+      q = common_valid a.q b.q (second_so (do_ranges_meet a.p b.p) _ r2);
     }
 
 meet_if_valid : (a b : Box5) → IsValid (common_box a b) → do_meet a b ≡ true
 meet_if_valid a b v =
-    both _ _ (ranges_meet a.proto b.proto v.proto)
-    (both _ _ (ranges_meet a.src b.src v.src)
-    (both _ _ (ranges_meet a.dst b.dst v.dst)
-    (both _ _ (ranges_meet a.p b.p v.p) (ranges_meet a.q b.q v.q))))
+    and_from _ _ (ranges_meet a.proto b.proto v.proto)
+    (and_from _ _ (ranges_meet a.src b.src v.src)
+    (and_from _ _ (ranges_meet a.dst b.dst v.dst)
+    (and_from _ _ (ranges_meet a.p b.p v.p) (ranges_meet a.q b.q v.q))))
 
 meet_if_hold : (h : Header) (a b : Box5) → holds h a ≡ true → holds h b ≡ true → do_meet a b ≡ true
-meet_if_hold h a b s t = meet_if_valid a b (valid_if_holds h (common_box a b) (holds-common_box h a b ∙ both (holds h a) (holds h b) s t))
+meet_if_hold h a b s t = meet_if_valid a b (valid_if_holds h (common_box a b) (holds-common_box h a b ∙ and_from (holds h a) (holds h b) s t))
 
 -- ---- a box that holds a cell
 
 range_within : (b c : ℕ × ℕ) → c.0 ≤ c.1 → holds_range b c ≡ true → IsRangeWithin c b
 range_within b c v h =
-    let first : nat_le b.0 c.0 ≡ true = and_first (nat_le b.0 c.0) (nat_le c.1 b.1) h in
-    let last : nat_le c.1 b.1 ≡ true = and_second (nat_le b.0 c.0) (nat_le c.1 b.1) h in
+    let first : nat_le b.0 c.0 ≡ true = first_so (nat_le b.0 c.0) (nat_le c.1 b.1) h in
+    let last : nat_le c.1 b.1 ≡ true = second_so (nat_le b.0 c.0) (nat_le c.1 b.1) h in
     record { begins = grind (arith, nat_tests); valid = v; ends = grind (arith, nat_tests) }
 
 within_sides : (b c : Box5) → IsValid c → holds_sides b c ≡ true → IsWithin c b
 within_sides b c v t =
-    let r0 = and_second (holds_range b.proto c.proto) _ t in
-    let r1 = and_second (holds_range b.src c.src) _ r0 in
-    let r2 = and_second (holds_range b.dst c.dst) _ r1 in
+    let r0 = second_so (holds_range b.proto c.proto) _ t in
+    let r1 = second_so (holds_range b.src c.src) _ r0 in
+    let r2 = second_so (holds_range b.dst c.dst) _ r1 in
     record {
-      proto = range_within b.proto c.proto v.proto (and_first (holds_range b.proto c.proto) _ t);
-      src = range_within b.src c.src v.src (and_first (holds_range b.src c.src) _ r0);
-      dst = range_within b.dst c.dst v.dst (and_first (holds_range b.dst c.dst) _ r1);
-      p = range_within b.p c.p v.p (and_first (holds_range b.p c.p) _ r2);
-      q = range_within b.q c.q v.q (and_second (holds_range b.p c.p) _ r2);
+      proto = range_within b.proto c.proto v.proto (first_so (holds_range b.proto c.proto) _ t);
+      src = range_within b.src c.src v.src (first_so (holds_range b.src c.src) _ r0);
+      dst = range_within b.dst c.dst v.dst (first_so (holds_range b.dst c.dst) _ r1);
+      p = range_within b.p c.p v.p (first_so (holds_range b.p c.p) _ r2);
+      q = range_within b.q c.q v.q (second_so (holds_range b.p c.p) _ r2);
     }
 
 -- a box whose sides hold those of a cell holds its headers
@@ -97,7 +88,7 @@ some_held None cell t = absurd (cc)
 some_held (Some b) cell t =
     let h : Header = low_of (common_box b cell) in
     let e : (holds h b && holds h cell) ≡ true = sym (holds-common_box h b cell) ∙ holds_low (common_box b cell) (valid_if_meet b cell t) in
-    (h, and_second (holds h b) (holds h cell) e, and_first (holds h b) (holds h cell) e)
+    (h, second_so (holds h b) (holds h cell) e, first_so (holds h b) (holds h cell) e)
 
 pub held_if_meets : (boxes : List Box5) (cell : Box5) (i : ℕ) → meets_at boxes cell i ≡ true → IsHeld boxes cell i
 held_if_meets boxes cell i t = let s = some_held (slice_get boxes i) cell t in record { header = s.0; inside = s.1; held = s.2 }

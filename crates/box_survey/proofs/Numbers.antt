@@ -1,5 +1,5 @@
 -- The numbers of the boxes that share a header with a cell.
-use Rattle.std.proofs.Common.{◌≡◌, ℕ, ◌≤◌, ◌<◌, ◌+◌, Bool, true, false, cond, zero-add, List, [], ◌∷◌, refl, arith, ap, subst, ◌∙◌, length, slice_get, get_or, zero, suc, Some, ⊎_elim}
+use Rattle.std.proofs.Common.{◌≡◌, ℕ, ◌≤◌, ◌<◌, ◌+◌, true, zero-add, List, refl, arith, subst, ◌∙◌, length, slice_get, get_or, Some, ⊎_elim}
 use Rattle.std.proofs.lemmas.Bool.{cases_lt}
 use Rattle.std.proofs.lemmas.List.Elements.{filter_passes}
 use Rattle.std.proofs.lemmas.List.FromFn.{get_or-range_with_len, length-range_with_len}
@@ -9,24 +9,12 @@ use Rattle.std.specs.List.{Contains, filter, range_with_len}
 use Rattle.std.specs.Option.{IsSomeAnd}
 use Rattle.std.specs.List.Sorted.{IsStrictlyIncreasing}
 use Rattle.vpc_base.specs.declared.headers.Header.{Header}
+use Rattle.vpc_base.proofs.Members.{Contains-filter}
 use Rattle.header_boxes.specs.declared.boxes.Box5.{Box5}
 use Rattle.header_boxes.specs.Boxes.{holds}
 use Rattle.box_survey.specs.Survey.{HoldsAt}
 use Rattle.box_survey.specs.Cells.{AreCandidates, AreMeeting, meets_at}
 use Rattle.box_survey.proofs.Meeting.{held_if_meets, meets_if_held}
-
-Contains-filter : (p : ℕ → Bool) (xs : List ℕ) (x : ℕ) → Contains xs x → p x ≡ true → Contains (filter p xs) x
-Contains-filter p [] x there t = absurd (omega (arith, there.1))
-Contains-filter p (y ∷ ys) x (zero, lt, e) t = by (p y) (ap p e ∙ t)
-  where
-    by : (b : Bool) → b ≡ true → Contains (cond b (y ∷ filter p ys) (filter p ys)) x
-    by true s = (0, omega arith, e)
-    by false s = absurd (cc)
-Contains-filter p (y ∷ ys) x (suc k, lt, e) t = by (p y) (Contains-filter p ys x (k, omega arith, e) t)
-  where
-    by : (b : Bool) → Contains (filter p ys) x → Contains (cond b (y ∷ filter p ys) (filter p ys)) x
-    by true (j, less, f) = (suc j, omega arith, f)
-    by false there = there
 
 -- the candidates that share a header with the cell are all that do
 pub meeting_of : (boxes : List Box5) (cell : Box5) (xs : List ℕ) → AreCandidates boxes cell xs → AreMeeting boxes cell (filter (meets_at boxes cell) xs)

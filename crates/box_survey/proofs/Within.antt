@@ -4,18 +4,7 @@ use Rattle.std.proofs.lemmas.List.Elements.{All-more, All-weaker}
 use Rattle.std.specs.List.{All}
 use Rattle.header_boxes.specs.Boxes.{IsRangeWithin, IsValid, IsWithin}
 use Rattle.header_boxes.specs.declared.boxes.Box5.{Box5}
-
-range_trans : (a b c : ℕ × ℕ) → IsRangeWithin a b → IsRangeWithin b c → IsRangeWithin a c
-range_trans a b c ab bc = record { begins = omega (arith, ab.begins, bc.begins); valid = ab.valid; ends = omega (arith, ab.ends, bc.ends) }
-
-pub within_trans : (a b c : Box5) → IsWithin a b → IsWithin b c → IsWithin a c
-within_trans a b c ab bc = record {
-  proto = range_trans a.proto b.proto c.proto ab.proto bc.proto;
-  src = range_trans a.src b.src c.src ab.src bc.src;
-  dst = range_trans a.dst b.dst c.dst ab.dst bc.dst;
-  p = range_trans a.p b.p c.p ab.p bc.p;
-  q = range_trans a.q b.q c.q ab.q bc.q;
-}
+use Rattle.header_boxes.proofs.Held.{within_trans}
 
 valid_whole : (c w : ℕ × ℕ) → IsRangeWithin c w → w.0 ≤ w.1
 valid_whole c w within = omega (arith, within.begins, within.valid, within.ends)

@@ -2,3 +2,4 @@ pub mod Survey
 pub mod Cells
 pub mod Cuts
 pub mod Findings
+pub mod Slices

@@ -12,6 +12,7 @@ use crate::gaps::Gaps;
 use crate::numbered::meets_at;
 use crate::pairs::first_sharing;
 use crate::sides::{Cut, halves};
+use crate::slices::are_slices;
 use header_boxes::Box5;
 use std::alloc::{AllocError, Global};
 use vpc_base::NoMemory;
@@ -92,6 +93,9 @@ fn settle<G: Gaps>(
     }
     if numbers.len() <= FEW && found.is_past(cell) {
         compare(boxes, numbers, found);
+        return Ok(None);
+    }
+    if are_slices(boxes, cell, numbers) {
         return Ok(None);
     }
     let cut = cut_of(alloc, boxes, cell, numbers)?;

@@ -88,8 +88,8 @@ fn median(ends: Ends) -> Option<Cut>
     Some(Cut { side, at: *at })
 }
 
-// Whether each side of the box holds that of the cell.
-fn holds_sides(b: &Box5, cell: &Box5) -> bool
+/// Whether each side of the box holds that of the cell.
+pub fn holds_sides(b: &Box5, cell: &Box5) -> bool
     ensures { result ≡ holds_sides b.now cell.now }
 {
     (b.proto.0 <= cell.proto.0 && cell.proto.1 <= b.proto.1)

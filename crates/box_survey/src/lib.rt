@@ -9,6 +9,7 @@ mod hulls;
 mod numbered;
 mod pairs;
 mod sides;
+mod slices;
 mod survey;
 
 pub use findings::earlier;

@@ -1,6 +1,7 @@
 use Rattle.std.proofs.Common.{◌≤◌, ◌<◌, length, arith}
 use Rattle.std.proofs.lemmas.List.{take_all}
-use Rattle.box_survey.proofs.Within.{all_within_more, valid_if_holds_box, within_trans}
+use Rattle.header_boxes.proofs.Held.{within_trans}
+use Rattle.box_survey.proofs.Within.{all_within_more, valid_if_holds_box}
 use Rattle.box_survey.proofs.hulls.hull.Goals as goal
 
 pub loop-b-preserved : goal.loop-b-preserved

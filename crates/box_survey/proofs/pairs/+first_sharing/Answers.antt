@@ -1,5 +1,5 @@
 use Rattle.std.proofs.Common.{arith}
-use Rattle.box_survey.proofs.Listed.{differ}
+use Rattle.std.proofs.lemmas.Bool.{both_ways}
 use Rattle.box_survey.proofs.Shared.{first_at_shares, first_behind, rest_increasing, shorter}
 use Rattle.box_survey.proofs.pairs.+first_sharing.Goals as goal
 
@@ -15,4 +15,4 @@ first_sharing-requires t c =
 
 pub returns : goal.returns
 returns t c =
-    first_behind c.args.boxes.now c.args.numbers.now c.first_sharing.result c.in-len1-up.len_at_least c.requires (λ any. differ c.shares_any.result (c.shares_any.ensures.1 any) c.if-shares_any.false) c.first_sharing.ensures
+    first_behind c.args.boxes.now c.args.numbers.now c.first_sharing.result c.in-len1-up.len_at_least c.requires (λ any. both_ways c.shares_any.result c.if-shares_any.false (c.shares_any.ensures.1 any)) c.first_sharing.ensures
