@@ -11,5 +11,5 @@ mod status;
 pub use commands::{OneFile, TwoFiles, TwoNetworks};
 pub use deciders::deciders_of;
 pub use jobs::{Job, answer_job};
-pub use lines::{answer_line, refuse_query};
+pub use lines::{answer_line, refuse_file, refuse_line, refuse_query};
 pub use status::{Answer, Status};

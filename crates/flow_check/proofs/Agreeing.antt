@@ -1,16 +1,17 @@
 -- Lines that tell of walks.
 use Rattle.std.proofs.Common.{◌≡◌, ◌==◌, ◌++◌, ◌∙◌, ◌∷◌, ◌&&◌, ◌↔◌, ◌||◌, [], Bool, List, None, Option, Some, ap, bytes_eq, cond, false, inl, inr, is_some, not, option_map, refl, subst, sym, true, ℕ}
 use Rattle.std.proofs.lemmas.Bool.{and_parts, both_ways, cond-false, cond-true, cond_both, eqb-true, false_from_ne_true, false≢true, not-true, not_from_true, or_cases, or_from, or_left, or_right}
-use Rattle.std.proofs.lemmas.Option.{none-some}
+use Rattle.std.proofs.lemmas.Option.{none-some, same_Some}
 use Rattle.replay_laws.specs.Interleaved.{Comes}
 use Rattle.vpc_base.specs.Dir.{opposite, same_dir}
 use Rattle.vpc_base.specs.Header.{echo_reply, exchanged, reply_of}
 use Rattle.vpc_base.specs.declared.headers.Dir.TheVariants as dirs
 use Rattle.vpc_base.specs.declared.headers.Label.TheVariants as labels
+use Rattle.vpc_base.proofs.Bytes.{bytes_self}
+use Rattle.vpc_base.proofs.Members.{list_any-member, member-list_any, row-member}
 use Rattle.vpc_laws.proofs.Flow.{header_stays}
-use Rattle.vpc_laws.proofs.Members.{list_any-member, member-list_any}
-use Rattle.vpc_laws.proofs.Numbering.{accepted_numbers_are_own, bytes_self, row-member}
-use Rattle.vpc_laws.proofs.Replies.{Some-same, is_header-some}
+use Rattle.vpc_laws.proofs.Numbering.{accepted_numbers_are_own}
+use Rattle.vpc_laws.proofs.Replies.{is_header-some}
 use Rattle.vpc_laws.proofs.Same.{EniNo-same, same_dir-true, same_header-true}
 use Rattle.vpc_laws.proofs.Stepping.{walks_are_of_steps}
 use Rattle.vpc_laws.specs.Types.{Box5, By, Description, Dir, EniNo, Event, Header, Hop, Interface, Label, Outcome, Place, RuleRef, Stop, SubnetNo}
@@ -36,6 +37,7 @@ use Rattle.vpc_model.specs.declared.places.Came.TheVariants as from
 use Rattle.vpc_model.specs.declared.places.End.TheVariants as ends
 use Rattle.vpc_model.specs.declared.places.Place.TheVariants as places
 use Rattle.vpc_model.specs.declared.stops.Stop.TheVariants as stops
+use Rattle.vpc_model.proofs.Nexts.{go-header, go≢stop, stop-same}
 use Rattle.flow_check.specs.Records.{has_ports}
 use Rattle.flow_check.specs.Rules.{acl_stop, border_stop, by_groups, connection_stop, direction_of, groups_pass, groups_stop, is_neighbour, met_first, other_way_passes, pass_reply}
 use Rattle.flow_check.specs.Sorts.{accepted_by, judged, refused_by, rejected_by, sort_at, sort_towards}
@@ -79,15 +81,15 @@ reply-proto : (k h : Header) → reply_of k ≡ Some h → k.proto ≡ h.proto
 reply-proto k h is =
     cond_both (k.proto == 1) _ (Some (exchanged k)) (λ (o : Option Header). o ≡ Some h → k.proto ≡ h.proto)
     (λ _. cond_both (k.q == 2048) (Some (echo_reply k)) None (λ (o : Option Header). o ≡ Some h → k.proto ≡ h.proto)
-    (λ _ e. ap (λ (x : Header). x.proto) (Some-same (echo_reply k) h e)) (λ _ e. absurd (none-some h e)))
-    (λ _ e. ap (λ (x : Header). x.proto) (Some-same (exchanged k) h e)) is
+    (λ _ e. ap (λ (x : Header). x.proto) (same_Some (echo_reply k) h e)) (λ _ e. absurd (none-some h e)))
+    (λ _ e. ap (λ (x : Header). x.proto) (same_Some (exchanged k) h e)) is
 
 -- what answers a header is answered by it
 replied : (k h : Header) → has_ports h.proto ≡ true → reply_of k ≡ Some h → reply_of h ≡ Some k
 replied k h ports is =
     let same = reply-proto k h is in
     let own = subst (λ n. has_ports n ≡ true) (sym same) ports in
-    let one : exchanged k ≡ h = Some-same (exchanged k) h (sym (reply-exchanged k own) ∙ is) in
+    let one : exchanged k ≡ h = same_Some (exchanged k) h (sym (reply-exchanged k own) ∙ is) in
     subst (λ (x : Header). reply_of x ≡ Some k) one (reply-exchanged (exchanged k) own)
 
 -- where a rule lets a packet pass, the groups do
@@ -166,15 +168,9 @@ record WentOut (d : Description) (label : Label) (i : EniNo) (m : Moment) (p : P
 go-place : (p q : Place) (h k : Header) → go p h ≡ go q k → p ≡ q
 go-place p q h k e = cc
 
-go-header : (p q : Place) (h k : Header) → go p h ≡ go q k → h ≡ k
-go-header p q h k e = cc
-
-stop≢go : (s : Stop) (p : Place) (k : Header) → stop s ≡ go p k → ⊥
-stop≢go s p k e = cc
-
 out_passing-went : (d : Description) (label : Label) (i : EniNo) (m : Moment) (p : Place) (k : Header) (by : Option By) (conns : List Connection)
     → (passing_of d label i dirs.Outward m.header m.conns).by ≡ by → (out_passing d i m (record { by = by; conns = conns })).next ≡ go p k → WentOut d label i m p k
-out_passing-went d label i m p k None conns is goes = absurd (stop≢go (stops.GroupsOut i) p k goes)
+out_passing-went d label i m p k None conns is goes = absurd (go≢stop p k (stops.GroupsOut i) (sym goes))
 out_passing-went d label i m p k (Some by) conns is goes =
     let s = places.Router (subnet_of d i) (from.Host i) in
     record { by = by; passed = is; place = go-place s p m.header k goes; header = go-header s p m.header k goes }
@@ -183,8 +179,8 @@ step_out-went : (d : Description) (label : Label) (i : EniNo) (m : Moment) (p : 
 step_out-went d label i m p k goes =
     let e = interface_at d i in
     let passing = passing_of d label i dirs.Outward m.header m.conns in
-    cond_both e.idle _ _ (λ (s : Step). s.next ≡ go p k → WentOut d label i m p k) (λ _ stopped. absurd (stop≢go (stops.Detached i) p k stopped))
-    (λ _. cond_both (e.checked && not (has_address e m.header.src)) _ _ (λ (s : Step). s.next ≡ go p k → WentOut d label i m p k) (λ _ stopped. absurd (stop≢go (stops.SourceCheck i) p k stopped))
+    cond_both e.idle _ _ (λ (s : Step). s.next ≡ go p k → WentOut d label i m p k) (λ _ stopped. absurd (go≢stop p k (stops.Detached i) (sym stopped)))
+    (λ _. cond_both (e.checked && not (has_address e m.header.src)) _ _ (λ (s : Step). s.next ≡ go p k → WentOut d label i m p k) (λ _ stopped. absurd (go≢stop p k (stops.SourceCheck i) (sym stopped)))
     (λ _. out_passing-went d label i m p k passing.by passing.conns refl)) goes
 
 -- into an interface: past its groups
@@ -206,12 +202,6 @@ step_into-went d appliances label i m some =
     (λ _. in_passing-went d appliances label i m passing.by passing.conns refl)) some
 
 -- ---- stops at interfaces
-
-go≢stop : (p : Place) (k : Header) (s : Stop) → go p k ≡ stop s → ⊥
-go≢stop p k s e = cc
-
-stop-same : (r s : Stop) → stop r ≡ stop s → r ≡ s
-stop-same r s e = cc
 
 -- groups without a rule let nothing pass
 by_groups-none : (groups : List (List ℕ)) (g : List ℕ) (gs : List (List ℕ)) (o : Option RuleRef) → groups ≡ g ∷ gs → o ≡ None → by_groups groups o ≡ None

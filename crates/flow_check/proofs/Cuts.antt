@@ -8,7 +8,7 @@ use Rattle.std.proofs.lemmas.List.{drop_more, get_or-append-add, take-append-dro
 use Rattle.std.proofs.lemmas.List.Quantifiers.{position-Some}
 use Rattle.std.proofs.lemmas.List.Splits.{slice_split_at, slice_split_none}
 use Rattle.std.proofs.lemmas.Option.{slice_get-get_or}
-use Rattle.vpc_laws.proofs.Choosing.{position-None}
+use Rattle.vpc_base.proofs.Positions.{position-None}
 use Rattle.query_words.specs.Events.{lines_of, without_last_newline}
 
 -- a text that has no such byte

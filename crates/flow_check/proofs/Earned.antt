@@ -6,10 +6,10 @@ use Rattle.std.proofs.lemmas.List.Elements.{Contains-push_cases}
 use Rattle.replay_laws.specs.Interleaved.{Comes}
 use Rattle.replay_laws.proofs.Moments.{cons-tail, cons-head, nil≢middle}
 use Rattle.vpc_base.specs.declared.headers.Label.TheVariants.{Answer, Opening}
+use Rattle.vpc_base.proofs.Members.{Contains-none}
 use Rattle.vpc_laws.specs.Step.{AsksGroups, own_connection, remembered}
 use Rattle.vpc_laws.specs.Types.{By, Description, Event, Hop, Label, RuleRef}
 use Rattle.vpc_laws.specs.Walk.{Follows, hop_of, last_moment}
-use Rattle.vpc_laws.proofs.Members.{Contains-none}
 use Rattle.vpc_laws.proofs.Passing.{packets_pass_by_groups, rules_are_remembered}
 use Rattle.vpc_laws.proofs.Stepping.{walks_are_of_steps}
 use Rattle.vpc_model.specs.Appliances.{Appliances}

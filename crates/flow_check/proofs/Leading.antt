@@ -3,7 +3,9 @@ use Rattle.std.proofs.Common.{◌≡◌, ◌==◌, ◌∙◌, ◌&&◌, ◌||◌
 use Rattle.std.proofs.lemmas.Bool.{both_ways, cond_both}
 use Rattle.vpc_base.specs.declared.headers.Dir.TheVariants as dirs
 use Rattle.vpc_base.specs.declared.headers.Label.TheVariants as labels
-use Rattle.vpc_laws.proofs.Numbering.{accepted_numbers_are_own, nat_addresses_are_interfaces, no_nat, position-at, same_bytes}
+use Rattle.vpc_base.proofs.Bytes.{same_bytes}
+use Rattle.vpc_base.proofs.Positions.{position-at}
+use Rattle.vpc_laws.proofs.Numbering.{accepted_numbers_are_own, nat_addresses_are_interfaces, no_nat}
 use Rattle.vpc_laws.specs.Types.{AttNo, Box5, By, Description, EniNo, Header, IgwNo, Label, NatGateway, NatLife, NatNo, PeerNo, Place, Stop, SubnetNo, TableNo, Target, TgwTableNo, VpcNo}
 use Rattle.vpc_model.specs.Accepted.{IsAccepted}
 use Rattle.vpc_model.specs.Acls.{acl_verdict}

@@ -6,6 +6,5 @@ pub mod Fields
 pub mod Leading
 pub mod Owners
 pub mod Passing
-pub mod RuleFacts
 pub mod Tallies
 pub mod Telling

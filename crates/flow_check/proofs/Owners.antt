@@ -1,19 +1,20 @@
 -- What the interface that has an address tells of it.
-use Rattle.std.proofs.Common.{◌&&◌, ◌++◌, ◌<◌, ◌==◌, ◌≡◌, ◌∙◌, ◌∷◌, [], Bool, IfSome, List, None, Option, Some, ap, arith, bytes_eq, cond, false, get_or, inl, inr, is_some, length, map, nat_lt, option_map, position, refl, subst, suc, sym, true, zero, ℕ}
+use Rattle.std.proofs.Common.{◌&&◌, ◌++◌, ◌<◌, ◌==◌, ◌≡◌, ◌∙◌, ◌∷◌, [], Bool, IfSome, List, None, Option, Some, ap, arith, bytes_eq, cond, false, get_or, inl, inr, length, map, nat_lt, option_map, position, refl, subst, suc, sym, true, zero, ℕ}
 use Rattle.std.specs.List.{Contains, IsDistinct, flat_map, list_any, position_or_len}
 use Rattle.std.proofs.lemmas.Bool.{and_from, and_parts, both_ways, cases_Bool, cond-true, eq-eqb, eqb-true, false_from_ne_true, lt-ltb, ltb-true, or_cases}
 use Rattle.std.proofs.lemmas.List.{get_or_default}
 use Rattle.std.proofs.lemmas.List.Elements.{Contains-append_left, Contains-append_right}
 use Rattle.std.proofs.lemmas.List.Sums.{position_or_len_is}
-use Rattle.std.proofs.lemmas.Option.{none-some}
+use Rattle.std.proofs.lemmas.Option.{none-some, same_Some}
+use Rattle.vpc_base.proofs.Bytes.{bytes_self, same_bytes}
+use Rattle.vpc_base.proofs.Members.{AllByRecursion-at, Contains-cases, Contains-here, Contains-later, Contains-none, list_any-member, member-list_any, row-member}
+use Rattle.vpc_base.proofs.Positions.{position-at}
 use Rattle.vpc_laws.proofs.Accepting.{accepted_has_all_named, accepted_has_nothing_twice}
-use Rattle.vpc_laws.proofs.Members.{AllByRecursion-at, Contains-cases, Contains-here, Contains-later, Contains-none, list_any-member, member-list_any}
-use Rattle.vpc_laws.proofs.Numbering.{accepted_numbers_are_in_range, bytes_self, ids_are_found, no_subnet, position-at, row-member, same_bytes}
-use Rattle.vpc_laws.proofs.Replies.{Some-same}
+use Rattle.vpc_laws.proofs.Numbering.{accepted_numbers_are_in_range, ids_are_found, no_subnet}
 use Rattle.vpc_laws.proofs.Same.{EniNo-same}
 use Rattle.vpc_laws.specs.Types.{Description, EniNo, Interface, VpcNo}
 use Rattle.vpc_model.specs.Accepted.{IsAccepted, same_address}
-use Rattle.vpc_model.specs.Lookup.{eni_no, has_address, has_interface, host_of, interface_at, is_in_vpc, no_interface, subnet_at, subnet_no, subnet_of, vpc_at, vpc_of_interface, vpc_of_subnet}
+use Rattle.vpc_model.specs.Lookup.{has_address, host_of, interface_at, is_in_vpc, no_interface, subnet_at, subnet_no, subnet_of, vpc_at, vpc_of_interface, vpc_of_subnet}
 use Rattle.vpc_model.specs.Sound.{is_eni}
 use Rattle.flow_check.specs.Owners.{is_near, is_own}
 use Rattle.flow_check.specs.Rules.{is_neighbour}
@@ -143,7 +144,7 @@ own-by d v i a o accepted lies inside is =
               subst (λ (k : EniNo). has_address (interface_at d k) a ≡ true) (EniNo-same j i same) has ∙ sym same
           | inr other ↦
               false_from_ne_true (has_address (interface_at d i) a)
-              (λ has. both_ways (j.0 == i.0) other (let one : Some j ≡ Some i = sym is ∙ here has in eq-eqb j.0 i.0 (ap (λ (k : EniNo). k.0) (Some-same j i one))))
+              (λ has. both_ways (j.0 == i.0) other (let one : Some j ≡ Some i = sym is ∙ here has in eq-eqb j.0 i.0 (ap (λ (k : EniNo). k.0) (same_Some j i one))))
               ∙ sym other
         ]
 
@@ -194,7 +195,7 @@ near-by d v i a (Some j) accepted inside is =
           false_from_ne_true (is_neighbour d e a)
           (λ some.
           let n = neighbour-found d v i a accepted inside some in
-          let one : n.at ≡ j = Some-same n.at j (sym n.found ∙ is) in
+          let one : n.at ≡ j = same_Some n.at j (sym n.found ∙ is) in
           both_ways (bytes_eq o.subnet e.subnet) far (subst (λ (k : EniNo). let x = interface_at d k in bytes_eq x.subnet e.subnet ≡ true) one n.near))
           ∙ sym far
     ]
@@ -209,7 +210,3 @@ near-is d v i a accepted lies is =
 pub found-lies : (d : Description) (v : VpcNo) (a : ℕ) (o : Option EniNo) → o ≡ host_of d v a → IfSome o (λ j. is_eni d j ≡ true)
 found-lies d v a None is = tt
 found-lies d v a (Some j) is = (host-found d v a j (sym is)).lies
-
-pub named-lies : (d : Description) (id : List ℕ) (o : Option EniNo) → is_some o ≡ has_interface d id → IfSome o (λ i. i ≡ eni_no d id) → IfSome o (λ i. is_eni d i ≡ true)
-named-lies d id None found number = tt
-named-lies d id (Some i) found number = subst (λ (k : EniNo). is_eni d k ≡ true) (sym number) ((ids_are_found d).interface id (sym found)).0

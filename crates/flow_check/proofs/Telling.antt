@@ -5,7 +5,7 @@ use Rattle.std.proofs.lemmas.Bool.{cond_both}
 use Rattle.std.proofs.lemmas.List.Elements.{All-from_recursion}
 use Rattle.vpc_base.specs.declared.headers.Dir.TheVariants as dirs
 use Rattle.vpc_laws.proofs.Numbering.{accepted_numbers_are_in_range, ids_are_found}
-use Rattle.vpc_laws.proofs.Sounding.{IfFound}
+use Rattle.vpc_laws.proofs.Sounding.{IfFound, first_rule-found}
 use Rattle.vpc_laws.specs.Types.{By, Description, Dir, EniNo, Header, RuleRef, Stop}
 use Rattle.vpc_model.specs.Accepted.{IsAccepted}
 use Rattle.vpc_model.specs.Acls.{acl_verdict}
@@ -17,7 +17,6 @@ use Rattle.vpc_model.specs.Sound.{has_rule, has_text, is_acl, is_eni, is_rule}
 use Rattle.vpc_model.specs.Step.Crossing.{is_gateway}
 use Rattle.vpc_model.specs.declared.outcomes.By.TheVariants as bys
 use Rattle.vpc_model.specs.declared.stops.Stop.TheVariants as stops
-use Rattle.flow_check.proofs.RuleFacts.{first_rule-found}
 use Rattle.flow_check.specs.Flows.{FlowList, bad_line, differing, flows_of, sorted_lines, told_of, told_unless}
 use Rattle.flow_check.specs.Lines.{numbered_lines}
 use Rattle.flow_check.specs.Records.{has_ports, record_of}

@@ -1,7 +1,6 @@
 -- What `flows` answers to a flow log, in a described network.
-use Rattle.std.specs.Prelude.{◌++◌, ◌∷◌, ◌≡◌, [], Err, List, Ok, codes, decimal, ℕ}
-use Rattle.block_report.specs.Words.{word}
-use Rattle.command_job.specs.Lines.{line}
+use Rattle.std.specs.Prelude.{◌∷◌, ◌≡◌, [], Err, List, Ok, codes, decimal, ℕ}
+use Rattle.command_job.specs.Lines.{file_refusal_line}
 use Rattle.command_job.specs.declared.status.Status.{Status}
 use Rattle.command_job.specs.declared.status.Status.TheVariants as ends
 use Rattle.vpc_laws.specs.Types.{Description}
@@ -11,7 +10,7 @@ use Rattle.flow_check.specs.declared.kinds.FlowLine.{FlowLine}
 
 -- the line of a refusal of the log
 abbrev pub log_refusal_line : List ℕ → List ℕ
-log_refusal_line cause = line (codes "refused log" ++ word cause)
+log_refusal_line cause = file_refusal_line (codes "log") cause
 
 -- yes where no line differs
 abbrev pub status_by : List FlowLine → Status

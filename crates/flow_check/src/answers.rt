@@ -1,6 +1,6 @@
 // What `flows` answers.
-ghost use Rattle.std.specs.Prelude.{◌≡◌, All, IfOk, IsTrue, decimal};
-ghost use Rattle.flow_check.specs.Answers.{AreFlowsJudged, flows_status, log_refusal_line, status_by};
+ghost use Rattle.std.specs.Prelude.{◌≡◌, All, IfOk, IsTrue};
+ghost use Rattle.flow_check.specs.Answers.{AreFlowsJudged, flows_status, status_by};
 ghost use Rattle.flow_check.specs.Flows.{told_by};
 ghost use Rattle.flow_check.specs.Texts.{flows_text};
 ghost use Rattle.flow_check.specs.Told.{is_told};
@@ -8,41 +8,12 @@ ghost use Rattle.flow_check.specs.Told.{is_told};
 use crate::kinds::{FlowAnswer, FlowFault, FlowLine};
 use crate::logs::flows;
 use crate::texts::{put_counts, put_flow_lines};
-use block_report::{put, put_end, put_number_line, put_word};
-use command_job::{Answer, Status};
+use command_job::{Answer, Status, refuse_line};
 use fabric::Fabric;
 use reference_check::Network;
 use std::alloc::Global;
 use std::mem;
 use vpc_base::NoMemory;
-
-/// Refuses a log for this cause.
-pub fn refuse_log(alloc: Global, cause: &[u8]) -> Result<Answer, NoMemory>
-    ensures { IfOk result (λ a.
-        (a.status ≡ Status.Query) × (a.text.items ≡ log_refusal_line cause.now)) }
-{
-    let mut text = Vec::new(alloc);
-    put(&mut text, b"refused log")?;
-    put_word(&mut text, cause)?;
-    put_end(&mut text)?;
-    Ok(Answer {
-        status: Status::Query,
-        text,
-    })
-}
-
-// Refuses a log for its first line that is outside the grammar.
-fn refuse_line(alloc: Global, number: u64) -> Result<Answer, NoMemory>
-    ensures { IfOk result (λ a.
-        (a.status ≡ Status.Query) × (a.text.items ≡ log_refusal_line (decimal number))) }
-{
-    let mut text = Vec::new(alloc);
-    put_number_line(&mut text, b"refused log", u128::from(number))?;
-    Ok(Answer {
-        status: Status::Query,
-        text,
-    })
-}
 
 fn status_by(differing: &[FlowLine]) -> Status
     ensures { result ≡ status_by differing.now }
@@ -81,7 +52,7 @@ fn judge_in(alloc: Global, f: &Fabric, bytes: &[u8]) -> Result<Answer, NoMemory>
 {
     match flows(alloc, f, bytes) {
         Ok(answer) => answer_flows(alloc, f.network(), &answer),
-        Err(FlowFault::BadLine(number)) => refuse_line(alloc, number),
+        Err(FlowFault::BadLine(number)) => refuse_line(alloc, b"log", number),
         Err(FlowFault::Memory) => Err(NoMemory),
     }
 }

@@ -1,8 +1,8 @@
 // The command `flows`.
 ghost use Rattle.std.specs.Prelude.{◌≡◌};
 
-use crate::answers::{judge_flows, refuse_log};
-use command_job::{Answer, TwoFiles};
+use crate::answers::judge_flows;
+use command_job::{Answer, TwoFiles, refuse_file};
 use reference_check::Network;
 use std::alloc::Global;
 use vpc_base::NoMemory;
@@ -19,7 +19,7 @@ impl TwoFiles for FlowsCommand {
     ghost answers = { λ c. AreFlowsJudged };
 
     fn refuse(&self, alloc: Global, cause: &[u8]) -> Result<Answer, NoMemory> {
-        refuse_log(alloc, cause)
+        refuse_file(alloc, b"log", cause)
     }
 
     fn answer(&self, alloc: Global, network: Network, bytes: &[u8]) -> Result<Answer, NoMemory> {

@@ -17,7 +17,7 @@ mod sorts;
 mod texts;
 mod words;
 
-pub use answers::{judge_flows, refuse_log};
+pub use answers::judge_flows;
 pub use command::FlowsCommand;
 pub use kinds::{FlowAnswer, FlowCounts, FlowFault, FlowKind, FlowLine};
 pub use laws::{

@@ -3,6 +3,7 @@ use Rattle.std.proofs.Common.{◌≡◌, ◌≢◌, ◌∙◌, ap, refl, subst, 
 use Rattle.box_walk.specs.Asking.{asked, stop_of, whether}
 use Rattle.header_boxes.specs.Rows.{IsFirstThrough, NoneThrough}
 use Rattle.network_reach.specs.Reached.{IsQueryIn, meaning_in}
+use Rattle.network_reach.proofs.ReachableLemmas.{nothing-stops}
 use Rattle.query_words.specs.declared.queries.Query.{Query}
 use Rattle.vpc_laws.proofs.Telling.{verdicts_are_told}
 use Rattle.vpc_laws.specs.Sound.{IsTold}
@@ -22,10 +23,6 @@ use Rattle.policy_check.specs.declared.rules.Wanted.TheVariants as wants
 
 -- ---- one request
 
-pub through_if_unstopped : (d : Description) (v : Verdict) → ending_of d v ≡ None → v ≡ verdicts.Through
-through_if_unstopped d verdicts.Through none = refl
-through_if_unstopped d (verdicts.Stopped phase s) none = absurd (cc)
-
 -- of what the turned search passes over all gets through
 through_if_passing : (v : Verdict) → turned (whether (stop_of v)) ≢ None → v ≡ verdicts.Through
 through_if_passing verdicts.Through passing = refl
@@ -42,7 +39,7 @@ pub some_through : (d : Description) (query : Query) (h : Header) → IsFirstThr
 some_through d query h found = record {
   header = h;
   inside = found.inside;
-  through = through_if_unstopped d (verdict_in d query h) found.through;
+  through = nothing-stops d (verdict_in d query h) found.through;
 }
 
 pub none_through : (d : Description) (query : Query) → NoneThrough (meaning_in d query) query.sides → judged.NoneThrough d query
@@ -77,7 +74,7 @@ fails_if_holds d wants.Reachable query failures.NoneThrough fails holds = fails 
 fails_if_holds d wants.Reachable query (failures.Through h) fails holds = fails
 fails_if_holds d wants.Reachable query (failures.Stopped h phase s) fails holds = fails
 fails_if_holds d wants.Blocked query failures.NoneThrough fails holds = fails
-fails_if_holds d wants.Blocked query (failures.Through h) fails holds = holds h fails.inside (through_if_unstopped d (verdict_in d query h) fails.through)
+fails_if_holds d wants.Blocked query (failures.Through h) fails holds = holds h fails.inside (nothing-stops d (verdict_in d query h) fails.through)
 fails_if_holds d wants.Blocked query (failures.Stopped h phase s) fails holds = fails
 fails_if_holds d wants.Open query failures.NoneThrough fails holds = fails
 fails_if_holds d wants.Open query (failures.Through h) fails holds = fails

@@ -1,11 +1,11 @@
 -- Rules judged one after another, and counted.
-use Rattle.std.proofs.Common.{◌+◌, ◌-◌, ◌≡◌, ◌≤◌, ◌<◌, ◌∙◌, ◌++◌, ◌∷◌, [], Bool, List, None, Option, Some, ap, append_assoc, arith, cond, false, get_or, length, refl, sym, take, true, ℕ}
+use Rattle.std.proofs.Common.{◌+◌, ◌-◌, ◌≡◌, ◌≤◌, ◌<◌, ◌∙◌, ◌++◌, ◌∷◌, [], Bool, List, None, Option, Some, ap, arith, cond, false, get_or, length, refl, sym, take, true, ℕ}
 use Rattle.std.specs.Prelude.{count_by, is_none, is_some}
 use Rattle.std.specs.List.{flat_map}
-use Rattle.std.proofs.lemmas.Grind.{flat_map-append}
-use Rattle.std.proofs.lemmas.List.{append-nil, length-map, map-append, take_more}
+use Rattle.std.proofs.lemmas.List.{length-map, map-append, take_more}
 use Rattle.std.proofs.lemmas.List.Elements.{All-append, All-cons, All-nil}
 use Rattle.std.proofs.lemmas.List.Sums.{count_by-le-length, sum_by-cons, sum_by_push}
+use Rattle.vpc_base.proofs.Steps.{pushed-flat_map}
 use Rattle.vpc_laws.specs.Types.{Description}
 use Rattle.command_job.specs.declared.status.Status.{Status}
 use Rattle.policy_check.specs.Policy.{AddsLine, AddsLines, AreJudged, IsJudged, Judged, failed, held, judged_line, status_of, tally_line}
@@ -16,16 +16,6 @@ use Rattle.policy_check.specs.declared.rules.PolicyRule.{PolicyRule}
 
 abbrev of_rule : Judged → PolicyRule
 of_rule j = j.rule
-
-lines-one : (d : Description) (judged : List Judged) (j : Judged) → flat_map (judged_line d) (judged ++ j ∷ []) ≡ flat_map (judged_line d) judged ++ judged_line d j
-lines-one d judged j =
-    flat_map-append (judged_line d) judged (j ∷ []) ∙ ap (λ (t : List ℕ). flat_map (judged_line d) judged ++ t) (append-nil (judged_line d j))
-
-text_more : (d : Description) (judged : List Judged) (j : Judged) (old mid new : List ℕ)
-    → mid ≡ old ++ flat_map (judged_line d) judged → new ≡ mid ++ judged_line d j → new ≡ old ++ flat_map (judged_line d) (judged ++ j ∷ [])
-text_more d judged j old mid new before adds =
-    adds ∙ (ap (λ (t : List ℕ). t ++ judged_line d j) before
-    ∙ (append_assoc old (flat_map (judged_line d) judged) (judged_line d j) ∙ ap (λ (t : List ℕ). old ++ t) (sym (lines-one d judged j))))
 
 count_more : (judged : List Judged) (j : Judged) (fail : ℕ) (fails : Bool)
     → fail ≡ count_by failed judged → fails ≡ failed j → fail + cond fails 1 0 ≡ count_by failed (judged ++ j ∷ [])
@@ -44,7 +34,7 @@ adds_more d rules i e old mid new fail fails below before adds =
       of_rules = map-append of_rule before.judged (j ∷ [])
           ∙ (ap (λ (rs : List PolicyRule). rs ++ rule ∷ []) before.of_rules ∙ sym (take_more rules i e below));
       each = All-append (IsJudged d) before.judged (j ∷ []) before.each (All-cons (IsJudged d) j [] adds.is_found (All-nil (IsJudged d)));
-      text_is = text_more d before.judged j old mid new before.text_is adds.text_is;
+      text_is = pushed-flat_map (judged_line d) before.judged j old mid new before.text_is adds.text_is;
       fail_is = count_more before.judged j fail fails before.fail_is adds.fails_is;
     }
 

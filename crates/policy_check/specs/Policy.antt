@@ -2,7 +2,7 @@
 use Rattle.std.specs.Prelude.{◌++◌, ◌==◌, ◌↔◌, ◌≡◌, [], if◌then◌else◌, All, Bool, Err, List, None, Ok, Option, Some, codes, count_by, decimal, is_none, is_some, map, ℕ}
 use Rattle.std.specs.List.{Contains, flat_map}
 use Rattle.block_report.specs.Words.{word}
-use Rattle.command_job.specs.Lines.{line}
+use Rattle.command_job.specs.Lines.{file_refusal_line, line}
 use Rattle.command_job.specs.Status.{IsOfDevice}
 use Rattle.command_job.specs.declared.status.Status.{Status}
 use Rattle.command_job.specs.declared.status.Status.TheVariants as ends
@@ -71,7 +71,7 @@ pub record AreJudged (d : Description) (rules : List PolicyRule) (status : Statu
 
 -- the line of a refusal of the rules
 abbrev pub rules_refusal_line : List ℕ → List ℕ
-rules_refusal_line cause = line (codes "refused rules" ++ word cause)
+rules_refusal_line cause = file_refusal_line (codes "rules") cause
 
 -- what is answered to the bytes of a policy: the first line that is neither passed over nor a rule, or what is found of its rules
 pub data ArePoliciesJudged (d : Description) (bytes : List ℕ) (status : Status) (text : List ℕ) : Type 0 where

@@ -1,8 +1,8 @@
 // The command `expect`.
 ghost use Rattle.std.specs.Prelude.{◌≡◌};
 
-use crate::policies::{expect_rules, refuse_rules};
-use command_job::{Answer, TwoFiles};
+use crate::policies::expect_rules;
+use command_job::{Answer, TwoFiles, refuse_file};
 use reference_check::Network;
 use std::alloc::Global;
 use vpc_base::NoMemory;
@@ -19,7 +19,7 @@ impl TwoFiles for ExpectCommand {
     ghost answers = { λ c. ArePoliciesJudged };
 
     fn refuse(&self, alloc: Global, cause: &[u8]) -> Result<Answer, NoMemory> {
-        refuse_rules(alloc, cause)
+        refuse_file(alloc, b"rules", cause)
     }
 
     fn answer(&self, alloc: Global, network: Network, bytes: &[u8]) -> Result<Answer, NoMemory> {

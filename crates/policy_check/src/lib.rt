@@ -12,5 +12,5 @@ mod texts;
 pub use command::ExpectCommand;
 pub use judging::Failure;
 pub use laws::policy_laws;
-pub use policies::{expect_rules, refuse_rules};
+pub use policies::expect_rules;
 pub use rules::{PolicyRule, RulesFault, Wanted, read_rules};

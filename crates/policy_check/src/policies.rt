@@ -1,15 +1,14 @@
 // What `expect` answers.
-ghost use Rattle.std.specs.Prelude.{◌≡◌, All, IfOk, decimal};
+ghost use Rattle.std.specs.Prelude.{◌≡◌, All, IfOk};
 ghost use Rattle.network_reach.specs.Reached.{IsQueryIn};
 ghost use Rattle.vpc_model.specs.Appliances.{appliances_of};
-ghost use Rattle.policy_check.specs.Policy.{AddsLine, AddsLines, AreJudged, ArePoliciesJudged, rules_refusal_line, status_of};
+ghost use Rattle.policy_check.specs.Policy.{AddsLine, AddsLines, AreJudged, ArePoliciesJudged, status_of};
 
 use crate::judging::failure_of;
 use crate::rules::{PolicyRule, RulesFault, read_rules};
 use crate::texts::{put_failure_line, put_tally};
 use appliances::Deciders;
-use block_report::{put, put_end, put_number_line, put_word};
-use command_job::{Answer, Job, Status, answer_job};
+use command_job::{Answer, Job, Status, answer_job, refuse_line};
 use fabric::Fabric;
 use reference_check::Network;
 use std::alloc::Global;
@@ -108,33 +107,6 @@ impl<'a> Job for Expecting<'a> {
 
 // ---- the text
 
-/// Refuses the rules of a policy for this cause.
-pub fn refuse_rules(alloc: Global, cause: &[u8]) -> Result<Answer, NoMemory>
-    ensures { IfOk result (λ a.
-        (a.status ≡ Status.Query) × (a.text.items ≡ rules_refusal_line cause.now)) }
-{
-    let mut text = Vec::new(alloc);
-    put(&mut text, b"refused rules")?;
-    put_word(&mut text, cause)?;
-    put_end(&mut text)?;
-    Ok(Answer {
-        status: Status::Query,
-        text,
-    })
-}
-
-fn refuse_line(alloc: Global, number: u64) -> Result<Answer, NoMemory>
-    ensures { IfOk result (λ a. (a.status ≡ Status.Query)
-        × (a.text.items ≡ rules_refusal_line (decimal number))) }
-{
-    let mut text = Vec::new(alloc);
-    put_number_line(&mut text, b"refused rules", u128::from(number))?;
-    Ok(Answer {
-        status: Status::Query,
-        text,
-    })
-}
-
 /// Whether each rule of a policy holds in the network, with the appliances that it describes: a line for each that
 /// doesn't, and how many hold and don't; or the first line that is no rule, before any is judged. Fails for want of
 /// memory alone.
@@ -150,7 +122,7 @@ pub fn expect_rules(alloc: Global, network: Network, bytes: &[u8]) -> Result<Ans
         }
         Err(RulesFault::BadLine(number)) => {
             mem::forget(network);
-            refuse_line(alloc, number)
+            refuse_line(alloc, b"rules", number)
         }
         Err(RulesFault::Memory) => {
             mem::forget(network);

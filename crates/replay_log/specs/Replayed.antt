@@ -1,19 +1,18 @@
 -- What `replay` answers in a described network.
-use Rattle.std.specs.Prelude.{ℕ, ◌++◌, ◌≡◌, List, Err, Ok, codes, decimal}
+use Rattle.std.specs.Prelude.{ℕ, ◌≡◌, List, Err, Ok, codes, decimal}
 use Rattle.block_report.specs.Replays.{replay_text}
-use Rattle.block_report.specs.Words.{word}
 use Rattle.query_words.specs.Events.{events_of}
 use Rattle.vpc_model.specs.Appliances.{appliances_of}
 use Rattle.vpc_model.specs.Replay.{replay_of}
 use Rattle.vpc_model.specs.declared.outcomes.Event.{Event}
 use Rattle.vpc_model.specs.declared.rows.Description.{Description}
-use Rattle.command_job.specs.Lines.{line}
+use Rattle.command_job.specs.Lines.{file_refusal_line}
 use Rattle.command_job.specs.declared.status.Status.{Status}
 use Rattle.command_job.specs.declared.status.Status.TheVariants as ends
 
 -- the line of a refusal of the events
 abbrev pub events_refusal_line : List ℕ → List ℕ
-events_refusal_line cause = line (codes "refused events" ++ word cause)
+events_refusal_line cause = file_refusal_line (codes "events") cause
 
 -- the lines of the events' packets, with the described appliances
 abbrev pub replayed_text : Description → List Event → List ℕ

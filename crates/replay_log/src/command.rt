@@ -1,8 +1,8 @@
 // The command `replay`.
 ghost use Rattle.std.specs.Prelude.{◌≡◌};
 
-use crate::played::{refuse_events, replay_bytes};
-use command_job::{Answer, TwoFiles};
+use crate::played::replay_bytes;
+use command_job::{Answer, TwoFiles, refuse_file};
 use reference_check::Network;
 use std::alloc::Global;
 use vpc_base::NoMemory;
@@ -19,7 +19,7 @@ impl TwoFiles for ReplayCommand {
     ghost answers = { λ c. IsReplayedFrom };
 
     fn refuse(&self, alloc: Global, cause: &[u8]) -> Result<Answer, NoMemory> {
-        refuse_events(alloc, cause)
+        refuse_file(alloc, b"events", cause)
     }
 
     fn answer(&self, alloc: Global, network: Network, bytes: &[u8]) -> Result<Answer, NoMemory> {

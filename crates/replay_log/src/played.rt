@@ -1,15 +1,15 @@
 // What `replay` answers.
-ghost use Rattle.std.specs.Prelude.{◌≡◌, All, IfOk, decimal};
+ghost use Rattle.std.specs.Prelude.{◌≡◌, All, IfOk};
 ghost use Rattle.block_report.specs.Replays.{replay_text};
 ghost use Rattle.query_words.specs.Events.{StartsWell};
-ghost use Rattle.replay_log.specs.Replayed.{ArePlayed, IsReplayedFrom, events_refusal_line};
+ghost use Rattle.replay_log.specs.Replayed.{ArePlayed, IsReplayedFrom};
 ghost use Rattle.vpc_laws.specs.Sound.{EndsWell};
 ghost use Rattle.vpc_model.specs.Appliances.{appliances_of};
 
 use crate::replay;
 use appliances::Deciders;
-use block_report::{put, put_end, put_number_line, put_replay, put_word};
-use command_job::{Answer, Job, Status, answer_job};
+use block_report::put_replay;
+use command_job::{Answer, Job, Status, answer_job, refuse_line};
 use fabric::Fabric;
 use query_words::{EventFault, read_events};
 use reference_check::Network;
@@ -70,34 +70,6 @@ impl<'a> Job for Replaying<'a> {
     }
 }
 
-/// Refuses a list of events for this cause.
-pub fn refuse_events(alloc: Global, cause: &[u8]) -> Result<Answer, NoMemory>
-    ensures { IfOk result (λ a.
-        (a.status ≡ Status.Query) × (a.text.items ≡ events_refusal_line cause.now)) }
-{
-    let mut text = Vec::new(alloc);
-    put(&mut text, b"refused events")?;
-    put_word(&mut text, cause)?;
-    put_end(&mut text)?;
-    Ok(Answer {
-        status: Status::Query,
-        text,
-    })
-}
-
-// Refuses a list of events for its first line that is no packet.
-fn refuse_line(alloc: Global, number: u64) -> Result<Answer, NoMemory>
-    ensures { IfOk result (λ a.
-        (a.status ≡ Status.Query) × (a.text.items ≡ events_refusal_line (decimal number))) }
-{
-    let mut text = Vec::new(alloc);
-    put_number_line(&mut text, b"refused events", u128::from(number))?;
-    Ok(Answer {
-        status: Status::Query,
-        text,
-    })
-}
-
 /// How each packet ends that the bytes give, one after another.
 pub fn replay_bytes(alloc: Global, network: Network, bytes: &[u8]) -> Result<Answer, NoMemory>
     ensures { IfOk result (λ a. IsReplayedFrom network bytes.now a.status a.text.items) }
@@ -111,7 +83,7 @@ pub fn replay_bytes(alloc: Global, network: Network, bytes: &[u8]) -> Result<Ans
         }
         Err(EventFault::BadLine(number)) => {
             mem::forget(network);
-            refuse_line(alloc, number)
+            refuse_line(alloc, b"events", number)
         }
         Err(EventFault::Memory) => {
             mem::forget(network);

@@ -5,7 +5,7 @@ use Rattle.std.specs.List.{list_any}
 use Rattle.std.proofs.lemmas.List.{get_or-map, length-map}
 use Rattle.std.proofs.lemmas.List.Elements.{All-map}
 use Rattle.std.proofs.lemmas.Option.{get_or_from_slice_get, slice_get-map, slice_get_within}
-use Rattle.address_sets.proofs.Blocks.{list_any-map}
+use Rattle.vpc_base.proofs.Tests.{list_any-map}
 use Rattle.box_survey.proofs.Numbers.{number_below}
 use Rattle.box_survey.specs.Survey.{HoldAll, HoldsAt, IsFirstUncovered, IsHeldIn, IsLeastOverlap}
 use Rattle.header_boxes.proofs.Held.{valid_if_within}

@@ -1,38 +1,28 @@
 -- What a comparison of texts tells.
 use Rattle.std.proofs.Common.{◌&&◌, ◌≡◌, ◌≢◌, ◌∙◌, Bool, List, None, Option, Some, ap, false, if◌then◌else◌, refl, sym, true, ℕ}
 use Rattle.std.specs.Prelude.{bytes_eq}
-use Rattle.std.proofs.lemmas.Slice.Eq.{bytes_eq-Decides}
+use Rattle.std.proofs.lemmas.Bool.{and_from, and_parts}
+use Rattle.vpc_base.proofs.Bytes.{bytes_self, same_bytes}
+use Rattle.vpc_base.proofs.Options.{if_some}
 use Rattle.header_boxes.proofs.Held.{holds_low, valid_if_within}
 use Rattle.header_boxes.specs.Boxes.{IsWithin, holds, low_of}
-use Rattle.block_report.specs.Walks.{name_text}
 use Rattle.box_walk.proofs.Texts.{ending_of-stop, words_have_texts}
 use Rattle.box_walk.specs.Asking.{IsAsking, asked, word_of}
-use Rattle.report_reader.proofs.Spelling.{name_text_tells}
 use Rattle.vpc_laws.specs.Types.{Box5, Description, End, Header, Phase, Stop, StopName, StopText}
 use Rattle.vpc_model.specs.Accepted.{IsAccepted}
 use Rattle.vpc_model.specs.Appliances.{appliances_of}
+use Rattle.vpc_model.specs.Names.{name_text}
 use Rattle.vpc_model.specs.Sound.{has_text}
 use Rattle.vpc_model.specs.Verdict.{verdict_of}
+use Rattle.vpc_model.proofs.Names.{name_text_tells}
 use Rattle.vpc_model.specs.declared.outcomes.Phase.TheVariants as phases
 use Rattle.report_check.specs.Agreement.{agreed, agreement_of, is_phase, is_text, told_of}
 
 -- ---- tests
 
-both_are : (a b : Bool) → (a && b) ≡ true → (a ≡ true) × (b ≡ true)
-both_are true b is = (refl, is)
-both_are false b is = absurd (cc)
-
-and_is : (a b : Bool) → a ≡ true → b ≡ true → (a && b) ≡ true
-and_is true b first second = second
-and_is false b first second = absurd (cc)
-
 some_if : (b : Bool) → b ≡ true → (if b then Some (tt {0}) else None) ≡ Some (tt {0})
 some_if true is = refl
 some_if false is = absurd (cc)
-
-if_some : (b : Bool) → (if b then Some (tt {0}) else None) ≢ None → b ≡ true
-if_some true some = refl
-if_some false some = absurd (some refl)
 
 -- ---- texts
 
@@ -46,12 +36,6 @@ is_phase-self : (a : Phase) → is_phase a a ≡ true
 is_phase-self phases.Request = refl
 is_phase-self phases.Reply = refl
 
-bytes_tell : (a b : List ℕ) → bytes_eq a b ≡ true → a ≡ b
-bytes_tell a b is = let decides = bytes_eq-Decides a b in decides.0 is
-
-bytes_eq-self : (a : List ℕ) → bytes_eq a a ≡ true
-bytes_eq-self a = let decides = bytes_eq-Decides a a in decides.1 refl
-
 abbrev text_of : Phase → StopName → List ℕ → List ℕ → StopText
 text_of phase name id rule = record { phase = phase; name = name; id = id; rule = rule }
 
@@ -63,17 +47,17 @@ same_text a b phase name id rule =
 
 text_tells : (a b : StopText) → is_text a b ≡ true → a ≡ b
 text_tells a b is =
-    let first = both_are (is_phase a.phase b.phase) (bytes_eq (name_text a.name) (name_text b.name) && (bytes_eq a.id b.id && bytes_eq a.rule b.rule)) is in
-    let second = both_are (bytes_eq (name_text a.name) (name_text b.name)) (bytes_eq a.id b.id && bytes_eq a.rule b.rule) first.1 in
-    let third = both_are (bytes_eq a.id b.id) (bytes_eq a.rule b.rule) second.1 in
+    let first = and_parts (is_phase a.phase b.phase) (bytes_eq (name_text a.name) (name_text b.name) && (bytes_eq a.id b.id && bytes_eq a.rule b.rule)) is in
+    let second = and_parts (bytes_eq (name_text a.name) (name_text b.name)) (bytes_eq a.id b.id && bytes_eq a.rule b.rule) first.1 in
+    let third = and_parts (bytes_eq a.id b.id) (bytes_eq a.rule b.rule) second.1 in
     same_text a b (phase_tells a.phase b.phase first.0)
-    (name_text_tells a.name b.name (bytes_tell (name_text a.name) (name_text b.name) second.0)) (bytes_tell a.id b.id third.0) (bytes_tell a.rule b.rule third.1)
+    (name_text_tells a.name b.name (same_bytes (name_text a.name) (name_text b.name) second.0)) (same_bytes a.id b.id third.0) (same_bytes a.rule b.rule third.1)
 
 is_text-self : (a : StopText) → is_text a a ≡ true
 is_text-self a =
-    and_is (is_phase a.phase a.phase) _ (is_phase-self a.phase)
-    (and_is (bytes_eq (name_text a.name) (name_text a.name)) _ (bytes_eq-self (name_text a.name))
-    (and_is (bytes_eq a.id a.id) (bytes_eq a.rule a.rule) (bytes_eq-self a.id) (bytes_eq-self a.rule)))
+    and_from (is_phase a.phase a.phase) _ (is_phase-self a.phase)
+    (and_from (bytes_eq (name_text a.name) (name_text a.name)) _ (bytes_self (name_text a.name))
+    (and_from (bytes_eq a.id a.id) (bytes_eq a.rule a.rule) (bytes_self a.id) (bytes_self a.rule)))
 
 -- ---- the word of a text
 

@@ -1,6 +1,6 @@
 -- Whether a stop is told by a text.
 use Rattle.std.specs.Prelude.{◌&&◌, Bool, None, Option, Some, bytes_eq, false, if◌then◌else◌, option_map, true}
-use Rattle.block_report.specs.Walks.{name_text}
+use Rattle.vpc_model.specs.Names.{name_text}
 use Rattle.vpc_laws.specs.Types.{Description, End, Header, Phase, Stop, StopText}
 use Rattle.vpc_model.specs.Appliances.{appliances_of}
 use Rattle.vpc_model.specs.Report.{meaning_of}

@@ -10,13 +10,13 @@ use Rattle.report_reader.specs.declared.report.Report.{Report}
 use Rattle.report_reader.specs.declared.report.ReportFault.{ReportFault}
 use Rattle.report_reader.specs.declared.report.ReportFault.TheVariants as faults
 use Rattle.vpc_model.specs.declared.rows.Description.{Description}
-use Rattle.command_job.specs.Lines.{line}
+use Rattle.command_job.specs.Lines.{file_refusal_line}
 use Rattle.command_job.specs.declared.status.Status.{Status}
 use Rattle.command_job.specs.declared.status.Status.TheVariants as ends
 
 -- the line of a refusal of the report
 abbrev pub report_refusal_line : List ℕ → List ℕ
-report_refusal_line cause = line (codes "refused report" ++ word cause)
+report_refusal_line cause = file_refusal_line (codes "report") cause
 
 -- the cause against a report with too many rows
 abbrev pub too_many_text : ℕ → List ℕ

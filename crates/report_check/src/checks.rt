@@ -1,5 +1,5 @@
 // What `check` answers.
-ghost use Rattle.std.specs.Prelude.{◌≡◌, IfOk, decimal};
+ghost use Rattle.std.specs.Prelude.{◌≡◌, IfOk};
 ghost use Rattle.report_check.specs.Texts.{CanBeTold, checked_line};
 ghost use Rattle.report_reader.specs.Reports.{IsSoundReport};
 ghost use Rattle.report_check.specs.Certified.{IsCheckedFrom, IsFaultTold, IsVerdict, checked_status, report_refusal_line, too_many_text};
@@ -7,10 +7,9 @@ ghost use Rattle.report_check.specs.Certified.{IsCheckedFrom, IsFaultTold, IsVer
 use crate::checked::{Checked, check};
 use crate::texts::put_checked;
 use appliances::Deciders;
-use block_report::{put, put_end, put_number_word, put_word};
-use command_job::{Answer, Job, Status, answer_job};
+use block_report::{put, put_number_word};
+use command_job::{Answer, Job, Status, answer_job, refuse_file, refuse_line};
 use fabric::Fabric;
-use prefix_text::put_number;
 use reference_check::Network;
 use report_reader::{Report, ReportFault, read_report};
 use std::alloc::Global;
@@ -63,21 +62,6 @@ impl<'a> Job for Checking<'a> {
     }
 }
 
-/// Refuses a report for this cause.
-pub fn refuse_report(alloc: Global, cause: &[u8]) -> Result<Answer, NoMemory>
-    ensures { IfOk result (λ a.
-        (a.status ≡ Status.Query) × (a.text.items ≡ report_refusal_line cause.now)) }
-{
-    let mut text = Vec::new(alloc);
-    put(&mut text, b"refused report")?;
-    put_word(&mut text, cause)?;
-    put_end(&mut text)?;
-    Ok(Answer {
-        status: Status::Query,
-        text,
-    })
-}
-
 fn refuse_too_many(alloc: Global, number: u64) -> Result<Answer, NoMemory>
     ensures { IfOk result (λ a. (a.status ≡ Status.Query)
         × (a.text.items ≡ report_refusal_line (too_many_text number))) }
@@ -85,16 +69,7 @@ fn refuse_too_many(alloc: Global, number: u64) -> Result<Answer, NoMemory>
     let mut cause = Vec::new(alloc);
     put(&mut cause, b"TooManyBoxes")?;
     put_number_word(&mut cause, u128::from(number))?;
-    refuse_report(alloc, cause.as_slice())
-}
-
-fn refuse_bad_line(alloc: Global, number: u64) -> Result<Answer, NoMemory>
-    ensures { IfOk result (λ a. (a.status ≡ Status.Query)
-        × (a.text.items ≡ report_refusal_line (decimal number))) }
-{
-    let mut cause = Vec::new(alloc);
-    put_number(&mut cause, u128::from(number))?;
-    refuse_report(alloc, cause.as_slice())
+    refuse_file(alloc, b"report", cause.as_slice())
 }
 
 /// Refuses a report, or a listing, for what is wrong with its lines.
@@ -102,7 +77,7 @@ pub fn refuse_fault(alloc: Global, fault: ReportFault) -> Result<Answer, NoMemor
     ensures { IfOk result (λ a. IsFaultTold fault a.status a.text.items) }
 {
     match fault {
-        ReportFault::BadLine(number) => refuse_bad_line(alloc, number),
+        ReportFault::BadLine(number) => refuse_line(alloc, b"report", number),
         ReportFault::TooManyBoxes(number) => refuse_too_many(alloc, number),
         ReportFault::Memory => Err(NoMemory),
     }

@@ -1,8 +1,8 @@
 // The command `check`.
 ghost use Rattle.std.specs.Prelude.{◌≡◌};
 
-use crate::checks::{check_bytes, refuse_report};
-use command_job::{Answer, TwoFiles};
+use crate::checks::check_bytes;
+use command_job::{Answer, TwoFiles, refuse_file};
 use reference_check::Network;
 use std::alloc::Global;
 use vpc_base::NoMemory;
@@ -19,7 +19,7 @@ impl TwoFiles for CheckCommand {
     ghost answers = { λ c. IsCheckedFrom };
 
     fn refuse(&self, alloc: Global, cause: &[u8]) -> Result<Answer, NoMemory> {
-        refuse_report(alloc, cause)
+        refuse_file(alloc, b"report", cause)
     }
 
     fn answer(&self, alloc: Global, network: Network, bytes: &[u8]) -> Result<Answer, NoMemory> {

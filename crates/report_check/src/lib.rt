@@ -10,7 +10,7 @@ mod rows;
 mod texts;
 
 pub use checked::{Checked, check};
-pub use checks::{refuse_fault, refuse_report};
+pub use checks::refuse_fault;
 pub use command::CheckCommand;
 pub use laws::check_laws;
 pub use texts::{put_checked, put_overlap};

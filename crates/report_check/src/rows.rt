@@ -48,7 +48,8 @@ fn first_other(
 }
 
 /// The first row of a report that isn't true of all its headers, if there is one. The probe of walks is made once
-/// for all rows, since it has room for all that a walk may leave behind.
+/// for all rows, since it has room for all that a walk may leave behind, and the way of the report's requests to their goal is
+/// followed once.
 pub fn first_untrue(
     alloc: Global,
     f: &Fabric,
@@ -59,7 +60,8 @@ pub fn first_untrue(
     requires report { IsSoundReport f.now report.now }
     ensures { IfOk result (IsRowSearch f.now report.now) }
 {
-    let walks = RoundProbe::of(f, deciders, report.start, report.goal);
+    let mut walks = RoundProbe::of(f, deciders, report.start, report.goal);
+    walks.look_ahead(&report.sides);
     let rows = report.rows.as_slice();
     let mut number = 0;
     for row in rows {

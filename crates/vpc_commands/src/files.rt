@@ -12,10 +12,9 @@ ghost use Rattle.vpc_commands.specs.Words.{file_name, second_name, third_name};
 use crate::refusals::{refuse_bundle, refuse_description};
 use answer_check::check_diff;
 use bundle::{network_of, read_json};
-use command_job::{Answer, OneFile, Status, TwoFiles, TwoNetworks, answer_line};
+use command_job::{Answer, OneFile, Status, TwoFiles, TwoNetworks, answer_line, refuse_file};
 use query_words::word;
 use reference_check::Network;
-use report_check::refuse_report;
 use serde_json::Value;
 use std::alloc::Global;
 use std::mem;
@@ -270,7 +269,7 @@ fn answer_third<S: Shelf>(
         }
         Err(ShelfFault::TooLong) => {
             leave(before, after);
-            refuse_report(alloc, b"TooBig")
+            refuse_file(alloc, b"report", b"TooBig")
         }
         Err(ShelfFault::Memory) => {
             leave(before, after);

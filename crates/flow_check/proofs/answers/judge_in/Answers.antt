@@ -1,5 +1,5 @@
 use Rattle.std.proofs.Common.{◌∙◌, ap}
-use Rattle.command_job.proofs.Answers.{if_ok, if_ok_two}
+use Rattle.vpc_base.proofs.Results.{if_ok, if_ok_two}
 use Rattle.vpc_laws.specs.Types.{Description}
 use Rattle.flow_check.specs.Answers as answers
 use Rattle.flow_check.specs.Flows.{told_by}

@@ -1,7 +1,7 @@
 use Rattle.std.proofs.Common.{◌≡◌, IfSome, subst, true}
 use Rattle.vpc_laws.specs.Types.{Description}
+use Rattle.vpc_laws.proofs.Numbering.{named-lies}
 use Rattle.vpc_model.specs.Sound.{is_eni}
-use Rattle.flow_check.proofs.Owners.{named-lies}
 use Rattle.flow_check.proofs.sorts.eni_named.Goals as goal
 
 pub returns-clause-described : goal.returns-clause-described

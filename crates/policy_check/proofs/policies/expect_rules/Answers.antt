@@ -1,4 +1,4 @@
-use Rattle.command_job.proofs.Answers.{if_ok}
+use Rattle.vpc_base.proofs.Results.{if_ok}
 use Rattle.policy_check.specs.Policy as policies
 use Rattle.policy_check.proofs.policies.expect_rules.Goals as goal
 

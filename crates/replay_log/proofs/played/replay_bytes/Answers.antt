@@ -1,5 +1,5 @@
+use Rattle.vpc_base.proofs.Results.{if_ok}
 use Rattle.replay_log.specs.Replayed as replays
-use Rattle.command_job.proofs.Answers.{if_ok}
 use Rattle.replay_log.proofs.played.replay_bytes.Goals as goal
 
 pub returns-in-Ok : goal.returns-in-Ok

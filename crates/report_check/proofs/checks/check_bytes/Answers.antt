@@ -1,5 +1,5 @@
+use Rattle.vpc_base.proofs.Results.{if_ok}
 use Rattle.report_check.specs.Certified as checks
-use Rattle.command_job.proofs.Answers.{if_ok}
 use Rattle.report_check.proofs.Faults.{checked_if_fault}
 use Rattle.report_check.proofs.checks.check_bytes.Goals as goal
 

@@ -15,7 +15,7 @@ returns-in-Some g c =
     let r = c.args.report.now in
     let row = c.row-item.result in
     let h = c.in-Some.header in
-    let found = first_in c.network.result.now d _ _ row c.in_ok-header.field-0 c.network.ensures c.of-walks.ensures c.in_ok-header.ensures in
+    let found = first_in c.network.result.now d _ _ row c.in_ok-header.field-0 c.network.ensures (c.look_ahead.ensures ∙ c.of-walks.ensures) c.in_ok-header.ensures in
     least_untrue_is d r c.as_slice-rows.result.now c.loop-row.row-index (c.loop-row.number + 1) row h c.round-verdict.result
     c.as_slice-rows.ensures (omega arith) (omega arith) c.row-item.is c.loop-row.invariant.before
     (c.round-verdict.ensures ∙ ap (λ (a : Appliances). verdict_of d a r.start r.goal h) c.requires.appliances)
@@ -26,7 +26,7 @@ loop-row-preserved g c =
     let d = c.args.f.now in
     let r = c.args.report.now in
     let row = c.row-item.result in
-    let found = first_in c.network.result.now d _ _ row c.in_ok-header.field-0 c.network.ensures c.of-walks.ensures c.in_ok-header.ensures in
+    let found = first_in c.network.result.now d _ _ row c.in_ok-header.field-0 c.network.ensures (c.look_ahead.ensures ∙ c.of-walks.ensures) c.in_ok-header.ensures in
     record {
       number = omega arith;
       before = true_more d r c.as_slice-rows.result.now c.loop-row.row-index row (omega arith) c.row-item.is c.loop-row.invariant.before

@@ -1,5 +1,5 @@
 use Rattle.std.proofs.Common.{◌∙◌, sym}
-use Rattle.command_job.proofs.Answers.{if_ok}
+use Rattle.vpc_base.proofs.Results.{if_ok}
 use Rattle.vpc_commands.specs.Due as due
 use Rattle.vpc_commands.proofs.answers.answer_to.Goals as goal
 

@@ -1,4 +1,4 @@
-use Rattle.command_job.proofs.Answers.{if_ok}
+use Rattle.vpc_base.proofs.Results.{if_ok}
 use Rattle.vpc_commands.specs.Files as files
 use Rattle.vpc_commands.specs.declared.files.Which.TheVariants as numbers
 use Rattle.vpc_commands.proofs.Taken.{network_taken, none_taken}

@@ -1,4 +1,4 @@
-use Rattle.command_job.proofs.Answers.{if_ok}
+use Rattle.vpc_base.proofs.Results.{if_ok}
 use Rattle.vpc_commands.specs.Files as files
 use Rattle.vpc_commands.specs.Files.{second_fault}
 use Rattle.vpc_commands.proofs.Taken.{text_is_too_big, text_of_bytes}

@@ -1,4 +1,4 @@
-use Rattle.command_job.proofs.Answers.{if_ok}
+use Rattle.vpc_base.proofs.Results.{if_ok}
 use Rattle.vpc_commands.specs.Files as files
 use Rattle.vpc_commands.specs.Files.{third_fault}
 use Rattle.vpc_commands.proofs.Taken.{text_is_too_big, text_of_bytes}
@@ -18,6 +18,6 @@ returns-in-Err-Failed g c =
 pub returns-in-Err-TooLong : goal.returns-in-Err-TooLong
 returns-in-Err-TooLong g c =
     let long = c.take.ensures.too_long (rw c.in-Err-TooLong.field-0-is at c.in-Err-TooLong.is) in
-    if_ok _ _ c.refuse_report.result
+    if_ok _ _ c.refuse_file.result
     (λ a. text_is_too_big third_fault (g.S.Shelf.told c.args.shelf.now) _ c.args.file.now _ _ a.status a.text.items long)
-    c.refuse_report.ensures
+    c.refuse_file.ensures

@@ -1,5 +1,5 @@
 use Rattle.std.proofs.Common.{◌∙◌, ap}
-use Rattle.command_job.proofs.Answers.{if_ok}
+use Rattle.vpc_base.proofs.Results.{if_ok}
 use Rattle.command_job.specs.Lines.{line}
 use Rattle.vpc_commands.specs.Files as files
 use Rattle.vpc_commands.proofs.Taken.{is_too_big, taken_of_bytes}
