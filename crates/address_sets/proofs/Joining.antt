@@ -1,5 +1,5 @@
 -- Joined runs have the addresses of the runs, and are apart.
-use Rattle.std.proofs.Common.{◌≡◌, ◌∙◌, ◌||◌, ◌+◌, ◌<◌, ◌≤◌, ◌∷◌, [], ℕ, Bool, List, ap, arith, false, filter, inl, inr, nat_lt, refl, suc, sym, true}
+use Rattle.std.proofs.Common.{◌≡◌, ◌∙◌, ◌||◌, ◌+◌, ◌<◌, ◌≤◌, ◌∷◌, [], ℕ, List, ap, arith, filter, inl, inr, nat_lt, refl, suc, sym, true}
 use Rattle.std.specs.List.{AllByRecursion}
 use Rattle.std.specs.List.Sorted.{IsNonDecreasingBy, IsPermutation}
 use Rattle.std.proofs.lemmas.List.Elements.{All-from_recursion, filter_passes, recursion_from_All}
@@ -7,6 +7,8 @@ use Rattle.std.proofs.lemmas.List.Sorted.{All-permutation, list_any-IsPermutatio
 use Rattle.std.proofs.lemmas.Map.Views.{any-filter_same}
 use Rattle.std.proofs.lemmas.Bool.{cases_Bool, le-leb, leb-false, leb-true}
 use Rattle.std.proofs.lemmas.Bool.Decides.{nat_tests}
+use Rattle.std.proofs.Math.Bool.{or_assoc}
+use Rattle.vpc_base.proofs.Members.{AllByRecursion-weaker}
 use Rattle.address_sets.specs.declared.sets.Run.{Run}
 use Rattle.address_sets.specs.Runs.{AreApart, AreRuns, has_some, is_in, is_of, joined_with, joins, runs_joined, with_last}
 
@@ -15,24 +17,16 @@ abbrev pub Ascend : List Run → Type 0
 Ascend [] = Unit {0}
 Ascend (r ∷ rs) = AllByRecursion (λ s. r.first ≤ s.first) rs × Ascend rs
 
-pub all_turned : {X : Type 0} (P Q : X → Type 0) → ((x : X) → P x → Q x) → (xs : List X) → AllByRecursion P xs → AllByRecursion Q xs
-all_turned P Q turn [] all = tt
-all_turned P Q turn (x ∷ xs) all = (turn x all.0, all_turned P Q turn xs all.1)
-
 -- a run that meets the next one, up to the later of their ends, has the addresses of both
 is_of-joined : (a : ℕ) (r s : Run) → r.first ≤ s.first → joins r s ≡ true → is_of a (with_last r s.last) ≡ (is_of a r || is_of a s)
 is_of-joined a r s up meets = grind (arith, nat_tests)
-
-or_assoc : (a b c : Bool) → (a || b || c) ≡ (a || (b || c))
-or_assoc true b c = refl
-or_assoc false b c = refl
 
 -- a run keeps where it begins
 first-with_last : (r : Run) (last : ℕ) → (with_last r last).first ≡ r.first
 first-with_last r last = elim (cases_Bool (nat_lt r.last last)) [ inl longer ↦ rw longer refl | inr same ↦ rw same refl ]
 
 ascend-joined : (r s : Run) (ss : List Run) → Ascend (r ∷ s ∷ ss) → Ascend (with_last r s.last ∷ ss)
-ascend-joined r s ss up = (all_turned (λ t. r.first ≤ t.first) (λ t. (with_last r s.last).first ≤ t.first) (λ t le. omega (arith, first-with_last r s.last)) ss up.0.1, up.1.1)
+ascend-joined r s ss up = (AllByRecursion-weaker (λ t. r.first ≤ t.first) (λ t. (with_last r s.last).first ≤ t.first) (λ t le. omega (arith, first-with_last r s.last)) ss up.0.1, up.1.1)
 
 pub is_in-joined_with : (a : ℕ) (r : Run) (rs : List Run) → Ascend (r ∷ rs) → is_in a (joined_with r rs) ≡ (is_of a r || is_in a rs)
 is_in-joined_with a r [] up = refl
@@ -64,7 +58,7 @@ are_apart-joined_with r (s ∷ ss) up =
           let before : r.first ≤ s.first = up.0.0 in
           let after : r.last + 1 < s.first = leb-false s.first (r.last + 1) gap in
           rw gap (
-            all_turned (λ t. s.first ≤ t.first) (λ t. (r.first ≤ t.first) × (r.last + 1 < t.first)) (λ t le. (omega arith, omega arith)) (joined_with s ss)
+            AllByRecursion-weaker (λ t. s.first ≤ t.first) (λ t. (r.first ≤ t.first) × (r.last + 1 < t.first)) (λ t le. (omega arith, omega arith)) (joined_with s ss)
                 (from-first s.first s ss (omega arith) up.1),
             are_apart-joined_with s ss up.1,
           )

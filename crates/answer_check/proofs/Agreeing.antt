@@ -2,6 +2,7 @@
 use Rattle.std.proofs.Common.{◌≡◌, ◌≢◌, ◌∙◌, Bool, List, None, Option, Some, ap, false, if◌then◌else◌, refl, sym, true, ℕ}
 use Rattle.std.specs.Prelude.{bytes_eq, option_map}
 use Rattle.std.proofs.lemmas.Slice.Eq.{bytes_eq-Decides}
+use Rattle.vpc_base.proofs.Options.{if_some}
 use Rattle.header_boxes.specs.Rows.{IsFirst}
 use Rattle.journey_changes.specs.Sent.{Sent, reached}
 use Rattle.listing_check.specs.Looks.{IsOther}
@@ -10,10 +11,6 @@ use Rattle.vpc_model.specs.Told.{end_id}
 use Rattle.answer_check.specs.Agreement.{agreed, agreement_of, end_told}
 
 -- ---- texts
-
-if_some : (b : Bool) → (if b then Some (tt {0}) else None) ≢ None → b ≡ true
-if_some true some = refl
-if_some false some = absurd (some refl)
 
 if_none : (b : Bool) → (if b then Some (tt {0}) else None) ≡ None → b ≢ true
 if_none true none = absurd (cc)

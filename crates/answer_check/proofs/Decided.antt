@@ -1,6 +1,7 @@
 -- What `check` answers to a listing of `reach`, or to a report, is decided by it, and tells of no device.
-use Rattle.std.proofs.Common.{◌≡◌, ◌∙◌, Bool, List, None, Some, ap, drop, false, subst, sym, true, ℕ}
+use Rattle.std.proofs.Common.{◌≡◌, ◌∙◌, List, None, Some, ap, drop, subst, sym, ℕ}
 use Rattle.std.specs.Prelude.{codes}
+use Rattle.std.proofs.lemmas.Bool.{both_ways}
 use Rattle.command_job.proofs.Devices.{no_device, query_is_none}
 use Rattle.command_job.specs.Status.{IsOfDevice}
 use Rattle.command_job.specs.declared.status.Status.{Status}
@@ -85,16 +86,13 @@ reach_is_decided d bytes status text (reaches.checked query question few found) 
 
 -- ---- a text
 
-no_report_and_listing : (b : Bool) → b ≡ false → b ≡ true → ⊥
-no_report_and_listing b other is = let wrong : false ≡ true = sym other ∙ is in cc
-
 pub text_is_decided : (d : Description) (bytes : List ℕ) (status : Status) (text : List ℕ) → IsTextChecked d bytes status text → IsTextDecided d bytes status
 text_is_decided d bytes status text (texts.report other answer) = record {
   report = λ is. check_is_decided d bytes status text answer;
-  reach = λ is. absurd (no_report_and_listing (begins_with (codes "vpc-reach 1") (all_lines bytes)) other is);
+  reach = λ is. absurd (both_ways (begins_with (codes "vpc-reach 1") (all_lines bytes)) other is);
 }
 text_is_decided d bytes status text (texts.reach begins answer) = record {
-  report = λ is. absurd (no_report_and_listing (begins_with (codes "vpc-reach 1") (all_lines bytes)) is begins);
+  report = λ is. absurd (both_ways (begins_with (codes "vpc-reach 1") (all_lines bytes)) is begins);
   reach = λ is. reach_is_decided d bytes status text answer;
 }
 

@@ -2,7 +2,7 @@
 use Rattle.std.proofs.Common.{◌≡◌, ◌∙◌, List, None, Option, Some, ap, codes, subst, sym, true, ℕ}
 use Rattle.header_boxes.proofs.Held.{holds_low, valid_if_within}
 use Rattle.header_boxes.specs.Boxes.{IsWithin, holds, low_of}
-use Rattle.change_report.specs.Asked.{Comparison}
+use Rattle.change_report.specs.Asked.{Comparison, HasEnds}
 use Rattle.change_report.specs.Texts.{change_text, start_id}
 use Rattle.change_report.specs.Told.{sent_after, sent_before}
 use Rattle.change_report.proofs.GatherLemmas.{sent_well_after, sent_well_before}
@@ -11,7 +11,7 @@ use Rattle.journey_changes.specs.Changes.{change_of}
 use Rattle.journey_changes.specs.Sent.{Sent}
 use Rattle.journey_changes.specs.Telling.{IsTellable}
 use Rattle.journey_changes.specs.declared.changes.Change.{Change}
-use Rattle.query_words.specs.ChangeQuery.{AreChangedEnds, IsChangedEnd}
+use Rattle.query_words.specs.ChangeQuery.{IsChangedEnd}
 use Rattle.query_words.specs.declared.changes.ChangedEnd.{ChangedEnd}
 use Rattle.vpc_laws.specs.Types.{Box5, Description, Header}
 use Rattle.vpc_model.specs.Accepted.{IsAccepted}
@@ -25,7 +25,7 @@ low_held part sides h within low is = subst (λ (k : Header). holds k part ≡ t
 
 -- ---- changes that can be told
 
-pub tellable-from : (c : Comparison) (start : ChangedEnd) (x y : Sent) → IsAccepted c.before → IsAccepted c.after → AreChangedEnds c.before c.after c.query → IsChangedEnd c.before c.after start
+pub tellable-from : (c : Comparison) (start : ChangedEnd) (x y : Sent) → IsAccepted c.before → IsAccepted c.after → HasEnds c → IsChangedEnd c.before c.after start
     → x ≡ sent_before c start → y ≡ sent_after c start → AreTellable x y
 tellable-from c start x y first second ends there one other =
     subst (λ (z : Sent). AreTellable z y) (sym one)

@@ -4,9 +4,8 @@ use Rattle.std.specs.Prelude.{bytes_eq, is_some, not}
 use Rattle.std.specs.Cmp.Lexicographic.{slice_cmp}
 use Rattle.std.specs.List.{range_with_len}
 use Rattle.std.specs.List.Sorted.{IsPermutation, IsSortedByKey}
-use Rattle.std.specs.Ordering.{is_eq, nat_cmp, ordering_reverse}
-use Rattle.std.specs.declared.cmp.Ordering.{Ordering}
-use Rattle.std.specs.declared.cmp.Ordering.TheVariants.{Equal, Greater, Less}
+use Rattle.std.specs.Ordering.{nat_cmp, ordering_reverse}
+use Rattle.std.specs.declared.cmp.Ordering.TheVariants.{Greater, Less}
 use Rattle.std.proofs.lemmas.Bool.{false_from_ne_true}
 use Rattle.std.proofs.lemmas.Cmp.{nat_list_cmp_total, nat_list_eq_equiv}
 use Rattle.std.proofs.lemmas.List.Elements.{All-map, filter_passes}
@@ -14,15 +13,14 @@ use Rattle.std.proofs.lemmas.List.FromFn.{get_or-map-range_with_len, length-map-
 use Rattle.std.proofs.lemmas.List.Kept.{AllPairs-filter}
 use Rattle.std.proofs.lemmas.List.Sorted.{Contains-permutation, IsPermutation-sym, ranks_by, sorted_far}
 use Rattle.std.proofs.lemmas.Map.Keys.{IsDistinct-IsPermutation, IsDistinct-from_apart, apart_from_distinct}
-use Rattle.std.proofs.lemmas.Map.Text.{is_eq-slice_cmp}
-use Rattle.change_report.proofs.BoxLemmas.{AllPairs-joined}
-use Rattle.listing_text.proofs.SideLemmas.{AllPairs-map}
+use Rattle.vpc_base.proofs.Bytes.{bytes_self, comes-before, same_bytes}
+use Rattle.vpc_base.proofs.Members.{member-list_any, row-member}
+use Rattle.vpc_base.proofs.Pairs.{AllPairs-joined, AllPairs-map}
 use Rattle.change_report.proofs.StartLemmas.{hosts_are_described}
 use Rattle.change_report.specs.Asked.{AreStarts, Comparison, StartAt, changed_id, from_after, from_before, host_with_id, hosts_of_either, is_host_at, is_new, starts_among}
 use Rattle.described_hosts.specs.Hosts.{hosts_of, id_of, is_host, numbered}
 use Rattle.query_words.specs.declared.changes.ChangedEnd.{ChangedEnd}
-use Rattle.vpc_laws.proofs.Members.{member-list_any}
-use Rattle.vpc_laws.proofs.Numbering.{accepted_numbers_are_own, bytes_self, row-member, same_bytes}
+use Rattle.vpc_laws.proofs.Numbering.{accepted_numbers_are_own}
 use Rattle.vpc_laws.specs.Types.{Description, EniNo, Interface}
 use Rattle.vpc_model.specs.Accepted.{IsAccepted}
 use Rattle.vpc_model.specs.Lookup.{eni_no, has_interface, interface_at, no_interface}
@@ -106,15 +104,6 @@ either_differ before after first second =
     is_no_other before after (get_or (hosts_of before) k x) (get_or new m y) first (hosts_are_described before k x below) (are_hosts k x below) (are_new m y under))))
 
 -- ---- in the order of their ids
-
-is-less : (o : Ordering) → is_eq o ≡ false → is_lt (ordering_reverse o) ≡ false → o ≡ Less
-is-less Less e l = refl
-is-less Equal e l = absurd (cc)
-is-less Greater e l = absurd (cc)
-
-comes-before : (a b : List ℕ) → bytes_eq a b ≡ false → is_lt (slice_cmp nat_cmp b a) ≡ false → slice_cmp nat_cmp a b ≡ Less
-comes-before a b apart up =
-    is-less (slice_cmp nat_cmp a b) (is_eq-slice_cmp a b ∙ apart) (ap is_lt (sym (nat_list_cmp_total.antisymm b a)) ∙ up)
 
 module _ (key : ChangedEnd → List ℕ) where
   abbrev ComesBefore : ChangedEnd → ChangedEnd → Type 0

@@ -1,8 +1,9 @@
 -- Texts that are compared piece by piece.
-use Rattle.std.proofs.Common.{◌≡◌, ◌≢◌, ◌∙◌, ◌++◌, Bool, Bor, List, None, Option, Some, ap, append_assoc, bytes_eq, codes, false, refl, sym, true, ℕ}
+use Rattle.std.proofs.Common.{◌≡◌, ◌≢◌, ◌∙◌, ◌++◌, Bool, Bor, List, None, Option, Some, ap, append_assoc, bytes_eq, codes, false, sym, ℕ}
 use Rattle.std.specs.Prelude.{MatchOption}
 use Rattle.std.proofs.lemmas.List.{append_cancel_left}
 use Rattle.std.proofs.lemmas.Slice.Eq.{bytes_eq-Decides}
+use Rattle.std.specs.Cmp.Derive.{one_truth}
 use Rattle.block_report.specs.Words.{word}
 
 -- ---- what is left after a piece
@@ -29,24 +30,19 @@ no_word_after text piece second none x e = none (second ++ word x) (e ∙ append
 
 -- ---- tests
 
-both_ways : (a b : Bool) → (a ≡ true → b ≡ true) → (b ≡ true → a ≡ true) → a ≡ b
-both_ways true b to from = sym (to refl)
-both_ways false true to from = absurd (cc (from refl))
-both_ways false false to from = refl
-
 -- a text is a piece and a word where what is left is the word
 pub same_rest : (text piece rest told : List ℕ) (b : Bool) → text ≡ piece ++ word rest → b ≡ bytes_eq rest told → b ≡ bytes_eq text (piece ++ word told)
 same_rest text piece rest told b is test =
     let small = bytes_eq-Decides rest told in
     let large = bytes_eq-Decides text (piece ++ word told) in
     test
-    ∙ both_ways (bytes_eq rest told) (bytes_eq text (piece ++ word told)) (λ same. large.1 (is ∙ ap (λ (l : List ℕ). piece ++ word l) (small.0 same)))
+    ∙ one_truth (bytes_eq rest told) (bytes_eq text (piece ++ word told)) (λ same. large.1 (is ∙ ap (λ (l : List ℕ). piece ++ word l) (small.0 same)))
     (λ same. small.1 (append_cancel_left (codes " ") rest told (append_cancel_left piece (word rest) (word told) (sym is ∙ large.0 same))))
 
 pub no_rest : (text piece told : List ℕ) → ((x : List ℕ) → text ≢ piece ++ word x) → false ≡ bytes_eq text (piece ++ word told)
 no_rest text piece told none =
     let large = bytes_eq-Decides text (piece ++ word told) in
-    both_ways false (bytes_eq text (piece ++ word told)) (λ same. absurd (cc (same))) (λ same. absurd (none told (large.0 same)))
+    one_truth false (bytes_eq text (piece ++ word told)) (λ same. absurd (cc (same))) (λ same. absurd (none told (large.0 same)))
 
 -- ---- texts of pieces that are known by other names
 

@@ -2,7 +2,7 @@
 use Rattle.std.proofs.Common.{◌≡◌, ◌∙◌, Err, IfSome, None, Ok, Option, Some, ap, subst, sym, true}
 use Rattle.box_images.specs.Bodies.{IsBody}
 use Rattle.box_images.specs.declared.images.Part.{Part}
-use Rattle.box_walk.proofs.Telling.{low_in_body}
+use Rattle.box_images.proofs.BodyLemmas.{low_in_body}
 use Rattle.header_boxes.specs.Boxes.{holds, low_of}
 use Rattle.journey_changes.proofs.Telling.{IsFateTold, fate_told}
 use Rattle.journey_changes.specs.Fates.{Fate}

@@ -1,35 +1,24 @@
 -- Lists that are in one order and have the same members are the same.
-use Rattle.std.proofs.Common.{◌≡◌, ◌∙◌, ◌∷◌, ◌⊎◌, [], AllPairs, Contains, List, None, Option, Some, ap, arith, inl, inr, refl, subst, suc, sym, zero}
+use Rattle.std.proofs.Common.{◌≡◌, ◌∙◌, ◌∷◌, ◌⊎◌, [], AllPairs, Contains, List, None, Option, Some, ap, arith, inl, inr, refl, subst, suc, sym}
 use Rattle.std.specs.Ordering.{ordering_reverse}
 use Rattle.std.specs.declared.cmp.Ordering.TheVariants.{Greater, Less}
 use Rattle.std.proofs.lemmas.Cmp.{nat_list_cmp_total}
 use Rattle.std.proofs.lemmas.List.Sorted.{Contains-permutation, IsPermutation-sym}
+use Rattle.vpc_base.proofs.Members.{Contains-cases, Contains-later, Contains-none}
+use Rattle.vpc_base.proofs.Pairs.{AllPairs-tail}
 use Rattle.described_hosts.specs.Hosts.{AreHostsById, ComesBefore, hosts_of, id_of}
 use Rattle.end_reach.specs.Asked.{AreStarts, starts_among}
 use Rattle.vpc_laws.specs.Types.{Description, End, EniNo}
 
 -- ---- any list
 
-is_first_or_later : {X : Type 0} (x z : X) (xs : List X) → Contains (x ∷ xs) z → (x ≡ z) ⊎ Contains xs z
-is_first_or_later x z xs (zero, below, is) = inl is
-is_first_or_later x z xs (suc k, below, is) = inr (k, omega arith, is)
-
-later_is_in : {X : Type 0} (x z : X) (xs : List X) → Contains xs z → Contains (x ∷ xs) z
-later_is_in x z xs (k, below, is) = (suc k, omega arith, is)
-
-none_is_in : {X : Type 0} (z : X) → (Contains [] z → ⊥)
-none_is_in z (k, below, is) = absurd (omega arith)
-
 first_before_later : {X : Type 0} (R : X → X → Type 0) (x z : X) (xs : List X) → AllPairs R (x ∷ xs) → Contains xs z → R x z
 first_before_later R x z xs order (k, below, is) = subst (R x) is (order 0 (suc k) z (omega arith) (omega arith))
-
-order_of_later : {X : Type 0} (R : X → X → Type 0) (x : X) (xs : List X) → AllPairs R (x ∷ xs) → AllPairs R xs
-order_of_later R x xs order = λ i j d before inside. order (suc i) (suc j) d (omega arith) (omega arith)
 
 module _ {X : Type 0} (R : X → X → Type 0) (one_way : (a b : X) → R a b → R b a → ⊥) where
   -- each first member is the other's
   same_first : (x y : X) (xs ys : List X) → AllPairs R (x ∷ xs) → AllPairs R (y ∷ ys) → Contains (y ∷ ys) x → Contains (x ∷ xs) y → x ≡ y
-  same_first x y xs ys up_x up_y in_y in_x = by (is_first_or_later y x ys in_y) (is_first_or_later x y xs in_x)
+  same_first x y xs ys up_x up_y in_y in_x = by (Contains-cases y x ys in_y) (Contains-cases x y xs in_x)
     where
       by : (y ≡ x) ⊎ Contains ys x → (x ≡ y) ⊎ Contains xs y → x ≡ y
       by (inl is) other = sym is
@@ -45,14 +34,14 @@ module _ {X : Type 0} (R : X → X → Type 0) (one_way : (a b : X) → R a b �
 
   pub same_in_order : (xs ys : List X) → AllPairs R xs → AllPairs R ys → ((z : X) → Contains xs z → Contains ys z) → ((z : X) → Contains ys z → Contains xs z) → xs ≡ ys
   same_in_order [] [] up_x up_y there back = refl
-  same_in_order [] (y ∷ ys) up_x up_y there back = absurd (none_is_in y (back y (0, omega arith, refl)))
-  same_in_order (x ∷ xs) [] up_x up_y there back = absurd (none_is_in x (there x (0, omega arith, refl)))
+  same_in_order [] (y ∷ ys) up_x up_y there back = absurd (Contains-none y (back y (0, omega arith, refl)))
+  same_in_order (x ∷ xs) [] up_x up_y there back = absurd (Contains-none x (there x (0, omega arith, refl)))
   same_in_order (x ∷ xs) (y ∷ ys) up_x up_y there back =
       let first : x ≡ y = same_first x y xs ys up_x up_y (there x (0, omega arith, refl)) (back y (0, omega arith, refl)) in
       let rest : xs ≡ ys =
-      same_in_order xs ys (order_of_later R x xs up_x) (order_of_later R y ys up_y)
-      (λ z later. still_later x y z xs ys first up_x later (is_first_or_later y z ys (there z (later_is_in x z xs later))))
-      (λ z later. still_later y x z ys xs (sym first) up_y later (is_first_or_later x z xs (back z (later_is_in y z ys later))))
+      same_in_order xs ys (AllPairs-tail R x xs up_x) (AllPairs-tail R y ys up_y)
+      (λ z later. still_later x y z xs ys first up_x later (Contains-cases y z ys (there z (Contains-later x xs z later))))
+      (λ z later. still_later y x z ys xs (sym first) up_y later (Contains-cases x z xs (back z (Contains-later y ys z later))))
       in
       ap (λ (l : List X). x ∷ l) rest ∙ ap (λ (z : X). z ∷ ys) first
 

@@ -1,12 +1,11 @@
 -- Questions for what changes, as they are answered: by their starts.
 use Rattle.std.specs.Prelude.{◌≡◌, Bool, List, None, Some, decimal, ℕ}
 use Rattle.change_report.specs.Answered.{IsTooMany}
-use Rattle.change_report.specs.Asked.{Comparison, boxes_at, comparison}
+use Rattle.change_report.specs.Asked.{Comparison, HasEnds, boxes_at, comparison}
 use Rattle.change_report.specs.Texts.{start_id}
 use Rattle.command_job.specs.declared.status.Status.{Status}
 use Rattle.command_job.specs.declared.status.Status.TheVariants as ends
 use Rattle.listing_reader.specs.declared.origins.Origin.{Origin}
-use Rattle.query_words.specs.ChangeQuery.{AreChangedEnds}
 use Rattle.query_words.specs.ReachQuery.{AreReachPairs}
 use Rattle.query_words.specs.declared.changes.ChangeQuery.{ChangeQuery}
 use Rattle.query_words.specs.declared.changes.ChangedEnd.{ChangedEnd}
@@ -16,7 +15,7 @@ use Rattle.answer_check.specs.Diffs.{IsCheckedFor, diff_question}
 
 -- the ends of the question are described, and its sides are not empty
 pub record CanBeCompared (c : Comparison) : Type 0 where
-  pub ends_are : AreChangedEnds c.before c.after c.query
+  pub ends_are : HasEnds c
   pub pairs_are : AreReachPairs c.query.pairs
 
 -- what the rows of a start are read by

@@ -1,6 +1,6 @@
 // A question for what changes, whose starts are looked at one after the other.
 ghost use Rattle.std.specs.Prelude.{◌≡◌, ◌≤◌, ◌<◌, ◌^◌, ◌++◌, All, IfOk, OnOk, Some, length, map, slice_get};
-ghost use Rattle.change_report.specs.Asked.{AreTargets};
+ghost use Rattle.change_report.specs.Asked.{AreTargets, HasEnds};
 ghost use Rattle.header_boxes.specs.Boxes.{IsValid};
 ghost use Rattle.listing_check.specs.Answered.{IsListingChecked};
 ghost use Rattle.listing_check.specs.Asked.{Asked as AskedOf};
@@ -72,7 +72,7 @@ fn look_from(
     boxes: &[Box5],
     rows: &[Row<OwnList<u8>>],
 ) -> Result<Look, NoMemory>
-    requires ends { AreChangedEnds asked.now.compared.before asked.now.compared.after asked.now.compared.query }
+    requires ends { HasEnds asked.now.compared }
     requires start { IsChangedEnd asked.now.compared.before asked.now.compared.after start.now }
     requires boxes { All IsValid boxes.now }
     requires rows { All (λ r. IsValid r.part) rows.now }
@@ -92,7 +92,7 @@ fn put_told_from(
     start: &ChangedEnd,
     h: &Header,
 ) -> Result<(), NoMemory>
-    requires ends { AreChangedEnds asked.now.compared.before asked.now.compared.after asked.now.compared.query }
+    requires ends { HasEnds asked.now.compared }
     requires start { IsChangedEnd asked.now.compared.before asked.now.compared.after start.now }
     ensures { OnOk result (out.new.items ≡ out.old.items ++ told_or_same (told_in
         asked.now.compared start.now h.now)) }
@@ -159,7 +159,7 @@ pub fn check_starts(
     ended: bool,
     lines: &[&[u8]],
 ) -> Result<Answer, NoMemory>
-    requires ends { AreChangedEnds asked.now.compared.before asked.now.compared.after asked.now.compared.query }
+    requires ends { HasEnds asked.now.compared }
     requires pairs { AreReachPairs asked.now.compared.query.pairs }
     requires targets { AreTargets
         asked.now.compared targets.now }

@@ -5,7 +5,8 @@ ghost use Rattle.change_report.specs.Told.{sent_after, sent_before};
 ghost use Rattle.journey_changes.specs.Changes.{change_of};
 ghost use Rattle.journey_changes.specs.Telling.{IsTellable};
 ghost use Rattle.journey_changes.specs.declared.changes.Change.{Change as Told};
-ghost use Rattle.query_words.specs.ChangeQuery.{AreChangedEnds, IsChangedEnd};
+ghost use Rattle.query_words.specs.ChangeQuery.{IsChangedEnd};
+ghost use Rattle.change_report.specs.Asked.{HasEnds};
 ghost use Rattle.answer_check.specs.Diffs.{told_or_same};
 ghost use Rattle.answer_check.specs.Agreement.{agreed};
 ghost use Rattle.answer_check.specs.DiffTold.{AreTellable, AreTellable-prop, change_told, told_of};
@@ -24,7 +25,7 @@ use vpc_base::{Header, NoMemory};
 // ---- walks
 
 fn walks_before<'a>(asked: &Asked<'a>, start: &ChangedEnd) -> FateProbe<'a>
-    requires ends { AreChangedEnds asked.now.compared.before asked.now.compared.after asked.now.compared.query }
+    requires ends { HasEnds asked.now.compared }
     requires start { IsChangedEnd asked.now.compared.before asked.now.compared.after start.now }
     ensures { result.sent ≡ sent_before asked.now.compared start.now }
 {
@@ -37,7 +38,7 @@ fn walks_before<'a>(asked: &Asked<'a>, start: &ChangedEnd) -> FateProbe<'a>
 }
 
 fn walks_after<'a>(asked: &Asked<'a>, start: &ChangedEnd) -> FateProbe<'a>
-    requires ends { AreChangedEnds asked.now.compared.before asked.now.compared.after asked.now.compared.query }
+    requires ends { HasEnds asked.now.compared }
     requires start { IsChangedEnd asked.now.compared.before asked.now.compared.after start.now }
     ensures { result.sent ≡ sent_after asked.now.compared start.now }
 {
@@ -78,7 +79,7 @@ impl<'a> Drop for StartChanges<'a> {
 impl<'a> StartChanges<'a> {
     /// The changes for the requests that a question asks about from a start.
     pub fn of(asked: &Asked<'a>, start: &ChangedEnd) -> StartChanges<'a>
-        requires ends { AreChangedEnds asked.now.compared.before asked.now.compared.after asked.now.compared.query }
+        requires ends { HasEnds asked.now.compared }
         requires start { IsChangedEnd asked.now.compared.before asked.now.compared.after start.now }
         ensures before { result.walks.before.sent ≡ sent_before asked.now.compared start.now }
         ensures after { result.walks.after.sent ≡ sent_after asked.now.compared start.now }
@@ -90,7 +91,11 @@ impl<'a> StartChanges<'a> {
         let _ = network_before.description();
         let _ = network_after.description();
         StartChanges {
-            walks: ChangeProbe::of(walks_before(asked, start), walks_after(asked, start)),
+            walks: ChangeProbe::of(
+                walks_before(asked, start),
+                walks_after(asked, start),
+                asked.alike,
+            ),
             network_before,
             network_after,
             id: changed_id(network_before, network_after, start),

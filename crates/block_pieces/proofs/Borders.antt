@@ -8,6 +8,7 @@ use Rattle.std.proofs.lemmas.Grind.{flat_map-append}
 use Rattle.std.proofs.lemmas.List.{append-nil, length-map, get_or-map, get_or_default, take_all, take_more}
 use Rattle.std.proofs.lemmas.List.Elements.{All-contains, All-more, Contains-get_or, filter_passes}
 use Rattle.std.proofs.lemmas.List.Sorted.{Contains-permutation, IsPermutation-sym}
+use Rattle.vpc_base.proofs.Members.{Contains-cases, Contains-filter, Contains-flat_map, Contains-here, Contains-later, Contains-none, filter-member, flat_map-member, length-filter-le}
 use Rattle.prefix_text.specs.Block.{Block, IsBlock, holds, last_of}
 use Rattle.vpc_model.specs.Cuts.{block_cuts}
 use Rattle.piece_table.specs.Pieces.{ArePieces, LiesIn, PieceLists, first_at, first_of, number_at, told_at}
@@ -18,7 +19,6 @@ use Rattle.block_pieces.specs.declared.sweep.Tells.{Tells}
 use Rattle.block_pieces.specs.Laws.{IsToldBest}
 use Rattle.block_pieces.specs.Told.{borders_of, told_by}
 use Rattle.block_pieces.specs.Sweep.{IsBest, inner_borders, tells, within_line, better_of}
-use Rattle.block_pieces.proofs.Members.{Contains-cons_cases, Contains-filter, Contains-flat_map, Contains-head, Contains-nil, Contains-of_filter, Contains-of_flat_map, Contains-tail, length-filter-le}
 use Rattle.block_pieces.proofs.Walking.{best-skip, best-take, told_by-best}
 
 -- ---- the borders
@@ -30,8 +30,8 @@ length-within_line (r ∷ rows) =
 
 pub borders-within_line : (rows : List BlockRow) (c : ℕ) → Contains (within_line rows) c → Contains (borders_of rows) c
 borders-within_line rows c h =
-    let found = Contains-of_flat_map (λ (r : BlockRow). inner_borders r.block) rows c h in
-    Contains-flat_map (λ (r : BlockRow). block_cuts r.block) rows found.0 c found.1 (Contains-of_filter (λ c. nat_lt c (2 ^ 32)) (block_cuts found.0.block) c found.2)
+    let found = flat_map-member (λ (r : BlockRow). inner_borders r.block) rows c h in
+    Contains-flat_map (λ (r : BlockRow). block_cuts r.block) rows found.0 c found.1 ((filter-member (λ c. nat_lt c (2 ^ 32)) (block_cuts found.0.block) c found.2).1)
 
 pub within_line-border : (rows : List BlockRow) (r : BlockRow) (c : ℕ) → Contains rows r → Contains (block_cuts r.block) c → c < 2 ^ 32 → Contains (within_line rows) c
 within_line-border rows r c listed cut fits =
@@ -74,8 +74,8 @@ first-between p a c h fits listed =
 
 -- the best is known of every address
 best_exists : (rows : List BlockRow) (a n : ℕ) → n ≤ length rows → (o : Option Tells) × IsBest (take n rows) a o
-best_exists rows a zero le = (None, λ r listed. absurd (Contains-nil r listed))
-best_exists [] a (suc n) le = (None, λ r listed. absurd (Contains-nil r listed))
+best_exists rows a zero le = (None, λ r listed. absurd (Contains-none r listed))
+best_exists [] a (suc n) le = (None, λ r listed. absurd (Contains-none r listed))
 best_exists (x ∷ xs) a (suc n) le =
     let rows : List BlockRow = x ∷ xs in
     let rest = best_exists rows a n (omega arith) in
@@ -141,14 +141,14 @@ told_at-borders rows sorted p a h blocks moved told firsts fits =
     let between = λ (r : BlockRow) (listed : Contains rows r).
     let is = All-contains (λ (r : BlockRow). IsBlock r.block) rows r blocks listed in
     let border = λ (c : ℕ) (cut : Contains (block_cuts r.block) c). elim (cases_lt c (2 ^ 32)) as (λ x. (c ≤ first_at p a) ⊎ (a < c)) [ inl small ↦ first-between p a c h fits (firsts c (within_line-border rows r c listed cut small)) | inr large ↦ inr (omega arith) ] in
-    sym (holds-between r.block (first_at p a) a lies.from (border r.block.first (Contains-head r.block.first ((last_of r.block + 1) ∷ []))) (border (last_of r.block + 1) (Contains-tail r.block.first (last_of r.block + 1) ((last_of r.block + 1) ∷ []) (Contains-head (last_of r.block + 1) [])))) in
+    sym (holds-between r.block (first_at p a) a lies.from (border r.block.first (Contains-here r.block.first ((last_of r.block + 1) ∷ []))) (border (last_of r.block + 1) (Contains-later r.block.first ((last_of r.block + 1) ∷ []) (last_of r.block + 1) (Contains-here (last_of r.block + 1) [])))) in
     at_first ∙ sym (told_by-same rows sorted a (first_at p a) (λ r listed. Contains-permutation rows sorted r moved listed) (λ r listed. Contains-permutation sorted rows r (IsPermutation-sym rows sorted moved) listed) between)
 
 -- ---- the lists of the pieces
 
 within_line-fits : (rows : List BlockRow) (c : ℕ) → Contains (within_line rows) c → c < 2 ^ 32
 within_line-fits rows c h =
-    let found = Contains-of_flat_map (λ (r : BlockRow). inner_borders r.block) rows c h in
+    let found = flat_map-member (λ (r : BlockRow). inner_borders r.block) rows c h in
     ltb-true c (2 ^ 32) (All-contains (λ c. nat_lt c (2 ^ 32) ≡ true) (inner_borders found.0.block) c (filter_passes (λ c. nat_lt c (2 ^ 32)) (block_cuts found.0.block)) found.2)
 
 -- numbers that rise and have 0 among them begin with it
@@ -167,13 +167,13 @@ pub record AreBorderPieces (rows sorted : List BlockRow) (firsts : List ℕ) (to
 
 pub border_pieces : (rows sorted : List BlockRow) (firsts : List ℕ) (told : List (Option ℕ)) → AreBorderPieces rows sorted firsts told → ArePieces (record { firsts = firsts; told = told })
 border_pieces rows sorted firsts told h =
-    let zero = first-zero firsts h.order (h.all 0 (Contains-head 0 (within_line rows))) in
+    let zero = first-zero firsts h.order (h.all 0 (Contains-here 0 (within_line rows))) in
     record {
       paired = ap length h.tell ∙ length-map firsts (told_by sorted);
       some = zero.0;
       zero = zero.1;
       ascending = h.order;
-      fit = λ k d within. elim (Contains-cons_cases 0 (get_or firsts k d) (within_line rows) (h.others (get_or firsts k d) (Contains-get_or firsts k d within))) [
+      fit = λ k d within. elim (Contains-cases 0 (get_or firsts k d) (within_line rows) (h.others (get_or firsts k d) (Contains-get_or firsts k d within))) [
         | inl is ↦ omega arith
         | inr later ↦ within_line-fits rows (get_or firsts k d) later
       ];
@@ -182,11 +182,11 @@ border_pieces rows sorted firsts told h =
 pub told_at-border_pieces : (rows sorted : List BlockRow) (firsts : List ℕ) (told : List (Option ℕ)) (a : ℕ) → AreBorderPieces rows sorted firsts told → All (λ r. IsBlock r.block) rows → IsPermutation rows sorted → a < 2 ^ 32
     → told_at (record { firsts = firsts; told = told }) a ≡ told_by rows a
 told_at-border_pieces rows sorted firsts told a h blocks moved fits =
-    told_at-borders rows sorted (record { firsts = firsts; told = told }) a (border_pieces rows sorted firsts told h) blocks moved h.tell (λ c border. h.all c (Contains-tail 0 c (within_line rows) border)) fits
+    told_at-borders rows sorted (record { firsts = firsts; told = told }) a (border_pieces rows sorted firsts told h) blocks moved h.tell (λ c border. h.all c (Contains-later 0 (within_line rows) c border)) fits
 
 pub first-border : (rows : List BlockRow) (firsts : List ℕ) (f : ℕ) → ((c : ℕ) → Contains firsts c → Contains (0 ∷ within_line rows) c) → Contains firsts f → (f ≡ 0) ⊎ Contains (borders_of rows) f
 first-border rows firsts f others listed =
-    elim (Contains-cons_cases 0 f (within_line rows) (others f listed)) [ inl is ↦ inl (sym is) | inr later ↦ inr (borders-within_line rows f later) ]
+    elim (Contains-cases 0 f (within_line rows) (others f listed)) [ inl is ↦ inl (sym is) | inr later ↦ inr (borders-within_line rows f later) ]
 
 -- ---- the borders, row by row
 

@@ -1,4 +1,3 @@
-pub mod Members
 pub mod Nested
 pub mod ToldLemmas
 pub mod Walking

@@ -4,12 +4,12 @@ use Rattle.std.specs.Prelude.{option_map}
 use Rattle.std.specs.List.{Contains, find, list_any}
 use Rattle.std.proofs.lemmas.Bool.{and_from, and_left, and_parts, and_right, both_ways, cases_Bool, not-true, not_from_false}
 use Rattle.std.proofs.lemmas.Bool.Decides.{nat_tests}
+use Rattle.vpc_base.proofs.Members.{find-None, find-member, find_none, list_any-fails, list_any-none}
 use Rattle.prefix_text.specs.Block.{holds}
 use Rattle.vpc_model.specs.Choice.{is_unbeaten}
 use Rattle.block_pieces.specs.declared.rows.BlockRow.{BlockRow}
 use Rattle.block_pieces.specs.Laws.{IsAsGood}
 use Rattle.block_pieces.specs.Told.{is_better, told_by}
-use Rattle.block_pieces.proofs.Members.{find-None, find-Some, find_none, list_any-member, list_any-none}
 
 -- ---- ranks and numbers, where the first of two is a and x, and the second b and y
 
@@ -47,12 +47,12 @@ found : (rows : List BlockRow) (a : ℕ) (best : BlockRow) → Contains rows bes
 found rows a best listed here good None none =
     absurd (both_ways _ (find-None (is_unbeaten (λ r. holds a r.block) is_better rows) rows best none listed) (unbeaten rows a best here good))
 found rows a best listed here good (Some x) some =
-    let is = find-Some (is_unbeaten (λ r. holds a r.block) is_better rows) rows x some in
-    let parts = and_parts (holds a x.block) (not (list_any (λ y. holds a y.block && is_better y x) rows)) is.1 in
+    let is = find-member (is_unbeaten (λ r. holds a r.block) is_better rows) rows x some in
+    let parts = and_parts (holds a x.block) (not (list_any (λ y. holds a y.block && is_better y x) rows)) is.0 in
     let free = not-true (list_any (λ y. holds a y.block && is_better y x) rows) parts.1 in
-    let under : (holds a best.block && is_better best x) ≡ false = list_any-member (λ y. holds a y.block && is_better y x) rows best free listed in
+    let under : (holds a best.block && is_better best x) ≡ false = list_any-fails (λ y. holds a y.block && is_better y x) rows best free listed in
     let worse : is_better best x ≡ false = elim (cases_Bool (is_better best x)) [ inl so ↦ absurd (both_ways _ under (and_from (holds a best.block) (is_better best x) here so)) | inr not_so ↦ not_so ] in
-    ap Some (sym (same_number best.rank x.rank best.row x.row (good x is.0 parts.0) worse))
+    ap Some (sym (same_number best.rank x.rank best.row x.row (good x is.1 parts.0) worse))
 
 pub best_is_told : (rows : List BlockRow) (a : ℕ) (best : BlockRow) → Contains rows best → holds a best.block ≡ true → ((r : BlockRow) → Contains rows r → holds a r.block ≡ true → IsAsGood best r) → told_by rows a ≡ Some best.row
 best_is_told rows a best listed here good = found rows a best listed here good (find (is_unbeaten (λ r. holds a r.block) is_better rows) rows) refl

@@ -7,6 +7,7 @@ use Rattle.std.proofs.lemmas.List.{get_or-take, get_or_default, get_or_push, len
 use Rattle.std.proofs.lemmas.List.Elements.{All-get_or, All-push, All-take, All-weaker, Contains-append_left, Contains-get_or, Contains-push, Contains-push_cases}
 use Rattle.std.proofs.lemmas.List.Sums.{fold_push}
 use Rattle.std.proofs.lemmas.Option.{slice_get-get_or}
+use Rattle.vpc_base.proofs.Members.{Contains-none, Contains-take}
 use Rattle.prefix_text.specs.Block.{Block, IsBlock, holds, last_of}
 use Rattle.block_pieces.specs.declared.rows.BlockRow.{BlockRow}
 use Rattle.block_pieces.specs.declared.sweep.Open.{Open}
@@ -17,7 +18,6 @@ use Rattle.block_pieces.specs.Told.{told_by}
 use Rattle.block_pieces.specs.Sweep.{AreInOrder, ComesBefore, HasOpened, IsBest, IsSwept, IsTold, Reaches, StartsAfter, better_of, ends_before, open_best, order_of, tells, top_best}
 use Rattle.block_pieces.proofs.Nested.{last_of-after}
 use Rattle.block_pieces.proofs.ToldLemmas.{best_is_told, none_is_told}
-use Rattle.block_pieces.proofs.Members.{Contains-nil, Contains-take}
 
 -- ---- which of two is better
 
@@ -279,7 +279,7 @@ pub swept-none : (rows : List BlockRow) (s : Sweep) → s.at ≡ 0 → s.next �
 swept-none rows s at next none =
     record {
       within = omega arith;
-      told = λ a from. subst (λ k. IsBest (take k rows) a (open_best s.around.items a)) (sym next) (subst (λ l. IsBest [] a (open_best l a)) (sym none) (λ r listed. absurd (Contains-nil r listed)));
+      told = λ a from. subst (λ k. IsBest (take k rows) a (open_best s.around.items a)) (sym next) (subst (λ l. IsBest [] a (open_best l a)) (sym none) (λ r listed. absurd (Contains-none r listed)));
       own = subst (All (ComesBefore rows s.next)) (sym none) (λ k d within. absurd (omega arith));
       later = λ k d le within. omega arith;
     }

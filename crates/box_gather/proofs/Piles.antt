@@ -1,7 +1,7 @@
 -- What is known of piles of rows.
-use Rattle.std.proofs.Common.{◌≡◌, ◌≢◌, ◌≤◌, ◌<◌, ◌+◌, ◌++◌, ◌∷◌, ◌||◌, ◌⊎◌, ◌∙◌, [], All, AllPairs, Bool, Contains, IfSome, IsPermutation, List, None, Option, Some, ap, arith, cond, false, filter, get_or, inl, inr, length, map, nat_le, not, refl, subst, suc, sum_by, sym, take, true, zero, ℕ, ⊎_elim}
+use Rattle.std.proofs.Common.{◌≡◌, ◌≢◌, ◌≤◌, ◌<◌, ◌+◌, ◌++◌, ◌∷◌, ◌||◌, ◌⊎◌, ◌∙◌, [], All, AllPairs, Bool, Contains, IfSome, IsPermutation, List, None, Option, Some, ap, arith, cond, false, filter, get_or, inl, inr, length, map, nat_le, not, refl, subst, sum_by, sym, take, true, zero, ℕ, ⊎_elim}
 use Rattle.std.proofs.lemmas.Bool.Decides.{nat_tests}
-use Rattle.std.proofs.lemmas.Bool.{cases_lt}
+use Rattle.std.proofs.lemmas.Bool.{cases_lt, or_cases, or_left, or_right}
 use Rattle.std.proofs.lemmas.List.Elements.{All-append, All-cons, All-filter, All-head, All-map, All-nil, All-tail, All-take, All-weaker, Contains-append_left, Contains-append_right, filter-append, filter_passes}
 use Rattle.std.proofs.lemmas.List.Folds.{Any-from_list_any, list_any-append, list_any_at}
 use Rattle.std.proofs.lemmas.List.Sorted.{All-permutation, length_permutation, list_any-IsPermutation, ranks_by, sorted_far, sum_by-IsPermutation}
@@ -15,6 +15,7 @@ use Rattle.std.specs.declared.cmp.Ordering.TheVariants.{Equal, Greater, Less}
 use Rattle.vpc_base.specs.Cuts.{AreAmong, CutLists}
 use Rattle.vpc_base.specs.Header.{IsBefore, order_of}
 use Rattle.vpc_base.specs.declared.headers.Header.{Header}
+use Rattle.vpc_base.proofs.Pairs.{AllPairs-map}
 use Rattle.header_boxes.proofs.BoxLaws.{aligned_grows, low_is_least}
 use Rattle.header_boxes.proofs.Held.{holds_low, holds_whole, valid_if_within}
 use Rattle.header_boxes.proofs.Order.{order_of_total}
@@ -23,9 +24,8 @@ use Rattle.header_boxes.specs.Cells.{IsAligned, cells_of}
 use Rattle.header_boxes.specs.Rows.{HasWord, is_covered}
 use Rattle.header_boxes.specs.declared.boxes.Box5.{Box5}
 use Rattle.header_boxes.specs.declared.rows.Row.{Row}
-use Rattle.std.proofs.lemmas.List.Kept.{AllPairs-cons}
 use Rattle.ordered_cover.proofs.Cells.{boxes_within_cells}
-use Rattle.ordered_cover.proofs.Lists.{any_from_one, none_from_zero, zero_from_all}
+use Rattle.ordered_cover.proofs.Lists.{any_from_one, at_most_one, none_from_zero, zero_from_all}
 use Rattle.ordered_cover.proofs.Order.{before_other, before_trans, before_upto}
 use Rattle.ordered_cover.specs.Gathered.{IsGathered, LeaveSomeOut, HoldAllTold}
 use Rattle.ordered_cover.specs.Open.{holders, one_if, row_holders}
@@ -90,10 +90,6 @@ some_if (Some x) (Some y) e = by (is_before y x) e
     by : (t : Bool) → cond t (Some y) (Some x) ≡ None → (Some x ≡ None) × (Some y ≡ None)
     by true f = absurd cc
     by false f = absurd cc
-
-at_most_one : (b : Bool) → one_if b ≤ 1
-at_most_one true = omega arith
-at_most_one false = omega arith
 
 one_earlier : (a b : Option Header) → one_if (is_some (earlier a b)) ≤ one_if (is_some a) + one_if (is_some b)
 one_earlier None b = omega arith
@@ -180,18 +176,6 @@ part_left cuts boxes others b k = record { whole = k.whole; among = Contains-app
 part_right : (cuts : CutLists) (boxes others : List Box5) (b : Box5) → IsPartOf cuts others b → IsPartOf cuts (boxes ++ others) b
 part_right cuts boxes others b k = record { whole = k.whole; among = Contains-append_right boxes others k.whole k.among; within = k.within; aligned = k.aligned }
 
-either : (a b : Bool) → (a || b) ≡ true → (a ≡ true) ⊎ (b ≡ true)
-either true b e = inl refl
-either false b e = inr e
-
-or_left : (a b : Bool) → a ≡ true → (a || b) ≡ true
-or_left true b e = refl
-or_left false b e = absurd cc
-
-or_right : (a b : Bool) → b ≡ true → (a || b) ≡ true
-or_right true b e = refl
-or_right false b e = e
-
 module _ {W : Type 0} (meaning : Header → Option W) (cuts : CutLists) (boxes others : List Box5) (room : ℕ) (rows more : List (Row W)) (next far : Option Header) where
   -- a header that was left out still is
   out_left : (n : Header) → ((h : Header) → holders (boxes ++ others) h ≤ 1) → IsPile meaning cuts others room more far → IsLeftOut meaning boxes rows n
@@ -276,7 +260,7 @@ pile_joined {W = W} meaning cuts boxes others room rows more next far apart a b 
       let x = a.each h in let y = b.each h in
       omega (arith, less, joined, split, x, y);
   told = λ h inside some.
-      told_of meaning cuts boxes others room rows more next far h a b (either (is_in boxes h) (is_in others h) (sym (list_any-append (λ x. holds h x) boxes others) ∙ inside)) some;
+      told_of meaning cuts boxes others room rows more next far h a b (or_cases (is_in boxes h) (is_in others h) (sym (list_any-append (λ x. holds h x) boxes others) ∙ inside)) some;
   next_is = by_choice next far (λ (o : Option Header). IfSome o (IsLeftOut meaning (boxes ++ others) (kept_before (earlier next far) (rows ++ more))))
       (λ e. next_left meaning cuts boxes others room rows more next far apart a b next refl) (λ e. next_right meaning cuts boxes others room rows more next far apart a b far refl);
   begun = kept_begun (earlier next far) (rows ++ more);
@@ -310,12 +294,6 @@ pile_of_none meaning cuts room = record {
 in_one : (b c : Bool) → (b || false) ≡ c → b ≡ c
 in_one true c e = e
 in_one false c e = e
-
-AllPairs-map : {X Y : Type 0} (R : Y → Y → Type 0) (f : X → Y) (xs : List X) → AllPairs (λ a b. R (f a) (f b)) xs → AllPairs R (map f xs)
-AllPairs-map R f [] h = λ i j d lt inside. absurd (omega arith)
-AllPairs-map R f (x ∷ xs) h =
-    AllPairs-cons R (f x) (map f xs) (All-map (R (f x)) f xs (λ k d lt. h 0 (suc k) d (omega arith) (omega arith)))
-    (AllPairs-map R f xs (λ i j d lt inside. h (suc i) (suc j) d (omega arith) (omega arith)))
 
 before_or_past : (n h : Header) (b : Bool) → is_before h n ≡ b → IsBefore h n ⊎ ¬ (IsBefore h n)
 before_or_past n h true e = inl (before_if h n e)

@@ -11,6 +11,7 @@ use Rattle.std.specs.Option.{is_some}
 use Rattle.vpc_base.specs.Cuts.{AreAmong, CutLists}
 use Rattle.vpc_base.specs.Header.{IsBefore}
 use Rattle.vpc_base.specs.declared.headers.Header.{Header}
+use Rattle.vpc_base.proofs.Options.{some_not_none}
 use Rattle.header_boxes.proofs.BoxLaws.{low_is_least}
 use Rattle.header_boxes.proofs.Held.{holds_low, holds_whole, valid_if_within}
 use Rattle.header_boxes.proofs.Order.{order_of_total}
@@ -35,9 +36,6 @@ use Rattle.std.specs.Ordering.{is_lt}
 -- a part of a box is valid
 part_valid : (cuts : CutLists) (boxes : List Box5) (b : Box5) → IsPartOf cuts boxes b → IsValid b
 part_valid cuts boxes b k = valid_if_within b k.whole k.within
-
-some_none : {W : Type 0} (o : Option W) (w : W) → o ≡ Some w → o ≢ None
-some_none o w e n = let k = sym e ∙ n in absurd (cc)
 
 module _ {W : Type 0} (cuts : CutLists) (boxes : List Box5) (rows : List (Row W)) (parts : All (λ r. IsPartOf cuts boxes r.part) rows) (few : (h : Header) → row_holders rows h ≤ 1) where
   low_held : (k : ℕ) (d : Row W) → k < length rows → holds (low_of (get_or rows k d).part) (get_or rows k d).part ≡ true
@@ -111,7 +109,7 @@ module _ {W : Type 0} (meaning : Header → Option W) (cuts : CutLists) (boxes :
 
   low_told : meaning (low_of row.part) ≢ None
   low_told =
-      some_none (meaning (low_of row.part)) row.word
+      some_not_none (meaning (low_of row.part)) row.word
       (subst (λ (r : Row W). HasWord meaning r) (sym at) (k.word room row more) (low_of row.part) low_in_row)
 
   -- the low corner of the first row that is taken off
@@ -263,7 +261,7 @@ gathered_over {W = W} meaning cuts boxes room (gathered.More some h) rows next a
 
 -- ---- box by box
 
-few_taken : (boxes : List Box5) → AllPairs AreDisjoint boxes → (n : ℕ) (h : Header) → holders (take n boxes) h ≤ 1
+pub few_taken : (boxes : List Box5) → AllPairs AreDisjoint boxes → (n : ℕ) (h : Header) → holders (take n boxes) h ≤ 1
 few_taken boxes disjoint n h =
     let less = sum_by-take-le (λ b. one_if (holds h b)) boxes n in
     let c = count_by_disjoint (λ (b : Box5). b) boxes disjoint h in
@@ -289,9 +287,6 @@ pile_more {W = W} meaning cuts boxes room k b rows more new_rows next far new_ne
 
 pub few_all : (boxes : List Box5) → AllPairs AreDisjoint boxes → (h : Header) → holders boxes h ≤ 1
 few_all boxes disjoint h = count_by_disjoint (λ (b : Box5). b) boxes disjoint h
-
-pub few_some : (boxes : List Box5) → AllPairs AreDisjoint boxes → (n : ℕ) (h : Header) → holders (take n boxes) h ≤ 1
-few_some boxes disjoint n h = few_taken boxes disjoint n h
 
 -- cut where it is long, or as it was
 pub pile_shortened : {W : Type 0} (meaning : Header → Option W) (cuts : CutLists) (boxes : List Box5) (room : ℕ) (rows new_rows : List (Row W)) (next new_next : Option Header)

@@ -128,7 +128,7 @@ side-common_box a b P = refl
 side-common_box a b Q = refl
 
 -- both bodies hold the low corner
-low_in_body : (body part : Box5) → IsBody body part → holds (low_of part) body ≡ true
+pub low_in_body : (body part : Box5) → IsBody body part → holds (low_of part) body ≡ true
 low_in_body body part b = subst (λ (h : Header). holds h body ≡ true) b.low (holds_low body (valid_if_within body part b.within))
 
 low_in_both : (a b part : Box5) → IsBody a part → IsBody b part → (holds (low_of part) a && holds (low_of part) b) ≡ true

@@ -1,5 +1,5 @@
 -- The laws of bodies and images.
-use Rattle.std.proofs.Common.{◌≡◌, ℕ, ◌≤◌, ◌<◌, ◌+◌, ◌^◌, ◌⊎◌, ◌∷◌, [], true, false, List, refl, ap, sym, subst, ◌∙◌, arith, inl, inr, ⊎_elim}
+use Rattle.std.proofs.Common.{◌≡◌, ℕ, ◌≤◌, ◌<◌, ◌+◌, ◌^◌, ◌||◌, ◌⊎◌, ◌∷◌, [], Bool, true, false, List, refl, ap, sym, subst, ◌∙◌, arith, inl, inr, ⊎_elim}
 use Rattle.std.proofs.lemmas.Bool.{cases_lt}
 use Rattle.std.proofs.lemmas.List.Elements.{All-cons, All-contains, All-nil}
 use Rattle.std.specs.List.{Contains}
@@ -9,7 +9,7 @@ use Rattle.header_boxes.specs.Boxes.{holds, in_range, low_of}
 use Rattle.header_boxes.specs.Cells.{IsAligned}
 use Rattle.header_boxes.specs.declared.boxes.Box5.{Box5}
 use Rattle.header_boxes.proofs.CellNumbers.{aligned_by_low, aligned_through}
-use Rattle.header_boxes.proofs.Held.{holds_low}
+use Rattle.header_boxes.proofs.Held.{holds_low, holds_whole}
 use Rattle.box_images.specs.Fields.{AreComparable, greatest_of, greatest_on, side_of, value_of}
 use Rattle.box_images.specs.Images.{CanCompare, IsAddress, IsImageOfEchoReply, IsImageOfReturn, IsPort, IsValidImage, field_of}
 use Rattle.box_images.specs.Bodies.{AreCutInside, Edges, IsBody, IsCut, IsCutInside, IsEdge, cuts_on, range_edges}
@@ -100,6 +100,30 @@ answers_follow {T} enough answer middle part x b a k = record {
   aligned = λ cuts e. aligned_through cuts x.body middle part (k.aligned cuts e) (a cuts e);
 }
 
+-- where the first of two tests holds, one of them does
+pub answers_first : (enough : CutLists → Type 0) (f g : Header → Bool) (part : Box5) (x : Part Bool) → x.told ≡ true
+    → Answers enough f part x → Answers enough (λ h. f h || g h) part x
+answers_first enough f g part x e k = record { told = λ h i. passes (f h) (g h) x.told e (k.told h i); body = k.body; aligned = k.aligned }
+  where
+    passes : (a b v : Bool) → v ≡ true → v ≡ a → v ≡ (a || b)
+    passes true b v e f = e
+    passes false b v e f = absurd (let g : false ≡ true = sym f ∙ e in cc)
+
+-- where it doesn't, the second decides
+pub answers_either : (enough : CutLists → Type 0) (f g : Header → Bool) (part : Box5) (x y : Part Bool) → x.told ≡ false
+    → Answers enough f part x → Answers enough g x.body y → Answers enough (λ h. f h || g h) part y
+answers_either enough f g part x y e k l =
+    answers_follow enough (λ h. f h || g h) x.body part y k.body k.aligned
+    (record {
+      told = λ h i. decides (f h) (g h) x.told y.told e (k.told h (holds_whole h y.body x.body l.body.within i)) (l.told h i);
+      body = l.body;
+      aligned = l.aligned;
+    })
+  where
+    decides : (a b v w : Bool) → v ≡ false → v ≡ a → w ≡ b → w ≡ (a || b)
+    decides true b v w e f g = absurd (let h : true ≡ false = sym f ∙ e in cc)
+    decides false b v w e f g = g
+
 -- ---- comparable images
 
 address_compares : (addresses : List ℕ) (s : Side) (f g : Field) → IsAddress addresses s f → IsAddress addresses s g → AreComparable f g
@@ -113,7 +137,7 @@ one_side_compares : (s : Side) (f g : Field) → (add : ℕ) × (f ≡ Of s add)
 one_side_compares s f g k l =
     subst (λ (u : Field). AreComparable u g) (sym k.1) (subst (λ (v : Field). AreComparable (Of s k.0) v) (sym l.1) refl)
 
-port_reads : (s : Side) (f : Field) → IsPort s f → (add : ℕ) × (f ≡ Of s add)
+pub port_reads : (s : Side) (f : Field) → IsPort s f → (add : ℕ) × (f ≡ Of s add)
 port_reads s f k = ⊎_elim (λ e. (0, e)) (λ e. (1024, e)) k
 
 port_compares : (s : Side) (f g : Field) → IsPort s f → IsPort s g → AreComparable f g
@@ -150,7 +174,7 @@ returns_compare addresses i j e a b = record {
 }
 
 -- a part doesn't have proto 1 alone and no header of proto 1
-no_two_kinds : (part other : Box5) → part ≡ other → part.proto ≡ (1, 1) → in_range other.proto 1 ≡ false → ⊥
+pub no_two_kinds : (part other : Box5) → part ≡ other → part.proto ≡ (1, 1) → in_range other.proto 1 ≡ false → ⊥
 no_two_kinds part other e k l =
     let m : in_range (1, 1) 1 ≡ false = subst (λ (r : ℕ × ℕ). in_range r 1 ≡ false) (sym (ap (λ (b : Box5). b.proto) e) ∙ k) l in cc
 

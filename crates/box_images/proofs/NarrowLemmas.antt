@@ -1,6 +1,7 @@
 -- What is told of one field, of two, and of all five.
 use Rattle.std.proofs.Common.{◌≡◌, ℕ, ◌≤◌, ◌+◌, ◌⊎◌, ◌++◌, ◌&&◌, ◌==◌, ◌↔◌, IsTrue, Bool, true, false, Option, Some, IfSome, refl, ap, sym, subst, ◌∙◌, arith}
 use Rattle.std.proofs.lemmas.Bool.Decides.{nat_tests}
+use Rattle.std.proofs.lemmas.Bool.{and_parts}
 use Rattle.vpc_base.specs.declared.headers.Header.{Header}
 use Rattle.header_boxes.specs.Boxes.{IsValid, common_box, holds, in_range}
 use Rattle.header_boxes.specs.declared.boxes.Box5.{Box5}
@@ -90,16 +91,12 @@ value_if_some o m n e k = subst (λ (t : Option Box5). IfSome t (λ k. k ≡ n))
 abbrev pub same_numbers : Header → Header → Bool
 same_numbers a b = (a.proto == b.proto) && (((a.src == b.src) && (a.dst == b.dst)) && ((a.p == b.p) && (a.q == b.q)))
 
-both_true : (s t : Bool) → (s && t) ≡ true → (s ≡ true) × (t ≡ true)
-both_true true t e = (refl, e)
-both_true false t e = absurd cc
-
 same_if_numbers : (a b : Header) → same_numbers a b ≡ true → a ≡ b
 same_if_numbers a b e =
-    let k = both_true (a.proto == b.proto) _ e in
-    let l = both_true ((a.src == b.src) && (a.dst == b.dst)) ((a.p == b.p) && (a.q == b.q)) k.1 in
-    let m = both_true (a.src == b.src) (a.dst == b.dst) l.0 in
-    let n = both_true (a.p == b.p) (a.q == b.q) l.1 in
+    let k = and_parts (a.proto == b.proto) _ e in
+    let l = and_parts ((a.src == b.src) && (a.dst == b.dst)) ((a.p == b.p) && (a.q == b.q)) k.1 in
+    let m = and_parts (a.src == b.src) (a.dst == b.dst) l.0 in
+    let n = and_parts (a.p == b.p) (a.q == b.q) l.1 in
     same_fields a b (same a.proto b.proto k.0) (same a.src b.src m.0) (same a.dst b.dst m.1) (same a.p b.p n.0) (same a.q b.q n.1)
   where
     same : (x y : ℕ) → (x == y) ≡ true → x ≡ y

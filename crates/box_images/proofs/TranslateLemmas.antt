@@ -38,7 +38,7 @@ value_of-high (Of Dst add) b = refl
 value_of-high (Of P add) b = refl
 value_of-high (Of Q add) b = refl
 
-range_of_value : (lo hi v : ℕ) → true ≡ in_range (lo, hi) v → (lo ≤ v) × (v ≤ hi)
+pub range_of_value : (lo hi v : ℕ) → true ≡ in_range (lo, hi) v → (lo ≤ v) × (v ≤ hi)
 range_of_value lo hi v e = (grind (arith, nat_tests), grind (arith, nat_tests))
 
 -- all of its values are in the range

@@ -171,10 +171,6 @@ reached-out d a start e h before c at held lets =
 
 -- ---- of all requests of a moment
 
-pub none_if_not_some : {X : Type 0} (o : Option X) → is_some o ≡ false → None ≡ o
-none_if_not_some {X} None e = refl
-none_if_not_some {X} (Some x) e = absurd (false≢true (sym e))
-
 pub are_arrivals : (d : Description) (a : Appliances) (start : End) (e : EniNo) (old before arrived new : BoxMoment) (back : Option (Phase × Stop)) (x : Arrivals)
     → AreRequests start old → HaveComeTo d a start old before e → None ≡ number_of a e → same_end (ends.Interface e) start ≡ false → IsLetIn d a before arrived
     → Tells (DivideArrival d a (ends.Interface e) (ends.Interface e) arrived) (word_of_arrival d a start (ends.Interface e) (ends.Interface e) arrived) arrived new back

@@ -22,7 +22,8 @@ use Rattle.vpc_model.specs.declared.outcomes.Outcome.TheVariants as outcomes
 use Rattle.vpc_model.specs.declared.outcomes.Phase.TheVariants as phases
 use Rattle.vpc_model.specs.declared.outcomes.Verdict.TheVariants as verdicts
 use Rattle.vpc_model.specs.declared.stops.Stop.TheVariants as stops
-use Rattle.box_walk.proofs.Telling.{low_in_body, request_among, request_arrives, request_led}
+use Rattle.box_images.proofs.BodyLemmas.{low_in_body}
+use Rattle.box_walk.proofs.Telling.{request_among, request_arrives, request_led}
 use Rattle.box_walk.specs.Asking.{stop_of, whether}
 use Rattle.box_walk.specs.Goal.{goal_unless}
 use Rattle.box_walk.specs.Journeys.{JourneysAreVerdicts, TellsJourney, arrived_at, journey_after, journey_by, journey_of, open_cuts, reached_end, toward}
@@ -34,7 +35,7 @@ use Rattle.box_walk.specs.declared.walks.Ending.TheVariants as endings
 
 -- ---- ends
 
-same-itself : (e : End) → same_end e e ≡ true
+pub same-itself : (e : End) → same_end e e ≡ true
 same-itself e = let told = ends_are_told_apart e e in told.1 refl
 
 pub same-only : (a b : End) → same_end a b ≡ true → a ≡ b

@@ -1,6 +1,6 @@
 -- Walks of opens that miss the goal.
 use Rattle.std.proofs.Common.{◌≡◌, ◌↔◌, ◌∙◌, ◌&&◌, ◌++◌, ◌+◌, ◌∷◌, [], Bool, List, None, Option, Some, ap, cond, false, is_none, not, refl, subst, suc, sym, true, zero, ℕ}
-use Rattle.std.proofs.lemmas.Bool.{and_parts, cond_both, false≢true}
+use Rattle.std.proofs.lemmas.Bool.{and_parts, cond_both, false≢true, not-true}
 use Rattle.vpc_base.specs.Cuts.{AreAmong, CutLists}
 use Rattle.vpc_base.specs.Header.{reply_of}
 use Rattle.vpc_base.specs.declared.headers.Dir.TheVariants as dirs
@@ -54,14 +54,10 @@ ends_away goal (stop s) = true
 ends_away goal (arrive end) = not (same_end end goal)
 ends_away goal (go p h) = false
 
-other : (b : Bool) → not b ≡ true → b ≡ false
-other true e = sym e
-other false e = refl
-
 ended-away : (d : Description) (a : Appliances) (goal : End) (n : ℕ) (hops : List Hop) (h : Header) (next : Next) (conns : List Connection) (nats : List Translation) → ends_away goal next ≡ true
     → let w = walk_on d a labels.Opening n hops h next conns nats in arrives_at goal w.outcome ≡ false
 ended-away d a goal n hops h (stop s) conns nats e = refl
-ended-away d a goal n hops h (arrive end) conns nats e = other (same_end end goal) e
+ended-away d a goal n hops h (arrive end) conns nats e = not-true (same_end end goal) e
 ended-away d a goal n hops h (go p k) conns nats e = absurd (false≢true e)
 
 -- at an interface that is neither the goal nor an appliance's

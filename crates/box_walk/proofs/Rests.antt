@@ -30,7 +30,7 @@ use Rattle.vpc_base.specs.Cuts.{AreAmong, CutLists}
 use Rattle.vpc_base.specs.declared.headers.Dir.TheVariants as dirs
 use Rattle.vpc_base.specs.declared.headers.Header.{Header}
 use Rattle.vpc_base.specs.declared.headers.Label.TheVariants as labels
-use Rattle.vpc_laws.proofs.Walking.{hop_at, walk_on-goes_far, walk_on-goes_on, walk_on-keeps, walk_on-loops}
+use Rattle.vpc_laws.proofs.Walking.{hop_at, places_of-push, walk_on-goes_far, walk_on-goes_on, walk_on-keeps, walk_on-loops}
 use Rattle.vpc_laws.specs.Types.{Description, End, Hop, Label, Place, Stop}
 use Rattle.vpc_laws.specs.Walk.{places_of}
 use Rattle.vpc_model.specs.Appliances.{Appliances}
@@ -47,10 +47,6 @@ use Rattle.vpc_model.specs.declared.places.Place.TheVariants as places
 use Rattle.vpc_model.specs.declared.stops.Stop.TheVariants as stops
 
 -- ---- places of hops
-
-pub places_of-push : (hops : List Hop) (h : Hop) → places_of (hops ++ h ∷ []) ≡ places_of hops ++ h.place ∷ []
-places_of-push [] h = refl
-places_of-push (x ∷ hops) h = ap (λ (ps : List Place). x.place ∷ ps) (places_of-push hops h)
 
 is_among-places_of : (hops : List Hop) (p : Place) → is_among (places_of hops) p ≡ is_visited hops p
 is_among-places_of [] p = refl

@@ -1,13 +1,13 @@
 -- What is told of the packets of a moment, by what is told of those of a body.
 use Rattle.std.proofs.Common.{◌≡◌, ◌∙◌, ◌&&◌, [], All, Bool, IfSome, List, None, Option, Some, ap, arith, cond, false, option_map, refl, subst, sym, true, ℕ}
-use Rattle.box_images.proofs.BodyLemmas.{body_through}
+use Rattle.box_images.proofs.BodyLemmas.{body_through, low_in_body}
 use Rattle.box_images.specs.Answers.{Answers}
 use Rattle.box_images.specs.Bodies.{IsBody}
 use Rattle.box_images.specs.Images.{IsImageOfAnswer, IsValidImage, header_at}
 use Rattle.box_images.specs.declared.images.Image.{Image}
 use Rattle.box_images.specs.declared.images.Part.{Part}
 use Rattle.box_steps.specs.Cuts.{Standing}
-use Rattle.box_steps.proofs.Narrowing.{connections_at-over, moment-narrowed, translations_at-over}
+use Rattle.box_steps.proofs.Narrowing.{connections_at-over, moment-narrowed, moments-same, translations_at-over}
 use Rattle.box_steps.specs.Moments.{AreApart, IsBoxMoment, IsImageOf, IsNarrowed, IsOpenOver, IsTranslatedOver, moment_at, translations_at}
 use Rattle.box_steps.specs.declared.moment.BoxMoment.{BoxMoment}
 use Rattle.conn_tracking.specs.OnImages.{GivesReply, TellsReply, connections_at}
@@ -18,7 +18,6 @@ use Rattle.cut_laws.proofs.Rows.{places_have_their_cuts}
 use Rattle.cut_laws.specs.Dividing.{DivideAddresses}
 use Rattle.header_boxes.proofs.BoxLaws.{within_holds}
 use Rattle.header_boxes.proofs.CellNumbers.{aligned_through}
-use Rattle.header_boxes.proofs.Held.{holds_low, valid_if_within}
 use Rattle.header_boxes.specs.Boxes.{holds, low_of}
 use Rattle.header_boxes.specs.Cells.{IsAligned}
 use Rattle.header_boxes.specs.declared.boxes.Box5.{Box5}
@@ -27,6 +26,7 @@ use Rattle.vpc_base.specs.Header.{reply_of}
 use Rattle.vpc_base.specs.declared.headers.Header.{Header}
 use Rattle.vpc_base.specs.declared.headers.Label.TheVariants as labels
 use Rattle.vpc_laws.specs.Types.{Description, End, Hop, Label, Outcome, Phase, Place, Stop, Verdict}
+use Rattle.vpc_laws.proofs.Telling.{start-sound}
 use Rattle.vpc_model.specs.Appliances.{Appliances}
 use Rattle.vpc_model.specs.Connections.{Connection, is_header}
 use Rattle.vpc_model.specs.Cuts.{cuts_at, standing_cuts}
@@ -40,7 +40,6 @@ use Rattle.vpc_model.specs.Verdict.{hops_after, hops_of_reply, reply_hops, reply
 use Rattle.vpc_model.specs.Walk.{Walk, walk_of}
 use Rattle.vpc_model.specs.declared.outcomes.Phase.TheVariants as phases
 use Rattle.vpc_model.specs.declared.outcomes.Verdict.TheVariants as verdicts
-use Rattle.vpc_model.specs.declared.places.End.TheVariants as ends
 use Rattle.vpc_model.specs.declared.stops.Stop.TheVariants as stops
 use Rattle.box_walk.proofs.Rests.{start_among}
 use Rattle.box_walk.specs.Asking.{stop_of}
@@ -72,10 +71,6 @@ tells_after d appliances label enough rest_enough word rest_word old mid new end
   body = body_through new.header.part mid.header.part old.header.part k.body w.body;
   aligned = λ cuts e. aligned_through cuts new.header.part mid.header.part old.header.part (k.aligned cuts (more cuts e).1) (w.aligned cuts (more cuts e).0);
 }
-
--- the low corner lies in a body
-pub low_in_body : (body part : Box5) → IsBody body part → holds (low_of part) body ≡ true
-low_in_body body part b = subst (λ (g : Header). holds g body ≡ true) b.low (holds_low body (valid_if_within body part b.within))
 
 -- ---- cuts
 
@@ -165,10 +160,6 @@ no_reply d appliances start goal end old new x there k over is =
       aligned = λ cuts e. k.aligned cuts (addresses_divided d cuts e.standing);
     })
 
-same_moment : (p q : Place) (a b : Header) (c e : List Connection) (t u : List Translation) → p ≡ q → a ≡ b → c ≡ e → t ≡ u
-    → (let m : Moment = record { place = p; header = a; conns = c; nats = t } in m) ≡ record { place = q; header = b; conns = e; nats = u }
-same_moment p q a b c e t u is_p is_a is_c is_t = cc
-
 -- the moment of the replies, by that of the requests
 pub record IsReplyOf (goal : End) (x : Part (Option Image)) (answer : Image) (old mid : BoxMoment) : Type 0 where
   pub told : x.told ≡ Some answer
@@ -190,10 +181,6 @@ is_reply addresses goal old mid x answer place k narrowed is at = record {
   conns = λ h. ap (connections_at h) narrowed.conns ∙ connections_at-over h x.body old.conns.items;
   nats = λ h. ap (translations_at h) narrowed.nats ∙ translations_at-over h x.body old.nats.items;
 }
-
-pub start-sound : (d : Description) (end : End) → is_end d end ≡ true → is_sound d (start_of end) ≡ true
-start-sound d (ends.Interface i) e = e
-start-sound d ends.Internet e = refl
 
 -- of requests at a described start, of which nothing is remembered
 pub request_moment : (d : Description) (start : End) (m : BoxMoment) → is_end d start ≡ true → m.place ≡ start_of start
@@ -262,7 +249,7 @@ replied d appliances start goal end old mid new x answer told there k r rest = r
 
     moment_of_reply : (h : Header) → moment_at h mid ≡ record { place = start_of goal; header = header_at answer h; conns = connections_at h old.conns.items; nats = translations_at h old.nats.items }
     moment_of_reply h =
-        same_moment mid.place (start_of goal) (header_at mid.header h) (header_at answer h) _ _ _ _ r.place (ap (λ (i : Image). header_at i h) r.header) (r.conns h) (r.nats h)
+        moments-same mid.place (start_of goal) (header_at mid.header h) (header_at answer h) _ _ _ _ r.place (ap (λ (i : Image). header_at i h) r.header) (r.conns h) (r.nats h)
 
 -- ---- requests
 

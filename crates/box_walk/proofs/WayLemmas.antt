@@ -1,5 +1,5 @@
 -- What is asked of requests that have come to the goal's interface is asked of their whole walks.
-use Rattle.std.proofs.Common.{◌≡◌, ◌∙◌, ◌-◌, ◌++◌, ◌+◌, ◌<◌, ◌≤◌, ◌∷◌, [], List, None, Option, Some, ap, arith, false, length, refl, subst, sym, true, ℕ}
+use Rattle.std.proofs.Common.{◌≡◌, ◌∙◌, ◌-◌, ◌++◌, ◌+◌, ◌<◌, ◌≤◌, ◌∷◌, [], List, None, Option, Some, add-zero, ap, arith, false, length, refl, subst, sym, true, ℕ}
 use Rattle.std.specs.Prelude.{IfSome}
 use Rattle.vpc_base.specs.Cuts.{AreAmong, CutLists}
 use Rattle.vpc_base.specs.declared.headers.Header.{Header}
@@ -131,13 +131,10 @@ same_fields : (a b c d e f g h i j : ℕ) → a ≡ f → b ≡ g → c ≡ h �
     → (let k : Header = record { proto = a; src = b; dst = c; p = d; q = e } in k) ≡ record { proto = f; src = g; dst = h; p = i; q = j }
 same_fields a b c d e f g h i j proto src dst p q = cc
 
-and_nothing : (n : ℕ) → n + 0 ≡ n
-and_nothing n = omega arith
-
 are_requests : (start : End) (b : Box5) → AreRequests start (requests_over start b)
 are_requests start b h =
     ap (request_at start)
-    (same_fields (h.proto + 0) (h.src + 0) (h.dst + 0) (h.p + 0) (h.q + 0) h.proto h.src h.dst h.p h.q (and_nothing h.proto) (and_nothing h.src) (and_nothing h.dst) (and_nothing h.p) (and_nothing h.q))
+    (same_fields (h.proto + 0) (h.src + 0) (h.dst + 0) (h.p + 0) (h.q + 0) h.proto h.src h.dst h.p h.q (add-zero h.proto) (add-zero h.src) (add-zero h.dst) (add-zero h.p) (add-zero h.q))
 
 -- room stays where there was room
 pub room_kept : (b : Box5) (old new : BoxMoment) → IsNarrowed b old new → CanRemember labels.Opening old → CanRemember labels.Opening new

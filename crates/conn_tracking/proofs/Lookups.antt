@@ -6,8 +6,9 @@ use Rattle.std.specs.Ordering.{bool_cmp, is_eq, nat_cmp, ordering_then}
 use Rattle.std.specs.declared.cmp.Ordering.{Ordering}
 use Rattle.std.specs.declared.cmp.Ordering.TheVariants.{Equal, Greater, Less}
 use Rattle.std.proofs.lemmas.Bool.Decides.{nat_tests}
-use Rattle.std.proofs.lemmas.List.{take-append-drop, take-append-le}
-use Rattle.std.proofs.lemmas.List.Folds.{list_any-append, list_any_more}
+use Rattle.std.proofs.lemmas.List.{take-append-le}
+use Rattle.std.proofs.lemmas.List.Folds.{list_any_more}
+use Rattle.std.proofs.Math.Bool.{and_comm}
 use Rattle.vpc_base.specs.Dir.{opposite, same_dir}
 use Rattle.vpc_base.specs.Header.{reply_of}
 use Rattle.vpc_base.specs.declared.headers.Dir.TheVariants.{Inward, Outward}
@@ -15,19 +16,12 @@ use Rattle.vpc_model.specs.declared.numbers.EniNo.{EniNo}
 use Rattle.vpc_model.specs.Types.{Dir, Header}
 use Rattle.vpc_model.specs.Connections.{Connection, is_header, is_tracked, same_connection, same_header}
 use Rattle.vpc_base.specs.Header.{opening_of}
+use Rattle.vpc_base.proofs.Numbers.{eqb-comm}
+use Rattle.vpc_base.proofs.Tests.{list_any-agree, list_any-take-drop}
 use Rattle.conn_tracking.specs.Order.{dir_is_outward, order_by_ports, order_of_connections, order_of_connections_total, order_of_ports}
 use Rattle.conn_tracking.specs.Tracked.{AreFirst}
 
 -- ---- lists
-
--- a test of a list is the test of its first k items, or that of the rest
-pub list_any-take-drop : {X : Type 0} (p : X → Bool) (k : ℕ) (xs : List X) → list_any p xs ≡ (list_any p (take k xs) || list_any p (drop k xs))
-list_any-take-drop p k xs = ap (list_any p) (sym (take-append-drop k xs)) ∙ list_any-append p (take k xs) (drop k xs)
-
--- tests that agree on each item agree on the list
-list_any-alike : {X : Type 0} (p q : X → Bool) → ((x : X) → p x ≡ q x) → (xs : List X) → list_any p xs ≡ list_any q xs
-list_any-alike p q alike [] = refl
-list_any-alike p q alike (x ∷ xs) = rw (alike x, list_any-alike p q alike xs)
 
 list_any-none : {X : Type 0} (p : X → Bool) → ((x : X) → p x ≡ false) → (xs : List X) → list_any p xs ≡ false
 list_any-none p none [] = refl
@@ -53,16 +47,10 @@ is_eq-dir Inward Outward = refl
 is_eq-dir Outward Inward = refl
 is_eq-dir Outward Outward = refl
 
-pub and-flip : (a b : Bool) → (a && b) ≡ (b && a)
-and-flip true true = refl
-and-flip true false = refl
-and-flip false true = refl
-and-flip false false = refl
-
 fields-turned : (p q dst src proto : Bool) → ((((p && q) && dst) && src) && proto) ≡ (proto && (src && (dst && (p && q))))
 fields-turned p q dst src proto =
-    and-flip (((p && q) && dst) && src) proto
-    ∙ ap (λ (b : Bool). proto && b) (and-flip ((p && q) && dst) src ∙ ap (λ (b : Bool). src && b) (and-flip (p && q) dst))
+    and_comm (((p && q) && dst) && src) proto
+    ∙ ap (λ (b : Bool). proto && b) (and_comm ((p && q) && dst) src ∙ ap (λ (b : Bool). src && b) (and_comm (p && q) dst))
 
 -- the order tells headers apart
 pub order_by_ports_is_same : (a b : Header) → is_eq (order_by_ports a b) ≡ same_header a b
@@ -105,7 +93,7 @@ same_connection-flip a b = sym (order_is_same a b) ∙ (eq_by_cmp_equiv order_of
 
 -- a search in order finds what is the same
 search_is_any : (c : Connection) (known : List Connection) → list_any (λ k. is_eq (order_of_connections c k)) known ≡ list_any (same_connection c) known
-search_is_any c known = list_any-alike (λ k. is_eq (order_of_connections c k)) (same_connection c) (order_is_same c) known
+search_is_any c known = list_any-agree (λ k. is_eq (order_of_connections c k)) (same_connection c) (order_is_same c) known
 
 -- ---- the first ones in order, and the rest
 
@@ -159,10 +147,7 @@ first_of_longer known count conns c first = record {
 pub answers_open : (c h : Header) → is_header h (reply_of c) ≡ is_header c (opening_of h)
 answers_open c h = grind (arith, nat_tests)
 
-number-flip : (a b : ℕ) → (a == b) ≡ (b == a)
-number-flip a b = grind (arith, nat_tests)
-
-same_dir-flip : (a b : Dir) → same_dir a b ≡ same_dir b a
+pub same_dir-flip : (a b : Dir) → same_dir a b ≡ same_dir b a
 same_dir-flip Inward Inward = refl
 same_dir-flip Inward Outward = refl
 same_dir-flip Outward Inward = refl
@@ -171,11 +156,11 @@ same_dir-flip Outward Outward = refl
 -- a header is tracked where its open passed the other way
 pub tracked_by_open : (conns : List Connection) (i : EniNo) (d : Dir) (h k : Header) → opening_of h ≡ Some k
     → list_any (same_connection (record { eni = i; dir = opposite d; header = k })) conns ≡ is_tracked conns i d h
-tracked_by_open conns i d h k e = list_any-alike _ _ one conns
+tracked_by_open conns i d h k e = list_any-agree _ _ one conns
   where
     one : (c : Connection) → same_connection (record { eni = i; dir = opposite d; header = k }) c ≡ ((c.eni.0 == i.0) && (same_dir c.dir (opposite d) && is_header h (reply_of c.header)))
     one c =
-        let eni = number-flip i.0 c.eni.0 in
+        let eni = eqb-comm i.0 c.eni.0 in
         let dir = same_dir-flip (opposite d) c.dir in
         let header = answers_open c.header h ∙ ap (is_header c.header) e in
         rw (eni, dir, header) refl

@@ -1,10 +1,10 @@
 -- The cuts that replies and their comparison need.
-use Rattle.std.proofs.Common.{◌≡◌, ◌≤◌, ◌+◌, ◌++◌, ◌∷◌, [], ℕ, suc, zero, Bool, List, true, false, arith, ap, cond, filter, flat_map, nat_le, refl, subst, sym, ◌∙◌, ⊎_elim}
+use Rattle.std.proofs.Common.{◌≡◌, ◌≤◌, ◌+◌, ◌++◌, ◌∷◌, [], ℕ, suc, zero, List, arith, ap, flat_map, nat_le, refl, subst, sym, ◌∙◌, ⊎_elim}
 use Rattle.std.specs.List.{Contains}
 use Rattle.std.proofs.lemmas.Bool.{le-leb}
 use Rattle.std.proofs.lemmas.List.Elements.{All-append, All-cons, All-nil, Contains-append_left, Contains-append_right}
+use Rattle.vpc_base.proofs.Members.{Contains-filter}
 use Rattle.vpc_base.specs.Cuts.{CutLists}
-use Rattle.header_boxes.specs.Boxes.{in_range}
 use Rattle.header_boxes.specs.declared.boxes.Box5.{Box5}
 use Rattle.vpc_model.specs.Cuts.{address_cuts, fixed_cuts}
 use Rattle.box_images.specs.Bodies.{AreCutInside, IsCutInside, cuts_on, meeting_edges, range_edges, reply_edges, same_edges}
@@ -15,23 +15,10 @@ use Rattle.box_images.specs.declared.fields.Field.TheVariants.{Fixed, Of}
 use Rattle.box_images.specs.declared.fields.Side.{Side}
 use Rattle.box_images.specs.declared.fields.Side.TheVariants.{Proto, Src, Dst, P, Q}
 use Rattle.box_images.specs.declared.images.Image.{Image}
+use Rattle.box_images.proofs.LawLemmas.{no_two_kinds, port_reads}
 use Rattle.cut_laws.specs.Dividing.{DivideAddresses}
 
 -- ---- the cuts around addresses
-
-kept-head : (b : Bool) (x c : ℕ) (xs : List ℕ) → b ≡ true → x ≡ c → Contains (cond b (x ∷ xs) xs) c
-kept-head true x c xs e f = (0, omega arith, f)
-kept-head false x c xs e f = absurd cc
-
-kept-tail : (b : Bool) (x c : ℕ) (xs : List ℕ) → Contains xs c → Contains (cond b (x ∷ xs) xs) c
-kept-tail true x c xs (k, below, e) = (suc k, omega arith, e)
-kept-tail false x c xs h = h
-
--- what passes the test is kept
-Contains-kept : (p : ℕ → Bool) (xs : List ℕ) (c : ℕ) → p c ≡ true → Contains xs c → Contains (filter p xs) c
-Contains-kept p [] c passes h = h
-Contains-kept p (x ∷ xs) c passes (zero, below, e) = kept-head (p x) x c (filter p xs) (ap p e ∙ passes) e
-Contains-kept p (x ∷ xs) c passes (suc k, below, e) = kept-tail (p x) x c (filter p xs) (Contains-kept p xs c passes (k, omega arith, e))
 
 Contains-cuts : (addresses : List ℕ) (a c : ℕ) → Contains addresses a → Contains (address_cuts a) c → Contains (flat_map address_cuts addresses) c
 Contains-cuts [] a c (k, below, e) m = absurd (omega arith)
@@ -44,8 +31,8 @@ Contains-cuts (b ∷ addresses) a c (suc k, below, e) m =
 address_cut : (addresses : List ℕ) (cuts : CutLists) (a c : ℕ) → DivideAddresses addresses cuts → Contains addresses a → Contains (address_cuts a) c
     → c ≤ 4294967295 → Contains cuts.addr c
 address_cut addresses cuts a c d listed around le =
-    d.addr c (Contains-kept (λ (x : ℕ). nat_le x 4294967295) (fixed_cuts.addr ++ flat_map address_cuts addresses) c (le-leb c 4294967295 le)
-    (Contains-append_right fixed_cuts.addr (flat_map address_cuts addresses) c (Contains-cuts addresses a c listed around)))
+    d.addr c (Contains-filter (λ (x : ℕ). nat_le x 4294967295) (fixed_cuts.addr ++ flat_map address_cuts addresses) c
+    (Contains-append_right fixed_cuts.addr (flat_map address_cuts addresses) c (Contains-cuts addresses a c listed around)) (le-leb c 4294967295 le))
 
 -- ---- edges at cuts
 
@@ -115,9 +102,6 @@ constants_inside cuts part f g m n k l =
     subst (λ (u : Field). AreCutInside cuts part (meeting_edges u g)) (sym k)
     (subst (λ (v : Field). AreCutInside cuts part (meeting_edges (Fixed m) v)) (sym l) (nothing_inside cuts part))
 
-port_reads : (s : Side) (f : Field) → IsPort s f → (add : ℕ) × (f ≡ Of s add)
-port_reads s f k = ⊎_elim (λ e. (0, e)) (λ e. (1024, e)) k
-
 ports_inside : (cuts : CutLists) (part : Box5) (s : Side) (f g : Field) → IsPort s f → IsPort s g → AreCutInside cuts part (meeting_edges f g)
 ports_inside cuts part s f g k l = reads_inside cuts part s f g (port_reads s f k) (port_reads s g l)
 
@@ -165,11 +149,6 @@ returns_inside addresses cuts i j fit a b d =
     (addresses_inside addresses cuts i.part Src i.dst j.dst refl a.dst b.dst fit.dst fit.other_dst d)
     (reads_inside cuts i.part Q i.p j.p (0, a.p) (0, b.p))
     (ports_inside cuts i.part P i.q j.q a.q b.q)
-
--- one part isn't ICMP alone and without ICMP
-no_two_kinds : (part other : Box5) → part ≡ other → part.proto ≡ (1, 1) → in_range other.proto 1 ≡ false → ⊥
-no_two_kinds part other e k l =
-    let m : in_range (1, 1) 1 ≡ false = subst (λ (r : ℕ × ℕ). in_range r 1 ≡ false) (sym (ap (λ (b : Box5). b.proto) e) ∙ k) l in cc
 
 pub same_inside : (addresses : List ℕ) (cuts : CutLists) (i j : Image) → IsValidImage i → IsValidImage j → j.part ≡ i.part
     → IsImageOfAnswer addresses i → IsImageOfAnswer addresses j → DivideAddresses addresses cuts → AreCutInside cuts i.part (same_edges i j)

@@ -1,10 +1,13 @@
 -- Connections on images, asked one after the other.
-use Rattle.std.proofs.Common.{◌≡◌, ◌<◌, ◌+◌, ◌==◌, ◌&&◌, ◌||◌, Bool, List, [], ◌∷◌, true, false, ap, drop, get_or, length, map, refl, subst, sym, take, ◌∙◌, ℕ}
+use Rattle.std.proofs.Common.{◌≡◌, ◌<◌, ◌+◌, ◌==◌, ◌&&◌, ◌||◌, Bool, List, true, false, ap, drop, get_or, length, refl, subst, sym, take, ◌∙◌, ℕ}
 use Rattle.std.specs.List.{list_any}
 use Rattle.std.proofs.lemmas.List.Folds.{list_any_more}
+use Rattle.std.proofs.lemmas.Bool.{or_right}
 use Rattle.vpc_base.specs.Dir.{opposite, same_dir}
 use Rattle.vpc_base.specs.Header.{reply_of}
 use Rattle.vpc_base.specs.declared.headers.Header.{Header}
+use Rattle.vpc_base.proofs.Bools.{and-fails_early}
+use Rattle.vpc_base.proofs.Tests.{list_any-map, list_any-take-drop}
 use Rattle.header_boxes.specs.declared.boxes.Box5.{Box5}
 use Rattle.header_boxes.proofs.CellNumbers.{aligned_to_itself}
 use Rattle.header_boxes.proofs.Held.{holds_whole}
@@ -19,13 +22,8 @@ use Rattle.vpc_model.specs.Types.{Dir}
 use Rattle.vpc_model.specs.declared.numbers.EniNo.{EniNo}
 use Rattle.conn_tracking.specs.OnImages.{TellsReply, TellsTracked, connection_at, connections_at}
 use Rattle.conn_tracking.specs.declared.on_images.ImageEntry.{ImageEntry}
-use Rattle.conn_tracking.proofs.Lookups.{list_any-take-drop}
 
 -- ---- one more entry
-
-list_any-map : {X Y : Type 0} (p : Y → Bool) (f : X → Y) (xs : List X) → list_any p (map f xs) ≡ list_any (λ x. p (f x)) xs
-list_any-map p f [] = refl
-list_any-map p f (x ∷ xs) = ap (λ b. p (f x) || b) (list_any-map p f xs)
 
 -- the header answers this connection
 abbrev answers : EniNo → Dir → Header → Connection → Bool
@@ -59,18 +57,9 @@ reply-of-entry true true c e = refl
 reply-of-entry true false c e = absurd cc
 reply-of-entry false b c e = absurd cc
 
-nothing-of-entry : (a b c : Bool) → (a && b) ≡ false → (a && (b && c)) ≡ false
-nothing-of-entry true true c e = absurd cc
-nothing-of-entry true false c e = refl
-nothing-of-entry false b c e = refl
-
 or-false : (a b : Bool) → b ≡ false → a ≡ (a || b)
 or-false true b e = refl
 or-false false b e = sym e
-
-or-true : (a b : Bool) → b ≡ true → (a || b) ≡ true
-or-true true b e = refl
-or-true false b e = e
 
 -- ---- what is told
 
@@ -91,7 +80,7 @@ pub tells_after_other : (addresses : List ℕ) (entries : List ImageEntry) (k : 
 tells_after_other addresses entries k d e eni dir i body below at other before = record {
   told = λ h t.
       let g = header_at i h in
-      let nothing = nothing-of-entry (e.eni.0 == eni.0) (same_dir e.dir (opposite dir)) (is_header g (reply_of (header_at e.header h))) other in
+      let nothing = and-fails_early (e.eni.0 == eni.0) (same_dir e.dir (opposite dir)) (is_header g (reply_of (header_at e.header h))) other in
       before.told h t ∙ or-false _ (answers eni dir g (connection_at h e)) nothing ∙ sym (is_tracked-more entries k d e eni dir h g below at);
   body = before.body;
   aligned = before.aligned;
@@ -130,7 +119,7 @@ tells_of_yes addresses entries k d e eni dir i body x below at of before reply i
           let g = header_at i h in
           let one = reply-of-entry (e.eni.0 == eni.0) (same_dir e.dir (opposite dir)) (is_header g (reply_of (header_at e.header h))) of in
           is ∙ sym (is_tracked-all entries (k + 1) eni dir h g
-          (is_tracked-more entries k d e eni dir h g below at ∙ or-true _ (answers eni dir g (connection_at h e)) (one ∙ sym (reply.told h t) ∙ is)));
+          (is_tracked-more entries k d e eni dir h g below at ∙ or_right _ (answers eni dir g (connection_at h e)) (one ∙ sym (reply.told h t) ∙ is)));
       body = reply.body;
       aligned = reply.aligned;
     })

@@ -4,6 +4,7 @@ use Rattle.std.specs.List.{Contains, filter}
 use Rattle.std.specs.Prelude.{nat_le}
 use Rattle.std.proofs.lemmas.List.Elements.{Contains-append_left, Contains-append_right, Contains-append_cases}
 use Rattle.vpc_base.specs.Cuts.{AreAmong, CutLists, joined_cuts, no_cuts}
+use Rattle.vpc_base.proofs.Members.{Contains-filter}
 use Rattle.vpc_model.specs.Cuts.{all_cuts, on_sides}
 
 -- each number of the first is one of the second
@@ -22,24 +23,10 @@ right_within a b c h = Contains-append_right a b c h
 pub both_within : (a b d : List ℕ) → Within a d → Within b d → Within (a ++ b) d
 both_within a b d first second c h = elim (Contains-append_cases a b c h) [ inl x ↦ first c x | inr y ↦ second c y ]
 
--- what a test keeps
-rest_kept : (b : Bool) (x c : ℕ) (xs : List ℕ) → Contains xs c → Contains (cond b (x ∷ xs) xs) c
-rest_kept true x c xs h = Contains-append_right (x ∷ []) xs c h
-rest_kept false x c xs h = h
-
-first_kept : (b : Bool) (x c : ℕ) (xs : List ℕ) → b ≡ true → x ≡ c → Contains (cond b (x ∷ xs) xs) c
-first_kept true x c xs t e = (0, omega arith, e)
-first_kept false x c xs t e = absurd (cc)
-
 from_kept : (b : Bool) (x c : ℕ) (xs : List ℕ) → Contains (cond b (x ∷ xs) xs) c → Contains xs c ⊎ ((x ≡ c) × (b ≡ true))
 from_kept true x c xs (zero, below, e) = inr (e, refl)
 from_kept true x c xs (suc k, below, e) = inl (k, omega arith, e)
 from_kept false x c xs h = inl h
-
-pub filter_in : (p : ℕ → Bool) (xs : List ℕ) (c : ℕ) → p c ≡ true → Contains xs c → Contains (filter p xs) c
-filter_in p [] c passes h = h
-filter_in p (x ∷ xs) c passes (zero, below, e) = first_kept (p x) x c (filter p xs) (ap p e ∙ passes) e
-filter_in p (x ∷ xs) c passes (suc k, below, e) = rest_kept (p x) x c (filter p xs) (filter_in p xs c passes (k, omega arith, e))
 
 in_filter : (p : ℕ → Bool) (xs : List ℕ) (c : ℕ) → Contains (filter p xs) c → Contains xs c × (p c ≡ true)
 in_filter p [] c (k, below, e) = absurd (omega arith)
@@ -49,7 +36,7 @@ in_filter p (x ∷ xs) c h = elim (from_kept (p x) x c (filter p xs) h) [
 ]
 
 filter_within : (p : ℕ → Bool) (a b : List ℕ) → Within a b → Within (filter p a) (filter p b)
-filter_within p a b within c h = let k = in_filter p a c h in filter_in p b c k.1 (within c k.0)
+filter_within p a b within c h = let k = in_filter p a c h in Contains-filter p b c (within c k.0) k.1
 
 -- ---- all four sides
 

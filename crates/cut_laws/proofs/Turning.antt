@@ -6,9 +6,9 @@ use Rattle.std.proofs.lemmas.Bool.{cases_Bool}
 use Rattle.std.proofs.lemmas.Bool.Decides.{nat_tests}
 use Rattle.std.proofs.lemmas.List.Elements.{Contains-append_left, Contains-append_right}
 use Rattle.vpc_base.specs.Cuts.{CutLists}
+use Rattle.vpc_base.proofs.Members.{Contains-filter}
 use Rattle.prefix_text.specs.Block.{Block, holds, last_of}
 use Rattle.vpc_model.specs.Cuts.{block_cuts}
-use Rattle.cut_laws.proofs.Among.{filter_in}
 use Rattle.cut_laws.specs.Dividing.{Divide, DivideTurns}
 
 -- a range that has a + 1 and not a begins there
@@ -56,7 +56,7 @@ block-turns blocks a turn = elim (cases_Bool (list_any (holds a) blocks)) [
 pub blocks-divide : (blocks : List Block) (few cuts : CutLists) → few.addr ≡ flat_map block_cuts blocks → Divide few cuts → DivideTurns (λ a. list_any (holds a) blocks) cuts
 blocks-divide blocks few cuts is divide a fits turn =
     divide.addr (a + 1)
-    (filter_in (λ x. nat_le x 4294967295) few.addr (a + 1) (within (a + 1) (omega arith)) (subst (λ cs. Contains cs (a + 1)) (sym is) (block-turns blocks a turn)))
+    (Contains-filter (λ x. nat_le x 4294967295) few.addr (a + 1) (subst (λ cs. Contains cs (a + 1)) (sym is) (block-turns blocks a turn)) (within (a + 1) (omega arith)))
   where
     within : (x : ℕ) → x ≤ 4294967295 → nat_le x 4294967295 ≡ true
     within x le = grind (arith, nat_tests)

@@ -1,11 +1,13 @@
 -- The cells that cuts make of a box are told by the cuts that divide its sides.
-use Rattle.std.proofs.Common.{◌≡◌, ◌*◌, ◌+◌, ◌||◌, ℕ, Bool, true, false, List, refl, ap, sym, subst, ◌∙◌, length}
+use Rattle.std.proofs.Common.{◌≡◌, ◌*◌, ◌+◌, ◌||◌, ℕ, Bool, true, List, ap, sym, subst, ◌∙◌, length}
 use Rattle.std.specs.List.{Contains, filter}
 use Rattle.std.specs.List.Sorted.{IsStrictlyIncreasing}
 use Rattle.std.proofs.lemmas.List.Kept.{IsStrictlyIncreasing-filter}
 use Rattle.std.proofs.lemmas.List.Sums.{length-filter}
+use Rattle.std.proofs.lemmas.Bool.{or_left, or_right}
 use Rattle.vpc_base.specs.Cuts.{AreAmong, CutLists}
-use Rattle.cut_laws.proofs.Among.{Within, among_itself, among_through, filter_in}
+use Rattle.vpc_base.proofs.Members.{Contains-filter}
+use Rattle.cut_laws.proofs.Among.{Within, among_itself, among_through}
 use Rattle.header_boxes.specs.Cells.{AreAscending, cells_of, pieces_of}
 use Rattle.vpc_model.specs.Cuts.{cuts_of, on_sides}
 use Rattle.vpc_model.specs.Report.{IsCellCount}
@@ -35,15 +37,7 @@ pieces_of-kept : (r : ℕ × ℕ) (keep : ℕ → Bool) (all few : List ℕ) →
 pieces_of-kept r keep all few kept up no_others has =
     pieces_of-same r few (increasing all) up (increasing-increases all)
     (λ c passes h. increasing-all all c (from_filter keep all c (no_others c h)))
-    (λ c passes h. has c (filter_in keep all c (kept c passes) (increasing-no_others all c h)))
-
-first_passes : (a b : Bool) → a ≡ true → (a || b) ≡ true
-first_passes true b e = refl
-first_passes false b e = cc
-
-second_passes : (a b : Bool) → b ≡ true → (a || b) ≡ true
-second_passes true b e = refl
-second_passes false b e = e
+    (λ c passes h. has c (Contains-filter keep all c (increasing-no_others all c h) (kept c passes)))
 
 -- ---- a box
 
@@ -61,8 +55,8 @@ cells_of-dividing all few b up has =
     (pieces_of few.proto b.proto) (pieces_of few.addr b.src) (pieces_of few.addr b.dst) (pieces_of few.p b.p) (pieces_of few.q b.q)
     (pieces_of (increasing all.proto) b.proto) (pieces_of (increasing all.addr) b.src) (pieces_of (increasing all.addr) b.dst) (pieces_of (increasing all.p) b.p) (pieces_of (increasing all.q) b.q)
     (pieces_of-kept b.proto (divides b.proto) all.proto few.proto (λ c e. e) up.proto has.no_others.proto has.all.proto)
-    (pieces_of-kept b.src either all.addr few.addr (λ c e. first_passes (divides b.src c) (divides b.dst c) e) up.addr has.no_others.addr has.all.addr)
-    (pieces_of-kept b.dst either all.addr few.addr (λ c e. second_passes (divides b.src c) (divides b.dst c) e) up.addr has.no_others.addr has.all.addr)
+    (pieces_of-kept b.src either all.addr few.addr (λ c e. or_left (divides b.src c) (divides b.dst c) e) up.addr has.no_others.addr has.all.addr)
+    (pieces_of-kept b.dst either all.addr few.addr (λ c e. or_right (divides b.src c) (divides b.dst c) e) up.addr has.no_others.addr has.all.addr)
     (pieces_of-kept b.p (divides b.p) all.p few.p (λ c e. e) up.p has.no_others.p has.all.p)
     (pieces_of-kept b.q (divides b.q) all.q few.q (λ c e. e) up.q has.no_others.q has.all.q)
 

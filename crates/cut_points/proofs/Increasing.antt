@@ -1,5 +1,5 @@
 -- Strictly increasing lists.
-use Rattle.std.proofs.Common.{◌+◌, ◌≡◌, ◌<◌, ℕ, Bool, true, false, List, [], ◌∷◌, refl, arith, sym, zero, suc}
+use Rattle.std.proofs.Common.{◌+◌, ◌≡◌, ◌<◌, ℕ, Bool, true, List, [], ◌∷◌, arith, zero, suc}
 use Rattle.std.specs.BTreeSet.{BTreeSet, contains}
 use Rattle.std.specs.List.{Contains, filter, list_any, range_with_len}
 use Rattle.std.specs.List.Sorted.{IsStrictlyIncreasing}
@@ -12,7 +12,9 @@ use Rattle.std.proofs.lemmas.List.Kept.{IsStrictlyIncreasing-filter}
 use Rattle.std.proofs.lemmas.Map.Keys.{sorted_from_strictly_increasing}
 use Rattle.std.proofs.lemmas.Map.Lookups.{btree_set_from_contains, exact_unsigned}
 use Rattle.std.proofs.lemmas.Map.Views.{Contains-from_any, btree_set_contains_iff, exact_unsigned_eq, list_any-from_Contains}
-use Rattle.cut_laws.proofs.Among.{Within, filter_in}
+use Rattle.std.specs.Cmp.Derive.{one_truth}
+use Rattle.vpc_base.proofs.Members.{Contains-filter}
+use Rattle.cut_laws.proofs.Among.{Within}
 
 -- what a test keeps stands in the list
 pub from_filter : (p : ℕ → Bool) (xs : List ℕ) → Within (filter p xs) xs
@@ -22,14 +24,9 @@ from_filter p xs c h = All-contains (Contains xs) (filter p xs) c (All-filter p 
 pub kept_within : (p : ℕ → Bool) (xs ys : List ℕ) → ((c : ℕ) → p c ≡ true → Contains xs c → Contains ys c) → Within (filter p xs) (filter p ys)
 kept_within p xs ys there c h =
     let passes = All-contains (λ n. p n ≡ true) (filter p xs) c (filter_passes p xs) h in
-    filter_in p ys c passes (there c passes (from_filter p xs c h))
+    Contains-filter p ys c (there c passes (from_filter p xs c h)) passes
 
 -- ---- increasing lists with the same members are the same
-
-same_test : (a b : Bool) → (a ≡ true → b ≡ true) → (b ≡ true → a ≡ true) → a ≡ b
-same_test true b there back = sym (there refl)
-same_test false true there back = back refl
-same_test false false there back = refl
 
 -- the list as a set of std, whose keys ascend
 abbrev set_of : List ℕ → BTreeSet ℕ
@@ -42,7 +39,7 @@ same_list xs ys up_x up_y there back =
     btree_set_from_contains nat_cmp_total (set_of xs) (set_of ys)
     (sorted_from_strictly_increasing xs up_x)
     (sorted_from_strictly_increasing ys up_y)
-    (λ c. same_test (contains nat_cmp (set_of xs) c) (contains nat_cmp (set_of ys) c)
+    (λ c. one_truth (contains nat_cmp (set_of xs) c) (contains nat_cmp (set_of ys) c)
     (λ t. (has_y c).1 (there c ((has_x c).0 t)))
     (λ t. (has_x c).1 (back c ((has_y c).0 t))))
     exact_unsigned
@@ -86,6 +83,6 @@ increasing-no_others xs c h =
 pub increasing-all : (xs : List ℕ) → Within xs (increasing xs)
 unfolding increasing
 increasing-all xs c h =
-    filter_in (λ c. list_any (nat_eq c) xs) (range_with_len 0 (above xs)) c
-    (list_any-from_Contains nat_eq_equiv c xs h)
+    Contains-filter (λ c. list_any (nat_eq c) xs) (range_with_len 0 (above xs)) c
     (in_range (above xs) c (above-is xs c h))
+    (list_any-from_Contains nat_eq_equiv c xs h)

@@ -1,24 +1,24 @@
 -- The interfaces that belong to no gateway, and their order.
-use Rattle.std.proofs.Common.{◌≡◌, ◌∙◌, ◌+◌, ◌++◌, ◌<◌, ◌^◌, ◌∷◌, [], Bool, List, bytes_eq, ap, append-nil, arith, cond, false, filter, get_or, is_lt, length, map, refl, subst, sym, true, ℕ}
+use Rattle.std.proofs.Common.{◌≡◌, ◌∙◌, ◌+◌, ◌++◌, ◌<◌, ◌^◌, ◌∷◌, [], Bool, List, bytes_eq, ap, append-nil, arith, cond, false, filter, get_or, is_lt, length, map, subst, sym, true, ℕ, All}
 use Rattle.std.specs.Cmp.Lexicographic.{slice_cmp}
 use Rattle.std.specs.List.{AllPairs, IsDistinct, range_with_len}
 use Rattle.std.specs.List.Sorted.{IsPermutation, IsSortedByKey}
-use Rattle.std.specs.Ordering.{is_eq, nat_cmp, ordering_reverse}
-use Rattle.std.specs.declared.cmp.Ordering.{Ordering}
-use Rattle.std.specs.declared.cmp.Ordering.TheVariants.{Equal, Greater, Less}
+use Rattle.std.specs.Ordering.{nat_cmp}
 use Rattle.std.proofs.lemmas.Bool.{false_from_ne_true, lt-ltb}
 use Rattle.std.proofs.lemmas.Cmp.{nat_list_cmp_total, nat_list_eq_equiv}
 use Rattle.std.proofs.lemmas.List.{get_or_default}
+use Rattle.std.proofs.lemmas.List.Elements.{All-filter}
 use Rattle.std.proofs.lemmas.List.FromFn.{filter_of_map_range_with_len_more, get_or-map-range_with_len, length-map-range_with_len}
 use Rattle.std.proofs.lemmas.List.Kept.{AllPairs-filter}
-use Rattle.std.proofs.lemmas.List.Sorted.{ranks_by, sorted_far}
+use Rattle.std.proofs.lemmas.List.Sorted.{All-permutation, ranks_by, sorted_far}
 use Rattle.std.proofs.lemmas.Map.Keys.{IsDistinct-IsPermutation, IsDistinct-from_apart, apart_from_distinct}
-use Rattle.std.proofs.lemmas.Map.Text.{is_eq-slice_cmp}
+use Rattle.vpc_base.proofs.Bytes.{comes-before, same_bytes}
 use Rattle.vpc_laws.proofs.Lengths.{accepted_has_short_lists}
-use Rattle.vpc_laws.proofs.Numbering.{accepted_numbers_are_own, same_bytes}
+use Rattle.vpc_laws.proofs.Numbering.{accepted_numbers_are_own}
 use Rattle.vpc_laws.specs.Types.{Description, EniNo, Interface}
 use Rattle.vpc_model.specs.Accepted.{IsAccepted}
 use Rattle.vpc_model.specs.Lookup.{eni_no, interface_at, no_interface}
+use Rattle.vpc_model.specs.Sound.{is_eni}
 use Rattle.described_hosts.specs.Hosts.{AreHostsById, ComesBefore, hosts_of, id_of, is_host, numbered}
 
 -- ---- in the order of the description
@@ -43,6 +43,13 @@ few_interfaces d k accepted within =
     let lists = accepted_has_short_lists d accepted in
     let short = lists.interfaces in
     omega arith
+
+pub numbers_are_described : (d : Description) → All (λ i. is_eni d i ≡ true) (map numbered (range_with_len 0 (length d.interfaces)))
+numbers_are_described d k x below =
+    let n = length d.interfaces in
+    let long = length-map-range_with_len numbered 0 n in
+    let within : k < n = omega (arith, long, below) in
+    subst (λ (i : EniNo). is_eni d i ≡ true) (sym (get_or-map-range_with_len numbered 0 n k k x within (omega arith))) (lt-ltb k n within)
 
 -- ---- in the order of their ids
 
@@ -75,15 +82,6 @@ hosts_apart d accepted =
     IsDistinct-from_apart (same_id d) (hosts_of d)
     (AllPairs-filter (λ i j. same_id d i j ≡ false) (λ (i : EniNo). is_host (interface_at d i)) (map numbered (range_with_len 0 (length d.interfaces))) (rows_apart d accepted))
 
-is-less : (o : Ordering) → is_eq o ≡ false → is_lt (ordering_reverse o) ≡ false → o ≡ Less
-is-less Less e l = refl
-is-less Equal e l = absurd cc
-is-less Greater e l = absurd cc
-
-comes-before : (a b : List ℕ) → bytes_eq a b ≡ false → is_lt (slice_cmp nat_cmp b a) ≡ false → slice_cmp nat_cmp a b ≡ Less
-comes-before a b apart up =
-    is-less (slice_cmp nat_cmp a b) (is_eq-slice_cmp a b ∙ apart) (ap is_lt (sym (nat_list_cmp_total.antisymm b a)) ∙ up)
-
 ascend : (d : Description) (hosts sorted : List EniNo) → IsDistinct (same_id d) hosts → IsPermutation hosts sorted → IsSortedByKey (id_of d) (slice_cmp nat_cmp) sorted → AllPairs (ComesBefore d) sorted
 ascend d hosts sorted distinct moved up i j x less within =
     let still = IsDistinct-IsPermutation (same_id d) (λ a b. nat_list_eq_equiv.symm (id_of d a) (id_of d b)) hosts sorted moved distinct in
@@ -96,3 +94,8 @@ pub hosts_by_id : (d : Description) (hosts sorted : List EniNo) → IsAccepted d
 hosts_by_id d hosts sorted accepted are moved up =
     let all = subst (λ (xs : List EniNo). IsPermutation xs sorted) are moved in
     record { all = all; ascending = ascend d (hosts_of d) sorted (hosts_apart d accepted) all up }
+
+pub hosts_are_described : (d : Description) (hosts : List EniNo) → AreHostsById d hosts → All (λ i. is_eni d i ≡ true) hosts
+hosts_are_described d hosts by_id =
+    All-permutation (λ i. is_eni d i ≡ true) (hosts_of d) hosts by_id.all
+    (All-filter (λ (i : EniNo). is_host (interface_at d i)) (λ i. is_eni d i ≡ true) (map numbered (range_with_len 0 (length d.interfaces))) (numbers_are_described d))

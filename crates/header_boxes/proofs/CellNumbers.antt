@@ -1,9 +1,11 @@
 -- The numbers of cells, and aligned boxes.
 use Rattle.std.proofs.Common.{◌≡◌, ℕ, ◌≤◌, ◌<◌, ◌+◌, ◌*◌, ◌&&◌, nat_le, nat_lt, true, false, List, refl, arith, ap, sym, subst, ◌∙◌, slice_index_or, inl, inr, ⊎_elim}
-use Rattle.std.proofs.Math.Nat.{mul-le-mul, mul_assoc}
+use Rattle.std.proofs.Math.Arith.{digits_lt}
+use Rattle.std.proofs.Math.Nat.{mul_assoc}
 use Rattle.std.proofs.lemmas.Bool.{cases_lt}
 use Rattle.std.proofs.lemmas.Bool.Decides.{nat_tests}
 use Rattle.std.proofs.lemmas.List.{get_or_default}
+use Rattle.std.proofs.lemmas.Nat.{same_from_place}
 use Rattle.std.specs.List.{Contains}
 use Rattle.vpc_base.specs.Cuts.{CutLists, AreAmong, IsSideAligned}
 use Rattle.vpc_base.specs.declared.headers.Header.{Header}
@@ -69,24 +71,6 @@ whole_piece cuts part whole x y within aligned inside around same =
 
 -- ---- numbers with digits
 
-digit_below : (a b m n : ℕ) → a < m → b < n → a * n + b < m * n
-digit_below a b m n ha hb =
-    let h : a + 1 ≤ m = omega arith in
-    let s : n ≤ n = omega arith in
-    let e : (a + 1) * n ≤ m * n = mul-le-mul h s in
-    omega (arith, e)
-
-digits_same : (a b c d n : ℕ) → b < n → d < n → a * n + b ≡ c * n + d → (a ≡ c) × (b ≡ d)
-digits_same a b c d n hb hd e =
-    let s : n ≤ n = omega arith in
-    ⊎_elim
-    (λ lt. let h : a + 1 ≤ c = omega arith in let k : (a + 1) * n ≤ c * n = mul-le-mul h s in absurd (omega (arith, k)))
-    (λ ge. ⊎_elim
-    (λ lt. let h : c + 1 ≤ a = omega arith in let k : (c + 1) * n ≤ a * n = mul-le-mul h s in absurd (omega (arith, k)))
-    (λ le. let f : a ≡ c = omega arith in let g : a * n ≡ c * n = ap (λ t. t * n) f in (f, omega (arith, g)))
-    (cases_lt c a))
-    (cases_lt a c)
-
 products_same : (a b c d e : ℕ) → (((a * b) * c) * d) * e ≡ a * (b * (c * (d * e)))
 products_same a b c d e =
     mul_assoc ((a * b) * c) d e ∙ mul_assoc (a * b) c (d * e) ∙ mul_assoc a b (c * (d * e))
@@ -98,10 +82,10 @@ pub cell_of-lt-cells_of : (cuts : CutLists) (b : Box5) (h : Header) → holds h 
 cell_of-lt-cells_of cuts b h t =
     let i = in_from_holds h b t in
     let k1 = piece_of-lt-pieces_of cuts.proto b.proto h.proto i.proto.1 in
-    let k2 = digit_below _ _ _ _ k1 (piece_of-lt-pieces_of cuts.addr b.src h.src i.src.1) in
-    let k3 = digit_below _ _ _ _ k2 (piece_of-lt-pieces_of cuts.addr b.dst h.dst i.dst.1) in
-    let k4 = digit_below _ _ _ _ k3 (piece_of-lt-pieces_of cuts.p b.p h.p i.p.1) in
-    let k5 = digit_below _ _ _ _ k4 (piece_of-lt-pieces_of cuts.q b.q h.q i.q.1) in
+    let k2 = digits_lt k1 (piece_of-lt-pieces_of cuts.addr b.src h.src i.src.1) in
+    let k3 = digits_lt k2 (piece_of-lt-pieces_of cuts.addr b.dst h.dst i.dst.1) in
+    let k4 = digits_lt k3 (piece_of-lt-pieces_of cuts.p b.p h.p i.p.1) in
+    let k5 = digits_lt k4 (piece_of-lt-pieces_of cuts.q b.q h.q i.q.1) in
     subst (λ (n : ℕ). cell_of cuts b h < n) (products_same (pieces_of cuts.proto b.proto) (pieces_of cuts.addr b.src) (pieces_of cuts.addr b.dst) (pieces_of cuts.p b.p) (pieces_of cuts.q b.q)) k5
 
 -- an aligned part holds the whole cell of each of its headers
@@ -111,10 +95,10 @@ whole_cell cuts part whole g h within aligned inside around same =
     let i = in_from_holds g part inside in
     let o = in_from_holds h whole around in
     let lt_g = λ (cuts : List ℕ) (c w : ℕ × ℕ) (x : ℕ) (k : IsRangeWithin c w) (l : (c.0 ≤ x) × (x ≤ c.1)). piece_of-lt-pieces_of cuts w x (wider c w x k l) in
-    let d5 = digits_same _ _ _ _ (pieces_of cuts.q whole.q) (piece_of-lt-pieces_of cuts.q whole.q h.q o.q.1) (lt_g cuts.q part.q whole.q g.q within.q i.q) same in
-    let d4 = digits_same _ _ _ _ (pieces_of cuts.p whole.p) (piece_of-lt-pieces_of cuts.p whole.p h.p o.p.1) (lt_g cuts.p part.p whole.p g.p within.p i.p) d5.0 in
-    let d3 = digits_same _ _ _ _ (pieces_of cuts.addr whole.dst) (piece_of-lt-pieces_of cuts.addr whole.dst h.dst o.dst.1) (lt_g cuts.addr part.dst whole.dst g.dst within.dst i.dst) d4.0 in
-    let d2 = digits_same _ _ _ _ (pieces_of cuts.addr whole.src) (piece_of-lt-pieces_of cuts.addr whole.src h.src o.src.1) (lt_g cuts.addr part.src whole.src g.src within.src i.src) d3.0 in
+    let d5 = same_from_place _ _ _ _ (pieces_of cuts.q whole.q) (piece_of-lt-pieces_of cuts.q whole.q h.q o.q.1) (lt_g cuts.q part.q whole.q g.q within.q i.q) same in
+    let d4 = same_from_place _ _ _ _ (pieces_of cuts.p whole.p) (piece_of-lt-pieces_of cuts.p whole.p h.p o.p.1) (lt_g cuts.p part.p whole.p g.p within.p i.p) d5.0 in
+    let d3 = same_from_place _ _ _ _ (pieces_of cuts.addr whole.dst) (piece_of-lt-pieces_of cuts.addr whole.dst h.dst o.dst.1) (lt_g cuts.addr part.dst whole.dst g.dst within.dst i.dst) d4.0 in
+    let d2 = same_from_place _ _ _ _ (pieces_of cuts.addr whole.src) (piece_of-lt-pieces_of cuts.addr whole.src h.src o.src.1) (lt_g cuts.addr part.src whole.src g.src within.src i.src) d3.0 in
     holds_from_in h part (record {
       proto = whole_piece cuts.proto part.proto whole.proto g.proto h.proto within.proto aligned.proto i.proto o.proto d2.0;
       src = whole_piece cuts.addr part.src whole.src g.src h.src within.src aligned.src i.src o.src d2.1;

@@ -4,7 +4,9 @@ use Rattle.std.proofs.lemmas.Bool.Decides.{nat_tests}
 use Rattle.std.proofs.lemmas.List.Folds.{list_any_at}
 use Rattle.std.proofs.lemmas.List.Kept.{AllPairs-cons}
 use Rattle.std.proofs.lemmas.List.Sums.{sum_by-cons}
+use Rattle.std.specs.Cmp.{first_so, second_so}
 use Rattle.std.specs.List.{list_any, count_by, AllPairs}
+use Rattle.std.proofs.lemmas.Bool.{and_from}
 use Rattle.vpc_base.specs.declared.headers.Header.{Header}
 use Rattle.header_boxes.specs.declared.boxes.Box5.{Box5}
 use Rattle.header_boxes.specs.Boxes.{in_range, holds, IsValid, IsRangeWithin, IsWithin, AreDisjoint, low_of, common_range, common_box}
@@ -23,42 +25,31 @@ pub record IsIn (h : Header) (b : Box5) : Type 0 where
   pub p : (b.p.0 ≤ h.p) × (h.p ≤ b.p.1)
   pub q : (b.q.0 ≤ h.q) × (h.q ≤ b.q.1)
 
-and_first : (a b : Bool) → (a && b) ≡ true → a ≡ true
-and_first true b h = refl
-and_first false b h = h
+pub range_in : (r : ℕ × ℕ) (x : ℕ) → in_range r x ≡ true → (r.0 ≤ x) × (x ≤ r.1)
+range_in r x h = let k = first_so (nat_le r.0 x) (nat_le x r.1) h in let l = second_so (nat_le r.0 x) (nat_le x r.1) h in (grind (arith, nat_tests), grind (arith, nat_tests))
 
-and_second : (a b : Bool) → (a && b) ≡ true → b ≡ true
-and_second true b h = h
-and_second false b h = cc
-
-both : (a b : Bool) → a ≡ true → b ≡ true → (a && b) ≡ true
-both a b e f = ap (λ v. v && b) e ∙ f
-
-range_in : (r : ℕ × ℕ) (x : ℕ) → in_range r x ≡ true → (r.0 ≤ x) × (x ≤ r.1)
-range_in r x h = let k = and_first (nat_le r.0 x) (nat_le x r.1) h in let l = and_second (nat_le r.0 x) (nat_le x r.1) h in (grind (arith, nat_tests), grind (arith, nat_tests))
-
-range_holds : (r : ℕ × ℕ) (x : ℕ) → r.0 ≤ x → x ≤ r.1 → in_range r x ≡ true
+pub range_holds : (r : ℕ × ℕ) (x : ℕ) → r.0 ≤ x → x ≤ r.1 → in_range r x ≡ true
 range_holds r x h k = grind (arith, nat_tests)
 
 pub in_from_holds : (h : Header) (b : Box5) → holds h b ≡ true → IsIn h b
 in_from_holds h b t =
-    let r0 = and_second (in_range b.proto h.proto) (in_range b.src h.src && (in_range b.dst h.dst && (in_range b.p h.p && in_range b.q h.q))) t in
-    let r1 = and_second (in_range b.src h.src) (in_range b.dst h.dst && (in_range b.p h.p && in_range b.q h.q)) r0 in
-    let r2 = and_second (in_range b.dst h.dst) (in_range b.p h.p && in_range b.q h.q) r1 in
+    let r0 = second_so (in_range b.proto h.proto) (in_range b.src h.src && (in_range b.dst h.dst && (in_range b.p h.p && in_range b.q h.q))) t in
+    let r1 = second_so (in_range b.src h.src) (in_range b.dst h.dst && (in_range b.p h.p && in_range b.q h.q)) r0 in
+    let r2 = second_so (in_range b.dst h.dst) (in_range b.p h.p && in_range b.q h.q) r1 in
     record {
-      proto = range_in b.proto h.proto (and_first (in_range b.proto h.proto) (in_range b.src h.src && (in_range b.dst h.dst && (in_range b.p h.p && in_range b.q h.q))) t);
-      src = range_in b.src h.src (and_first (in_range b.src h.src) (in_range b.dst h.dst && (in_range b.p h.p && in_range b.q h.q)) r0);
-      dst = range_in b.dst h.dst (and_first (in_range b.dst h.dst) (in_range b.p h.p && in_range b.q h.q) r1);
-      p = range_in b.p h.p (and_first (in_range b.p h.p) (in_range b.q h.q) r2);
-      q = range_in b.q h.q (and_second (in_range b.p h.p) (in_range b.q h.q) r2);
+      proto = range_in b.proto h.proto (first_so (in_range b.proto h.proto) (in_range b.src h.src && (in_range b.dst h.dst && (in_range b.p h.p && in_range b.q h.q))) t);
+      src = range_in b.src h.src (first_so (in_range b.src h.src) (in_range b.dst h.dst && (in_range b.p h.p && in_range b.q h.q)) r0);
+      dst = range_in b.dst h.dst (first_so (in_range b.dst h.dst) (in_range b.p h.p && in_range b.q h.q) r1);
+      p = range_in b.p h.p (first_so (in_range b.p h.p) (in_range b.q h.q) r2);
+      q = range_in b.q h.q (second_so (in_range b.p h.p) (in_range b.q h.q) r2);
     }
 
 pub holds_from_in : (h : Header) (b : Box5) → IsIn h b → holds h b ≡ true
 holds_from_in h b i =
-    both _ _ (range_holds b.proto h.proto i.proto.0 i.proto.1)
-    (both _ _ (range_holds b.src h.src i.src.0 i.src.1)
-    (both _ _ (range_holds b.dst h.dst i.dst.0 i.dst.1)
-    (both _ _ (range_holds b.p h.p i.p.0 i.p.1) (range_holds b.q h.q i.q.0 i.q.1))))
+    and_from _ _ (range_holds b.proto h.proto i.proto.0 i.proto.1)
+    (and_from _ _ (range_holds b.src h.src i.src.0 i.src.1)
+    (and_from _ _ (range_holds b.dst h.dst i.dst.0 i.dst.1)
+    (and_from _ _ (range_holds b.p h.p i.p.0 i.p.1) (range_holds b.q h.q i.q.0 i.q.1))))
 
 -- a box that holds a header is valid
 pub valid_if_holds : (h : Header) (b : Box5) → holds h b ≡ true → IsValid b
@@ -106,6 +97,19 @@ range_within_itself r h = record { begins = omega arith; valid = h; ends = omega
 pub within_itself : (b : Box5) → IsValid b → IsWithin b b
 within_itself b v = record { proto = range_within_itself b.proto v.proto; src = range_within_itself b.src v.src; dst = range_within_itself b.dst v.dst; p = range_within_itself b.p v.p; q = range_within_itself b.q v.q }
 
+range_trans : (a b c : ℕ × ℕ) → IsRangeWithin a b → IsRangeWithin b c → IsRangeWithin a c
+range_trans a b c ab bc = record { begins = omega (arith, ab.begins, bc.begins); valid = ab.valid; ends = omega (arith, ab.ends, bc.ends) }
+
+-- a part of a part of the whole is a part of the whole
+pub within_trans : (a b c : Box5) → IsWithin a b → IsWithin b c → IsWithin a c
+within_trans a b c ab bc = record {
+  proto = range_trans a.proto b.proto c.proto ab.proto bc.proto;
+  src = range_trans a.src b.src c.src ab.src bc.src;
+  dst = range_trans a.dst b.dst c.dst ab.dst bc.dst;
+  p = range_trans a.p b.p c.p ab.p bc.p;
+  q = range_trans a.q b.q c.q ab.q bc.q;
+}
+
 -- ---- the common part of two
 
 in_common_range : (a b : ℕ × ℕ) (x : ℕ) → in_range (common_range a b) x ≡ (in_range a x && in_range b x)
@@ -146,7 +150,7 @@ common_within_second a b v = record { proto = common_second a.proto b.proto v.pr
 
 -- two boxes whose common part has an empty side share no header
 pub disjoint_unless_common : (a b : Box5) → (IsValid (common_box a b) → ⊥) → AreDisjoint a b
-disjoint_unless_common a b none h s t = none (valid_if_holds h (common_box a b) (holds-common_box h a b ∙ both (holds h a) (holds h b) s t))
+disjoint_unless_common a b none h s t = none (valid_if_holds h (common_box a b) (holds-common_box h a b ∙ and_from (holds h a) (holds h b) s t))
 
 -- ---- what is left
 

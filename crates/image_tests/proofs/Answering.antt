@@ -1,5 +1,6 @@
 -- Answers about numbers on sides, and answers one after the other.
-use Rattle.std.proofs.Common.{◌≡◌, ℕ, ◌+◌, ◌&&◌, ◌||◌, Bool, Option, true, false, refl, ap, sym, ◌∙◌}
+use Rattle.std.proofs.Common.{◌≡◌, ℕ, ◌+◌, ◌&&◌, Bool, Option, true, false, refl, ap, sym, ◌∙◌, ◌==◌, arith}
+use Rattle.std.proofs.lemmas.Bool.Decides.{nat_tests}
 use Rattle.vpc_base.specs.Cuts.{CutLists}
 use Rattle.vpc_base.specs.declared.headers.Header.{Header}
 use Rattle.header_boxes.proofs.BoxLaws.{within_holds}
@@ -22,6 +23,10 @@ abbrev pub EdgesAreCut : (CutLists → Type 0) → Image → Side → ℕ → �
 EdgesAreCut enough i s from to =
     (cuts : CutLists) → enough cuts
     → IsCut cuts (greatest_on s) (field_of i s) from × IsCut cuts (greatest_on s) (field_of i s) (to + 1)
+
+-- one number alone
+pub between_itself : (a n : ℕ) → is_between a a n ≡ (a == n)
+between_itself a n = grind (arith, nat_tests)
 
 pub side_answers : (enough : CutLists → Type 0) (i : Image) (s : Side) (from to : ℕ) (x : Part Bool) → IsValidImage i
     → EdgesAreCut enough i s from to → TellsSide i s from to x
@@ -71,30 +76,6 @@ answers_same {T} enough f g part x same k = record { told = λ h i. k.told h i �
 pub answers_map : {S T : Type 0} (f : S → T) (enough : CutLists → Type 0) (answer : Header → S) (part : Box5) (x : Part S)
     → Answers enough answer part x → Answers enough (λ h. f (answer h)) part (record { body = x.body; told = f x.told })
 answers_map {S} {T} f enough answer part x k = record { told = λ h i. ap f (k.told h i); body = k.body; aligned = k.aligned }
-
--- where the first of two tests holds, one of them does
-pub answers_first : (enough : CutLists → Type 0) (f g : Header → Bool) (part : Box5) (x : Part Bool) → x.told ≡ true
-    → Answers enough f part x → Answers enough (λ h. f h || g h) part x
-answers_first enough f g part x e k = record { told = λ h i. passes (f h) (g h) x.told e (k.told h i); body = k.body; aligned = k.aligned }
-  where
-    passes : (a b v : Bool) → v ≡ true → v ≡ a → v ≡ (a || b)
-    passes true b v e f = e
-    passes false b v e f = absurd (let g : false ≡ true = sym f ∙ e in cc)
-
--- where it doesn't, the second decides
-pub answers_either : (enough : CutLists → Type 0) (f g : Header → Bool) (part : Box5) (x y : Part Bool) → x.told ≡ false
-    → Answers enough f part x → Answers enough g x.body y → Answers enough (λ h. f h || g h) part y
-answers_either enough f g part x y e k l =
-    answers_follow enough (λ h. f h || g h) x.body part y k.body k.aligned
-    (record {
-      told = λ h i. decides (f h) (g h) x.told y.told e (k.told h (within_holds y.body x.body h l.body.within i)) (l.told h i);
-      body = l.body;
-      aligned = l.aligned;
-    })
-  where
-    decides : (a b v w : Bool) → v ≡ false → v ≡ a → w ≡ b → w ≡ (a || b)
-    decides true b v w e f g = absurd (let h : true ≡ false = sym f ∙ e in cc)
-    decides false b v w e f g = g
 
 -- one answer for the whole part
 pub answers_all : {T : Type 0} (enough : CutLists → Type 0) (answer : Header → T) (part : Box5) (told : T) → IsValid part

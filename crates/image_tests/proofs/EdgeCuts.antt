@@ -5,6 +5,7 @@ use Rattle.std.specs.Prelude.{nat_le}
 use Rattle.std.proofs.lemmas.Bool.Decides.{nat_tests}
 use Rattle.std.proofs.lemmas.List.Elements.{Contains-append_left, Contains-append_right}
 use Rattle.vpc_base.specs.Cuts.{CutLists}
+use Rattle.vpc_base.proofs.Members.{Contains-filter}
 use Rattle.box_images.specs.Bodies.{IsCut}
 use Rattle.box_images.specs.Fields.{side_of}
 use Rattle.box_images.specs.Images.{IsImageOfWalk, field_of}
@@ -14,7 +15,6 @@ use Rattle.box_images.specs.declared.images.Image.{Image}
 use Rattle.header_boxes.specs.declared.boxes.Box5.{Box5}
 use Rattle.prefix_text.specs.Block.{Block, last_of}
 use Rattle.vpc_model.specs.Cuts.{cuts_of_box, cuts_of_rule, edges}
-use Rattle.cut_laws.proofs.Among.{filter_in}
 use Rattle.cut_laws.specs.Dividing.{Divide}
 use Rattle.image_tests.proofs.Answering.{EdgesAreCut}
 use Rattle.image_tests.proofs.Fields.{address_field, address_is_cut, p_field, port_is_cut, proto_field, proto_is_cut, q_field}
@@ -30,13 +30,13 @@ last_edge from to = (1, omega arith, refl)
 
 proto_cut : (cuts few : CutLists) (i : Image) (v : ℕ) → IsImageOfWalk i → Contains few.proto v → Divide few cuts → IsCut cuts 255 i.proto v
 proto_cut cuts few i v w has divide =
-    proto_is_cut cuts i.proto v (proto_field i w) (λ le. divide.proto v (filter_in (λ n. nat_le n 255) few.proto v (grind (arith, nat_tests)) has))
+    proto_is_cut cuts i.proto v (proto_field i w) (λ le. divide.proto v (Contains-filter (λ n. nat_le n 255) few.proto v has (grind (arith, nat_tests))))
 
 address_cut : (cuts few : CutLists) (i : Image) (s : Side) (v : ℕ) → IsImageOfWalk i → IsAddressSide s → Contains few.addr v → Divide few cuts
     → IsCut cuts 4294967295 (field_of i s) v
 address_cut cuts few i s v w k has divide =
     address_is_cut cuts (field_of i s) v (address_field i s w k)
-    (λ le. divide.addr v (filter_in (λ n. nat_le n 4294967295) few.addr v (grind (arith, nat_tests)) has))
+    (λ le. divide.addr v (Contains-filter (λ n. nat_le n 4294967295) few.addr v has (grind (arith, nat_tests))))
 
 -- ---- rules
 

@@ -5,6 +5,7 @@ use Rattle.std.specs.Prelude.{map, nat_le}
 use Rattle.std.proofs.lemmas.Bool.Decides.{nat_tests}
 use Rattle.std.proofs.lemmas.List.Elements.{Contains-append_left, Contains-append_right}
 use Rattle.vpc_base.specs.Cuts.{CutLists}
+use Rattle.vpc_base.proofs.Members.{Contains-filter}
 use Rattle.box_images.specs.Bodies.{IsCut}
 use Rattle.box_images.specs.Fields.{greatest_on}
 use Rattle.box_images.specs.Images.{IsAddress, IsImageOfWalk, IsPort, field_of}
@@ -14,7 +15,6 @@ use Rattle.box_images.specs.declared.fields.Side.{Side}
 use Rattle.box_images.specs.declared.fields.Side.TheVariants.{Proto, Src, Dst, P, Q}
 use Rattle.box_images.specs.declared.images.Image.{Image}
 use Rattle.vpc_model.specs.Cuts.{shifted_edges}
-use Rattle.cut_laws.proofs.Among.{filter_in}
 use Rattle.cut_laws.specs.Dividing.{Divide}
 use Rattle.image_tests.specs.Tests.{IsAddressSide}
 
@@ -107,7 +107,7 @@ address_is_cut cuts (Of Q add) v reads has = absurd reads
 edge_shifts : (es : List ℕ) (v : ℕ) → Contains es v → 1024 ≤ v → Contains (shifted_edges es) (v - 1024)
 edge_shifts es v has le =
     Contains-append_right es (map (λ e. e - 1024) (filter (nat_le 1024) es)) (v - 1024)
-    (shifts (filter (nat_le 1024) es) (filter_in (nat_le 1024) es v (grind (arith, nat_tests)) has))
+    (shifts (filter (nat_le 1024) es) (Contains-filter (nat_le 1024) es v has (grind (arith, nat_tests))))
   where
     shifts : (xs : List ℕ) → Contains xs v → Contains (map (λ e. e - 1024) xs) (v - 1024)
     shifts [] (k, below, e) = absurd (omega arith)
@@ -128,6 +128,6 @@ port_is_cut cuts few es (Of P add) v reads p q has divide = λ x k some le. ⊎_
     reads
   where
     on_p : (x : ℕ) → x ≤ 65535 → Contains (shifted_edges es) x → Contains cuts.p x
-    on_p x le h = divide.p x (filter_in (λ n. nat_le n 65535) few.p x (grind (arith, nat_tests)) (subst (λ l. Contains l x) (sym p) h))
+    on_p x le h = divide.p x (Contains-filter (λ n. nat_le n 65535) few.p x (subst (λ l. Contains l x) (sym p) h) (grind (arith, nat_tests)))
 port_is_cut cuts few es (Of Q add) v reads p q has divide = λ x k some le. subst (Contains cuts.q) (omega arith)
-    (divide.q v (filter_in (λ n. nat_le n 65535) few.q v (grind (arith, nat_tests)) (subst (λ l. Contains l v) (sym q) has)))
+    (divide.q v (Contains-filter (λ n. nat_le n 65535) few.q v (subst (λ l. Contains l v) (sym q) has) (grind (arith, nat_tests))))

@@ -7,8 +7,9 @@ use Rattle.std.proofs.lemmas.Bool.Decides.{nat_tests}
 use Rattle.std.proofs.lemmas.List.Elements.{Contains-get_or}
 use Rattle.std.proofs.lemmas.List.Folds.{list_any_at, list_any_none}
 use Rattle.vpc_base.specs.Cuts.{CutLists}
+use Rattle.vpc_base.proofs.Members.{Contains-filter}
+use Rattle.vpc_base.proofs.Options.{none_if}
 use Rattle.vpc_model.specs.Cuts.{address_cuts, cuts_of_blocks}
-use Rattle.cut_laws.proofs.Among.{filter_in}
 use Rattle.cut_laws.specs.Dividing.{CutOut, Divide}
 use Rattle.number_tables.specs.Entries.{value_at}
 use Rattle.number_tables.specs.Keys.{key_of}
@@ -84,7 +85,7 @@ stretch-before keys high a k other fits next =
 -- ---- where a stretch ends is a cut
 
 cut-of : (cuts : CutLists) (a c : ℕ) → Divide (cuts_of_blocks (address_cuts a)) cuts → Contains (address_cuts a) c → c ≤ 4294967295 → Contains cuts.addr c
-cut-of cuts a c divide has le = divide.addr c (filter_in (λ n. nat_le n 4294967295) (address_cuts a) c (grind (arith, nat_tests)) has)
+cut-of cuts a c divide has le = divide.addr c (Contains-filter (λ n. nat_le n 4294967295) (address_cuts a) c has (grind (arith, nat_tests)))
 
 pub stretch-cut : (keys : List ℕ) (high a : ℕ) (x : ℕ × Bool) (cuts : CutLists) → IsKeyStretch keys high a x → CutOut (has_key keys high) cuts
     → x.0 < 4294967295 → Contains cuts.addr (x.0 + 1)
@@ -111,10 +112,6 @@ is_some-value_at {T} k (e ∷ es) = elim (cases_Bool (e.key == k)) [
   | inr other ↦ rw other (is_some-value_at k es)
 ]
 
-none-if : {X : Type 0} (o : Option X) → is_some o ≡ false → o ≡ None
-none-if None e = refl
-none-if (Some x) e = absurd (cc)
-
 -- addresses of a stretch have one value
 pub value-in : {T : Type 0} (es : List (Entry T)) (high a b : ℕ) (x : ℕ × Bool) → IsKeyStretch (map (λ e. e.key) es) high a x → a ≤ b → b ≤ x.0
     → value_at (key_of high a) es ≡ value_at (key_of high b) es
@@ -126,4 +123,4 @@ value-in {T} es high a b x s from to = elim (cases_Bool x.1) [
 ]
   where
     none : (c : ℕ) → a ≤ c → c ≤ x.0 → x.1 ≡ false → value_at (key_of high c) es ≡ None
-    none c from to miss = none-if (value_at (key_of high c) es) (is_some-value_at (key_of high c) es ∙ s.alike c from to ∙ miss)
+    none c from to miss = none_if (value_at (key_of high c) es) (is_some-value_at (key_of high c) es ∙ s.alike c from to ∙ miss)

@@ -6,6 +6,7 @@ use Rattle.std.specs.List.{Contains}
 use Rattle.std.specs.Prelude.{nat_le}
 use Rattle.vpc_base.specs.Cuts.{CutLists}
 use Rattle.vpc_base.specs.declared.headers.Header.{Header}
+use Rattle.vpc_base.proofs.Members.{Contains-filter}
 use Rattle.header_boxes.specs.Boxes.{holds, in_range, low_of}
 use Rattle.header_boxes.specs.Cells.{IsAligned}
 use Rattle.header_boxes.specs.declared.boxes.Box5.{Box5}
@@ -22,15 +23,12 @@ use Rattle.box_images.specs.declared.fields.Side.TheVariants.{Proto, Src, Dst, P
 use Rattle.box_images.specs.declared.images.Image.{Image}
 use Rattle.box_images.specs.declared.images.Part.{Part}
 use Rattle.box_images.proofs.LawLemmas.{bodies_are_aligned}
-use Rattle.cut_laws.proofs.Among.{filter_in}
+use Rattle.box_images.proofs.TranslateLemmas.{range_of_value}
 use Rattle.cut_laws.specs.Dividing.{Divide, DivideFirsts}
 use Rattle.vpc_model.specs.Cuts.{on_sides}
 use Rattle.image_tests.proofs.Fields.{ReadsAddress, address_field}
 
 -- ---- what is told
-
-range_of_value : (lo hi v : ℕ) → true ≡ in_range (lo, hi) v → (lo ≤ v) × (v ≤ hi)
-range_of_value lo hi v e = (grind (arith, nat_tests), grind (arith, nat_tests))
 
 value_in_range : (lo hi v : ℕ) → lo ≤ v → v ≤ hi → in_range (lo, hi) v ≡ true
 value_in_range lo hi v from upto = grind (arith, nat_tests)
@@ -91,7 +89,7 @@ aligned_to_pieces cuts i p body a first last valid walk pieces fits is_last from
 pub firsts_on_sides : (p : PieceLists) (few : CutLists) → ArePieces p → DivideFirsts p.firsts few → DivideFirsts p.firsts (on_sides few)
 firsts_on_sides p few pieces divide f listed =
     let below = All-contains (λ (n : ℕ). n < 2 ^ 32) p.firsts f pieces.fit listed in
-    ⊎_elim inl (λ cut. inr (filter_in (λ n. nat_le n 4294967295) few.addr f (grind (arith, nat_tests)) cut)) (divide f listed)
+    ⊎_elim inl (λ cut. inr (Contains-filter (λ n. nat_le n 4294967295) few.addr f cut (grind (arith, nat_tests)))) (divide f listed)
 
 -- what divides at cuts divides at the first addresses among them
 pub firsts_divide : (firsts : List ℕ) (few cuts : CutLists) → DivideFirsts firsts (on_sides few) → Divide few cuts → DivideFirsts firsts cuts

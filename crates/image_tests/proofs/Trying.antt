@@ -1,9 +1,9 @@
 -- Rows that are asked one after the other, until one passes a test.
-use Rattle.std.proofs.Common.{◌≡◌, ◌<◌, ◌+◌, ◌∷◌, Bool, true, false, List, ℕ, ap, drop, get_or, length, refl, subst, suc, sym, ◌∙◌, arith}
-use Rattle.std.specs.List.{Contains, list_any}
-use Rattle.std.proofs.Math.Seq.{drop-cons}
+use Rattle.std.proofs.Common.{◌≡◌, ◌<◌, ◌+◌, ◌∷◌, Bool, true, false, List, ℕ, ap, drop, get_or, length, refl, subst, sym, ◌∙◌}
+use Rattle.std.specs.List.{list_any}
 use Rattle.vpc_base.specs.Cuts.{CutLists}
 use Rattle.vpc_base.specs.declared.headers.Header.{Header}
+use Rattle.vpc_base.proofs.Steps.{drop-next}
 use Rattle.header_boxes.specs.Boxes.{holds, low_of}
 use Rattle.box_images.proofs.Reducing.{reduced_all, reduced_by, reduced_nothing, reduced_same, walk_within}
 use Rattle.box_images.specs.Answers.{Answers, Reduces}
@@ -22,11 +22,6 @@ pub trying_first : {X T : Type 0} (enough : CutLists → Type 0) (asked : List X
     → IsTrying enough (asked rows) asked rows i 0 i
 trying_first enough asked rows i v w = record { image = refl; valid = v; walk = w; reduced = reduced_nothing enough (asked rows) i.part v.part }
 
-rows_from : {X : Type 0} (rows : List X) (k : ℕ) (row : X) → k < length rows → row ≡ get_or rows k row → drop k rows ≡ row ∷ drop (k + 1) rows
-rows_from rows k row below is =
-    let next : suc k ≡ k + 1 = omega arith in
-    drop-cons rows k row below ∙ ap (λ n. get_or rows k row ∷ drop n rows) next ∙ ap (λ y. y ∷ drop (k + 1) rows) (sym is)
-
 -- a row that doesn't pass is left behind
 pub trying_next : {X T : Type 0} (enough : CutLists → Type 0) (whole : Header → T) (asked : List X → Header → T) (test : X → Header → Bool)
     → ((x : X) (xs : List X) (h : Header) → test x h ≡ false → asked (x ∷ xs) h ≡ asked xs h)
@@ -41,7 +36,7 @@ trying_next {X} {T} enough whole asked test skips rows i k rest row x next below
   walk = walk_within rest next t.walk keeps;
   reduced = subst (λ (j : Image). Reduces enough whole (asked (drop (k + 1) rows)) i.part j.part) (sym image)
       (reduced_by enough whole (asked (drop k rows)) (asked (drop (k + 1) rows)) i.part rest.part (test row) x false fails
-      (λ h e. ap (λ xs. asked xs h) (rows_from rows k row below is) ∙ skips row (drop (k + 1) rows) h e)
+      (λ h e. ap (λ xs. asked xs h) (drop-next rows k row below is) ∙ skips row (drop (k + 1) rows) h e)
       t.reduced a);
 }
 
@@ -56,7 +51,7 @@ trying_passed {X} {T} enough whole asked test skips rows i k rest row below is f
   valid = t.valid;
   walk = t.walk;
   reduced = reduced_same enough whole (asked (drop k rows)) (asked (drop (k + 1) rows)) i.part rest.part
-      (λ h inside. ap (λ xs. asked xs h) (rows_from rows k row below is) ∙ skips row (drop (k + 1) rows) h (fails h inside))
+      (λ h inside. ap (λ xs. asked xs h) (drop-next rows k row below is) ∙ skips row (drop (k + 1) rows) h (fails h inside))
       t.reduced;
 }
 
@@ -70,12 +65,8 @@ trying_last {X} {T} enough whole asked test rows i k rest row x told decides bel
     let next : Header → T = λ h. told in
     reduced_all enough whole next i.part x.body told (λ h e. refl)
     (reduced_by enough whole (asked (drop k rows)) next i.part rest.part (test row) x true passes
-    (λ h e. ap (λ xs. asked xs h) (rows_from rows k row below is) ∙ decides (drop (k + 1) rows) h e)
+    (λ h e. ap (λ xs. asked xs h) (drop-next rows k row below is) ∙ decides (drop (k + 1) rows) h e)
     t.reduced a)
-
--- a row is one of the rows
-pub row_has : {X : Type 0} (rows : List X) (k : ℕ) (row : X) → k < length rows → row ≡ get_or rows k row → Contains rows row
-row_has rows k row below is = (k, below, sym is)
 
 -- whether any row passes a test
 abbrev pub any_passes : {X : Type 0} → (X → Header → Bool) → List X → Header → Bool

@@ -1,13 +1,9 @@
 -- Rows of which some are dropped, told in one pass.
-use Rattle.std.proofs.Common.{◌≡◌, ◌∙◌, ◌++◌, ◌∷◌, ◌||◌, ℕ, Bool, true, false, List, [], refl, ap, sym, subst, map, not, filter, bytes_eq, cond, append_assoc}
+use Rattle.std.proofs.Common.{◌≡◌, ◌∙◌, ◌++◌, ◌∷◌, ◌||◌, ℕ, Bool, true, false, List, [], refl, ap, sym, subst, not, filter, bytes_eq, cond, append_assoc}
 use Rattle.std.specs.List.{list_any}
 use Rattle.std.proofs.lemmas.List.Folds.{list_any-append}
 use Rattle.std.proofs.lemmas.Slice.Eq.{bytes_eq-Decides}
 use Rattle.json_fields.specs.Kept.{firsts_by, first_of_each, with_another}
-
-pub list_any-map : {X Y : Type 0} (f : X → Y) (p : Y → Bool) (xs : List X) → list_any p (map f xs) ≡ list_any (λ x. p (f x)) xs
-list_any-map f p [] = refl
-list_any-map f p (x ∷ xs) = rw (list_any-map f p xs)
 
 -- the rows whose keys were not seen
 abbrev pub unseen : {A K : Type 0} → (K → K → Bool) → (A → K) → List K → List A → List A

@@ -3,7 +3,7 @@ use Rattle.std.proofs.Common.{◌+◌, ◌<◌, ◌≡◌, ◌≤◌, ◌∙◌,
 use Rattle.std.specs.Option.{IfSome}
 use Rattle.std.proofs.lemmas.List.Sums.{sum_by-cons, sum_by_more, sum_by_more_le}
 use Rattle.std.proofs.lemmas.List.{get_or_default}
-use Rattle.std.proofs.lemmas.Option.{get_or_from_slice_get, slice_get-get_or, slice_get_within}
+use Rattle.std.proofs.lemmas.Option.{get_or_from_slice_get, same_Some, slice_get-get_or, slice_get_within}
 use Rattle.header_boxes.specs.declared.rows.Row.{Row}
 use Rattle.listing_reader.specs.Listings.{row_count}
 use Rattle.report_reader.specs.Reports.{row_limit}
@@ -18,9 +18,6 @@ Rows = List (Row (List ℕ))
 abbrev count_of : Listed → ℕ
 count_of l = length l.rows
 
-some_is : {X : Type 0} (x y : X) → Some x ≡ Some y → x ≡ y
-some_is x y is = cc
-
 -- ---- a start and its rows, by number
 
 abbrev listed : Asked → Rows → Listed
@@ -33,7 +30,7 @@ listed_at : (asked : List Asked) (lists : List Rows) (k : ℕ) (a : Asked) (rows
     → slice_get (listed_of asked lists) k ≡ Some (listed a rows)
 listed_at [] lists k a rows e f = absurd (let less = slice_get_within [] k a e in omega (arith, less))
 listed_at (x ∷ xs) [] k a rows e f = absurd (let less = slice_get_within [] k rows f in omega (arith, less))
-listed_at (x ∷ xs) (y ∷ ys) zero a rows e f = listed_both x a y rows (some_is x a e) (some_is y rows f)
+listed_at (x ∷ xs) (y ∷ ys) zero a rows e f = listed_both x a y rows (same_Some x a e) (same_Some y rows f)
 listed_at (x ∷ xs) (y ∷ ys) (suc k) a rows e f = listed_at xs ys k a rows e f
 
 -- ---- all of them

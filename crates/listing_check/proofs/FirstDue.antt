@@ -1,10 +1,11 @@
 -- The first request of a gap that has to be in a row.
-use Rattle.std.proofs.Common.{◌&&◌, ◌+◌, ◌<◌, ◌||◌, ◌≡◌, ◌∙◌, ◌⊎◌, All, Bool, List, None, Option, Some, false, get_or, inl, inr, length, refl, subst, sym, take, true, ⊎_elim, ℕ}
+use Rattle.std.proofs.Common.{◌&&◌, ◌+◌, ◌<◌, ◌||◌, ◌≡◌, ◌∙◌, ◌⊎◌, All, List, None, Option, Some, get_or, inl, inr, length, refl, subst, sym, take, true, ⊎_elim, ℕ}
 use Rattle.std.proofs.lemmas.List.Folds.{Any-from_list_any, list_any_more}
+use Rattle.std.specs.Cmp.{first_so, second_so}
 use Rattle.std.specs.Option.{IfSome, IsSomeAnd}
+use Rattle.std.proofs.lemmas.Bool.{and_from, or_cases, or_left, or_right}
 use Rattle.box_gather.specs.Over.{is_in}
 use Rattle.box_survey.proofs.Kept.{outside_at, outside_itself}
-use Rattle.box_survey.proofs.Meeting.{and_first, and_second, both}
 use Rattle.box_survey.proofs.Order.{not_before_trans}
 use Rattle.box_survey.specs.Survey.{IsFirstIn, IsFirstMattering}
 use Rattle.header_boxes.proofs.Held.{holds_whole}
@@ -17,18 +18,6 @@ use Rattle.listing_check.specs.Looks.{IsOther}
 
 -- ---- the boxes that are asked for
 
-or_cases : (a b : Bool) → (a || b) ≡ true → (a ≡ true) ⊎ (b ≡ true)
-or_cases true b is = inl refl
-or_cases false b is = inr is
-
-or_first : (a b : Bool) → a ≡ true → (a || b) ≡ true
-or_first true b is = refl
-or_first false b is = cc
-
-or_second : (a b : Bool) → b ≡ true → (a || b) ≡ true
-or_second true b is = refl
-or_second false b is = is
-
 -- a box that holds all of them holds their headers
 pub held_in_hull : (boxes : List Box5) (hull : Box5) → All (λ b. IsWithin b hull) boxes → (h : Header) → is_in boxes h ≡ true → holds h hull ≡ true
 held_in_hull boxes hull all h is =
@@ -40,13 +29,13 @@ held_in_hull boxes hull all h is =
 -- what is told of the headers that it has in common with a gap
 pub told_in_common : (told : Header → Option (List ℕ)) (part gap common : Box5) → ((h : Header) → holds h common ≡ (holds h part && holds h gap))
     → (o : Option Header) → IsOther told None common o → IsFirstMattering (IsToldIn told part) gap o
-told_in_common told part gap common holds_both None none = λ h inside tells. tells.1 (none h (holds_both h ∙ both (holds h part) (holds h gap) tells.0 inside))
+told_in_common told part gap common holds_both None none = λ h inside tells. tells.1 (none h (holds_both h ∙ and_from (holds h part) (holds h gap) tells.0 inside))
 told_in_common told part gap common holds_both (Some h) is =
     let in_both = sym (holds_both h) ∙ is.inside in
     record {
-      inside = and_second (holds h part) (holds h gap) in_both;
-      matter = (and_first (holds h part) (holds h gap) in_both, is.other);
-      first = λ k inside before tells. tells.1 (is.first k (holds_both k ∙ both (holds k part) (holds k gap) tells.0 inside) before);
+      inside = second_so (holds h part) (holds h gap) in_both;
+      matter = (first_so (holds h part) (holds h gap) in_both, is.other);
+      first = λ k inside before tells. tells.1 (is.first k (holds_both k ∙ and_from (holds k part) (holds k gap) tells.0 inside) before);
     }
 
 -- ---- what was found, and one box more
@@ -93,12 +82,12 @@ module _ (told : Header → Option (List ℕ)) (boxes : List Box5) (k : ℕ) (pa
   more h = list_any_more (λ b. holds h b) boxes k part below
 
   due_before : (h : Header) → IsDue told (take k boxes) h → IsDue told (take (k + 1) boxes) h
-  due_before h due = (more h ∙ or_first (is_in (take k boxes) h) (holds h (get_or boxes k part)) due.0, due.1)
+  due_before h due = (more h ∙ or_left (is_in (take k boxes) h) (holds h (get_or boxes k part)) due.0, due.1)
 
   due_here : (h : Header) → IsToldIn told part h → IsDue told (take (k + 1) boxes) h
   due_here h tells =
       let here = subst (λ b. holds h b ≡ true) is tells.0 in
-      (more h ∙ or_second (is_in (take k boxes) h) (holds h (get_or boxes k part)) here, tells.1)
+      (more h ∙ or_right (is_in (take k boxes) h) (holds h (get_or boxes k part)) here, tells.1)
 
   due_cases : (h : Header) → IsDue told (take (k + 1) boxes) h → IsDue told (take k boxes) h ⊎ IsToldIn told part h
   due_cases h due =

@@ -3,9 +3,9 @@ use Rattle.std.proofs.Common.{◌≡◌, ◌≢◌, ◌∙◌, ◌+◌, ◌++◌
 use Rattle.std.specs.List.{AllPairs}
 use Rattle.std.proofs.lemmas.List.{length-map}
 use Rattle.std.proofs.lemmas.List.Elements.{All-map}
+use Rattle.vpc_base.proofs.Pairs.{AllPairs-map}
 use Rattle.block_report.specs.Walks.{phase_text, stop_text}
 use Rattle.block_report.specs.Words.{word}
-use Rattle.listing_text.proofs.SideLemmas.{AllPairs-map}
 use Rattle.change_report.specs.Asked.{Comparison, boxes_at, changed_id, id_or}
 use Rattle.change_report.specs.Texts.{lines_at, barrier_text, change_text, row_line, row_lines_from, start_id}
 use Rattle.change_report.specs.Told.{AreToldAll, ChangeRows, change_in, cuts_in, wanted}

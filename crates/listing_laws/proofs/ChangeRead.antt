@@ -2,6 +2,7 @@
 use Rattle.std.proofs.Common.{◌≡◌, ◌∙◌, ◌+◌, ◌<◌, ◌≤◌, Bool, Err, List, None, Ok, Option, Result, Some, ap, arith, codes, false, if◌then◌else◌, refl, subst, sym, true, ℕ}
 use Rattle.std.specs.Str.{bytes_eq}
 use Rattle.std.proofs.lemmas.Bool.{cond-false}
+use Rattle.vpc_base.proofs.Bytes.{same_bytes}
 use Rattle.query_words.specs.ChangeQuery.{before_of, change_query_of, change_sourced, changed_end_of, end_in, given_changed_end, in_either, internet_in_both, named_end}
 use Rattle.query_words.specs.ReachQuery.{apart, reach_pairs_of}
 use Rattle.query_words.specs.Refusal.{◌>>=◌}
@@ -11,14 +12,14 @@ use Rattle.query_words.specs.declared.changes.ChangedEnd.{ChangedEnd}
 use Rattle.query_words.specs.declared.reaches.ReachPairs.{ReachPairs}
 use Rattle.query_words.specs.declared.refusal.QueryRefusal.{QueryRefusal}
 use Rattle.query_words.specs.declared.refusal.QueryRefusal.TheVariants as refusals
-use Rattle.vpc_laws.proofs.Numbering.{same_bytes}
 use Rattle.vpc_laws.specs.Types.{Description, End}
 use Rattle.vpc_model.specs.Lookup.{has_interface}
+use Rattle.report_reader.proofs.AskedEnds.{ok_is, was_taken}
 use Rattle.listing_laws.proofs.ShortWords.{IsShortWord, IsShortWord-id}
 use Rattle.listing_laws.specs.Typed.{HasTypedInterfaces}
 use Rattle.listing_laws.proofs.PairsRead.{ArePairsFit, Ended, PairsRead, is_named, pairs_read}
-use Rattle.listing_laws.proofs.Readers.{IsAny, ok_is, then_reader}
-use Rattle.listing_laws.proofs.Taking.{Agree, IsReader, Passed, pair_step, pair_took, passed_both, passed_order, was_taken}
+use Rattle.listing_laws.proofs.Readers.{IsAny, then_reader}
+use Rattle.listing_laws.proofs.Taking.{Agree, IsReader, Passed, pair_step, pair_took, passed_both, passed_order}
 use Rattle.listing_laws.proofs.Typing.{IsShortWord-described}
 
 -- ---- ends

@@ -1,42 +1,17 @@
 -- How long listings are.
-use Rattle.std.proofs.Common.{◌≡◌, ◌+◌, ◌*◌, ◌≤◌, ◌<◌, ◌^◌, ◌++◌, ◌∷◌, [], All, List, arith, codes, decimal, length, length-append, lit<, suc, ℕ}
+use Rattle.std.proofs.Common.{◌≡◌, ◌+◌, ◌*◌, ◌≤◌, ◌++◌, ◌∷◌, [], All, List, arith, codes, decimal, length, length-append, lit<, suc, ℕ}
 use Rattle.std.proofs.lemmas.Fmt.{length-decimal-le}
 use Rattle.std.proofs.lemmas.List.Elements.{All-head, All-tail}
 use Rattle.std.proofs.lemmas.List.Sums.{sum_by-cons}
-use Rattle.block_report.specs.Reports.{addresses_text, box_text}
-use Rattle.header_boxes.specs.Boxes.{IsValid}
+use Rattle.block_report.specs.Reports.{box_text}
 use Rattle.listing_reader.specs.Listings.{row_count}
 use Rattle.listing_reader.specs.Printed.{Printed, end_line, lines_from, lists_of, row_line, row_lines_from}
 use Rattle.listing_reader.specs.ReadsBack.{ArePrintable, IsPrintable, IsPrintableRow}
-use Rattle.prefix_text.proofs.AddrLaws.{length-addr_text-le}
-use Rattle.prefix_text.proofs.RangeLaws.{length-range_text-le}
-use Rattle.prefix_text.specs.Addr.{addr_text}
-use Rattle.prefix_text.specs.Range.{range_text}
-use Rattle.report_reader.specs.ReadsBack.{Fits, length_limit}
+use Rattle.report_reader.specs.ReadsBack.{length_limit}
+use Rattle.report_reader.proofs.Lengths.{length-box_text-le}
 use Rattle.vpc_laws.specs.Types.{Box5, Row}
 use Rattle.listing_laws.proofs.SecondLines.{spaced}
 use Rattle.listing_laws.proofs.ShortWords.{IsShortWord}
-
--- ---- boxes
-
-length-addresses_text-le : (r : ℕ × ℕ) → r.0 < 2 ^ 32 → r.1 < 2 ^ 32 → length (addresses_text r) ≤ 31
-length-addresses_text-le r first last =
-    let a = length-addr_text-le r.0 first in
-    let b = length-addr_text-le r.1 last in
-    omega (arith, length-append (addr_text r.0 ++ codes "-") (addr_text r.1), length-append (addr_text r.0) (codes "-"))
-
-five_words : (a b c d e : List ℕ) → length a ≤ 11 → length b ≤ 31 → length c ≤ 31 → length d ≤ 11 → length e ≤ 11
-    → length ((((a ++ 32 ∷ b) ++ 32 ∷ c) ++ 32 ∷ d) ++ 32 ∷ e) ≤ 100
-five_words a b c d e la lb lc ld le = simp length-append (omega arith)
-
-length-box_text-le : (b : Box5) → IsValid b → Fits b → length (box_text b) ≤ 100
-length-box_text-le b valid fits =
-    five_words (range_text b.proto) (addresses_text b.src) (addresses_text b.dst) (range_text b.p) (range_text b.q)
-    (length-range_text-le b.proto (omega (arith, valid.proto, fits.proto)) (omega (arith, fits.proto)))
-    (length-addresses_text-le b.src (omega (arith, valid.src, fits.src)) fits.src)
-    (length-addresses_text-le b.dst (omega (arith, valid.dst, fits.dst)) fits.dst)
-    (length-range_text-le b.p (omega (arith, valid.p, fits.p)) fits.p)
-    (length-range_text-le b.q (omega (arith, valid.q, fits.q)) fits.q)
 
 -- ---- rows
 

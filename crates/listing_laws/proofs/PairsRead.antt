@@ -11,9 +11,10 @@ use Rattle.query_words.specs.declared.reaches.ReachPairs.{ReachPairs}
 use Rattle.query_words.specs.declared.refusal.QueryRefusal.{QueryRefusal}
 use Rattle.query_words.specs.declared.refusal.QueryRefusal.TheVariants as refusals
 use Rattle.vpc_model.specs.Id.{is_id}
+use Rattle.report_reader.proofs.AskedEnds.{WasTaken, ok_is, was_taken}
 use Rattle.listing_laws.proofs.ShortWords.{IsShortWord-id}
-use Rattle.listing_laws.proofs.Readers.{FitsGivenPorts, FitsPorts, FitsProto, FitsSide, given_ports_reader, ok_is, proto_reader, side_reader}
-use Rattle.listing_laws.proofs.Taking.{Agree, IsName, IsReader, Passed, Took, WasTaken, pair_absent, pair_step, pair_there, pair_took, passed_both, passed_order, was_taken}
+use Rattle.listing_laws.proofs.Readers.{FitsGivenPorts, FitsPorts, FitsProto, FitsSide, given_ports_reader, proto_reader, side_reader}
+use Rattle.listing_laws.proofs.Taking.{Agree, IsName, IsReader, Passed, Took, pair_absent, pair_step, pair_there, pair_took, passed_both, passed_order}
 use Rattle.listing_laws.proofs.Taking as taking
 
 -- ---- ports

@@ -3,6 +3,7 @@ use Rattle.std.proofs.Common.{◌≡◌, ◌≢◌, ◌∙◌, ◌+◌, ◌++◌
 use Rattle.std.specs.List.{AllPairs}
 use Rattle.std.proofs.lemmas.List.{length-map}
 use Rattle.std.proofs.lemmas.List.Elements.{All-map}
+use Rattle.vpc_base.proofs.Pairs.{AllPairs-map}
 use Rattle.end_reach.specs.Asked.{boxes_at}
 use Rattle.end_reach.specs.Texts.{row_line, row_lines_from}
 use Rattle.end_reach.specs.Told.{AreToldAll, StartRows, reached_in, wanted}
@@ -23,7 +24,6 @@ use Rattle.listing_laws.proofs.ShortWords.{}
 use Rattle.listing_laws.specs.Typed.{HasTypedInterfaces}
 use Rattle.listing_laws.proofs.Lengths.{HasShortRows, HasShortText}
 use Rattle.listing_laws.proofs.Listings.{listed_at, printed_at, same_count}
-use Rattle.listing_text.proofs.SideLemmas.{AllPairs-map}
 use Rattle.listing_laws.proofs.Pairwise.{pairs_unmap}
 use Rattle.listing_laws.proofs.PairsRead.{ArePairsFit}
 use Rattle.listing_laws.proofs.ReachBoxes.{FitsRange, boxes_fit}

@@ -6,10 +6,11 @@ use Rattle.query_words.specs.declared.reaches.ReachPairs.{ReachPairs}
 use Rattle.query_words.specs.declared.reaches.ReachQuery.{ReachQuery}
 use Rattle.query_words.specs.declared.refusal.QueryRefusal.{QueryRefusal}
 use Rattle.vpc_laws.specs.Types.{Description, End}
+use Rattle.report_reader.proofs.AskedEnds.{ok_is, was_taken}
 use Rattle.listing_laws.specs.Typed.{HasTypedInterfaces}
 use Rattle.listing_laws.proofs.PairsRead.{ArePairsFit, Ended, PairsRead, is_named, pairs_read}
-use Rattle.listing_laws.proofs.Readers.{IsAny, given_end_reader, ok_is}
-use Rattle.listing_laws.proofs.Taking.{Agree, Passed, pair_step, pair_took, passed_both, passed_order, was_taken}
+use Rattle.listing_laws.proofs.Readers.{IsAny, given_end_reader}
+use Rattle.listing_laws.proofs.Taking.{Agree, Passed, pair_step, pair_took, passed_both, passed_order}
 
 -- ---- what follows the ends
 

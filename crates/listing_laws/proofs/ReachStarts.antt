@@ -9,14 +9,14 @@ use Rattle.std.proofs.lemmas.Bool.{both_ways, or_parts}
 use Rattle.std.proofs.lemmas.List.Elements.{All-map}
 use Rattle.std.proofs.lemmas.List.Kept.{AllPairs-cons, AllPairs-filter}
 use Rattle.std.proofs.lemmas.Map.Text.{is_eq-slice_cmp}
+use Rattle.vpc_base.proofs.Bytes.{bytes_self}
+use Rattle.vpc_base.proofs.Pairs.{AllPairs-map}
 use Rattle.described_hosts.specs.Hosts.{ComesBefore, id_of}
 use Rattle.end_reach.specs.Asked.{AreStarts, is_goal, is_start}
-use Rattle.vpc_laws.proofs.Numbering.{bytes_self}
 use Rattle.vpc_laws.specs.Types.{Description, End, EniNo, Interface}
 use Rattle.vpc_model.specs.Lookup.{has_interface, no_interface}
 use Rattle.vpc_model.specs.Told.{end_id}
 use Rattle.vpc_model.specs.declared.places.End.TheVariants as ends
-use Rattle.listing_text.proofs.SideLemmas.{AllPairs-map}
 use Rattle.listing_laws.proofs.Pairwise.{one_pairs}
 
 -- two ends with ids of their own

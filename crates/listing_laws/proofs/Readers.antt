@@ -3,7 +3,9 @@ use Rattle.std.proofs.Common.{◌≡◌, ◌≢◌, ◌<◌, ◌≤◌, ◌^◌,
 use Rattle.std.specs.Option.{option_map}
 use Rattle.std.specs.Str.{bytes_eq}
 use Rattle.std.proofs.lemmas.Fmt.{length-decimal-le}
+use Rattle.std.proofs.lemmas.Option.{same_Some}
 use Rattle.std.proofs.lemmas.List.Elements.{All-append, All-cons, All-nil}
+use Rattle.vpc_base.proofs.Bytes.{same_bytes}
 use Rattle.prefix_text.proofs.AddrLaws.{All-addr_text, length-addr_text-le}
 use Rattle.prefix_text.proofs.BlockLaws.{prefix_of-Some}
 use Rattle.prefix_text.proofs.NumberLaws.{All-decimal, number_of-Some, two_digits}
@@ -19,14 +21,14 @@ use Rattle.query_words.specs.Refusal.{◌>>=◌}
 use Rattle.query_words.specs.Words.{proto_of, read_as, word_at}
 use Rattle.query_words.specs.declared.refusal.QueryRefusal.{QueryRefusal}
 use Rattle.query_words.specs.declared.refusal.QueryRefusal.TheVariants as refusals
+use Rattle.report_reader.proofs.AskedEnds.{ok_is, was_taken}
 use Rattle.report_reader.proofs.Printed.{IsWord-decimal, IsWord-range_text}
 use Rattle.listing_laws.proofs.ShortWords.{IsShortWord, IsShortWord-id, short_word}
-use Rattle.vpc_laws.proofs.Numbering.{same_bytes}
 use Rattle.vpc_laws.specs.Types.{Description, End}
 use Rattle.vpc_model.specs.Lookup.{eni_no, has_interface}
 use Rattle.vpc_model.specs.declared.places.End.TheVariants as ends
 use Rattle.listing_laws.specs.Typed.{HasTypedInterfaces}
-use Rattle.listing_laws.proofs.Taking.{IsReader, was_taken}
+use Rattle.listing_laws.proofs.Taking.{IsReader}
 use Rattle.listing_laws.proofs.Typing.{IsShortWord-described}
 
 -- ---- readers
@@ -54,12 +56,6 @@ then_reader {A = A} read P next Q reader fits = record {
   same = λ words others n same. ap (λ (r : Result A QueryRefusal). r >>= next n) (reader.same words others n same);
 }
 
-abbrev taken_as : {A : Type 0} → A → Result A QueryRefusal
-taken_as a = Ok a
-
-pub ok_is : {A : Type 0} (a b : A) → taken_as a ≡ Ok b → a ≡ b
-ok_is a b is = cc
-
 -- ---- protocols
 
 number_word : (w : List ℕ) (most n : ℕ) → number_of w most ≡ Some n → IsShortWord w
@@ -67,9 +63,6 @@ number_word w most n is =
     let read = number_of-Some w most n is in
     let short = length-decimal-le 10 n (lit< tt) read.2 (omega (arith, read.2)) in
     subst IsShortWord (sym read.0) (short_word (decimal n) (IsWord-decimal n read.2) (omega (arith, short)))
-
-some_is : {A : Type 0} (a b : A) → Some a ≡ Some b → a ≡ b
-some_is a b is = cc
 
 record IsProto (w : List ℕ) (n : ℕ) : Type 0 where
   spelled : IsShortWord w
@@ -83,7 +76,7 @@ named_or : (w name : List ℕ) (k n : ℕ) (other : Option ℕ) (b : Bool) → b
 named_or w name k n other true there spelled fits rest is =
     record {
       spelled = subst IsShortWord (sym (same_bytes w name there)) spelled;
-      fits = subst (λ (m : ℕ). m < 2 ^ 8) (some_is k n is) fits;
+      fits = subst (λ (m : ℕ). m < 2 ^ 8) (same_Some k n is) fits;
     }
 named_or w name k n other false there spelled fits rest is = rest is
 
@@ -138,7 +131,7 @@ side_from w (Some b) side read is =
     let text = prefix_of-Some w b read in
     record {
       spelled = subst IsShortWord (sym text.0.spelled) (cidr_word text.0.addr text.0.length text.0.addr_fits text.0.short);
-      fits = subst FitsSide (some_is (Some (side_of b)) side is) text.1.fits;
+      fits = subst FitsSide (same_Some (Some (side_of b)) side is) text.1.fits;
     }
 
 side_is : (w : List ℕ) (side : Option (ℕ × ℕ)) → option_map (λ b. Some (side_of b)) (prefix_of w) ≡ Some side → IsSideText w side

@@ -1,20 +1,20 @@
 -- Rows with words of any kind, and the same rows with the texts of the words.
-use Rattle.std.proofs.Common.{◌≡◌, ◌≢◌, ◌∙◌, ◌||◌, ◌∷◌, [], All, Bool, List, None, Option, Some, ap, arith, map, refl, subst, sym, true, ℕ}
+use Rattle.std.proofs.Common.{◌≡◌, ◌≢◌, ◌∙◌, ◌||◌, ◌∷◌, [], All, Bool, List, None, Option, Some, ap, map, refl, subst, sym, true, ℕ}
 use Rattle.std.specs.Option.{option_map}
-use Rattle.std.proofs.lemmas.Bool.{and_from, le-leb}
 use Rattle.std.proofs.lemmas.List.Elements.{All-contains, All-map}
 use Rattle.std.proofs.lemmas.List.Folds.{list_any_at}
 use Rattle.box_gather.specs.Over.{IsPartOf, IsWholeOver}
 use Rattle.header_boxes.proofs.Held.{valid_if_within}
-use Rattle.header_boxes.specs.Boxes.{AreDisjoint, IsRangeWithin, IsWithin, holds}
+use Rattle.header_boxes.specs.Boxes.{AreDisjoint, holds}
 use Rattle.header_boxes.specs.Rows.{HasWord, is_covered}
 use Rattle.vpc_base.specs.Cuts.{CutLists}
+use Rattle.vpc_base.proofs.Pairs.{AllPairs-map}
 use Rattle.vpc_laws.specs.Types.{Box5, Header, Row}
-use Rattle.report_reader.specs.Boxes.{is_inside, lies_in}
+use Rattle.report_reader.specs.Boxes.{is_inside}
 use Rattle.report_reader.specs.ReadsBack.{Fits}
+use Rattle.report_reader.proofs.ReadWords.{fits-within, is_inside-within}
 use Rattle.listing_reader.specs.ReadsBack.{IsOneLine, IsPrintableRow}
 use Rattle.listing_check.specs.Asked.{Asked, IsTrueOf}
-use Rattle.listing_text.proofs.SideLemmas.{AllPairs-map}
 
 -- the row with the text of its word
 abbrev pub shown : {W : Type 0} → (W → List ℕ) → Row W → Row (List ℕ)
@@ -55,36 +55,14 @@ shown_is_true {W = W} meaning cuts boxes room rows text id outcome whole = recor
 
 -- ---- they can be printed
 
-lies_in_if_within : (part whole : ℕ × ℕ) → IsRangeWithin part whole → lies_in part whole ≡ true
-lies_in_if_within part whole h = and_from _ _ (le-leb whole.0 part.0 h.begins) (le-leb part.1 whole.1 h.ends)
-
-inside_if_within : (part whole : Box5) → IsWithin part whole → is_inside part whole ≡ true
-inside_if_within part whole h =
-    and_from _ _ (lies_in_if_within part.proto whole.proto h.proto)
-    (and_from _ _ (lies_in_if_within part.src whole.src h.src)
-    (and_from _ _ (lies_in_if_within part.dst whole.dst h.dst)
-    (and_from _ _ (lies_in_if_within part.p whole.p h.p) (lies_in_if_within part.q whole.q h.q))))
-
-part_fits : (part whole : Box5) → IsWithin part whole → Fits whole → Fits part
-part_fits part whole h fits =
-    let a = h.proto.ends in let b = h.src.ends in let c = h.dst.ends in let d = h.p.ends in let e = h.q.ends in
-    let v = fits.proto in let w = fits.src in let x = fits.dst in let y = fits.p in let z = fits.q in
-    record {
-      proto = omega (arith, a, v);
-      src = omega (arith, b, w);
-      dst = omega (arith, c, x);
-      p = omega (arith, d, y);
-      q = omega (arith, e, z);
-    }
-
 shown_printable : {W : Type 0} (cuts : CutLists) (boxes : List Box5) (text : W → List ℕ) (row : Row W) → All Fits boxes
     → IsPartOf cuts boxes row.part → IsOneLine (text row.word) → IsPrintableRow boxes (shown text row)
 shown_printable cuts boxes text row fit part line = record {
   told = line;
   valid = valid_if_within row.part part.whole part.within;
-  fits = part_fits row.part part.whole part.within (All-contains Fits boxes part.whole fit part.among);
+  fits = fits-within row.part part.whole part.within (All-contains Fits boxes part.whole fit part.among);
   asked = list_any_at (is_inside row.part) boxes part.among.0 part.whole part.among.1
-      (subst (λ (b : Box5). is_inside row.part b ≡ true) (sym part.among.2) (inside_if_within row.part part.whole part.within));
+      (subst (λ (b : Box5). is_inside row.part b ≡ true) (sym part.among.2) (is_inside-within row.part part.whole part.within));
 }
 
 pub all_shown_printable : {W : Type 0} (cuts : CutLists) (boxes : List Box5) (text : W → List ℕ) (rows : List (Row W)) → All Fits boxes

@@ -2,11 +2,12 @@
 use Rattle.std.proofs.Common.{◌≡◌, ◌∙◌, ◌+◌, ◌-◌, ◌<◌, ◌≤◌, Bool, Err, List, Ok, Result, ap, arith, codes, false, if◌then◌else◌, inl, inr, length, nat_lt, refl, subst, sym, true, ℕ}
 use Rattle.std.specs.Str.{bytes_eq}
 use Rattle.std.proofs.lemmas.Bool.{and_from, and_parts, both_ways, cases_lt, false_from_ne_true, lt-ltb, ltb-true}
+use Rattle.vpc_base.proofs.Bytes.{same_bytes}
 use Rattle.query_words.specs.Pairs.{has_pair, pair_or}
 use Rattle.query_words.specs.Refusal.{◌>>=◌}
 use Rattle.query_words.specs.Words.{word_at}
 use Rattle.query_words.specs.declared.refusal.QueryRefusal.{QueryRefusal}
-use Rattle.vpc_laws.proofs.Numbering.{same_bytes}
+use Rattle.report_reader.proofs.AskedEnds.{was_taken}
 use Rattle.listing_laws.proofs.ShortWords.{IsShortWord}
 
 -- ---- what was read
@@ -51,17 +52,6 @@ pub record IsName (name : List ℕ) : Type 0 where
   pub other : bytes_eq name (codes "max") ≡ false
 
 -- ---- steps
-
--- it was taken, and what follows is the answer
-pub record WasTaken {A B : Type 0} (r : Result A QueryRefusal) (next : A → Result B QueryRefusal) (b : B) : Type 0 where
-  pub value : A
-  pub taken : r ≡ Ok value
-  pub follows : next value ≡ Ok b
-
-pub was_taken : {A B : Type 0} (r : Result A QueryRefusal) (next : A → Result B QueryRefusal) (b : B) → (r >>= next) ≡ Ok b
-    → WasTaken r next b
-was_taken (Ok a) next b is = record { value = a; taken = refl; follows = is }
-was_taken (Err cause) next b is = absurd (cc)
 
 -- a value was read of the words from a number on, and what follows it is the answer; of the same words elsewhere it is read too
 pub record Took {A B : Type 0} (step : List (List ℕ) → ℕ → (A → ℕ → Result B QueryRefusal) → Result B QueryRefusal) (P : A → Type 0)

@@ -2,6 +2,7 @@
 use Rattle.std.proofs.Common.{◌≡◌, ◌∙◌, ◌++◌, ◌∷◌, All, Bool, List, None, Ok, Some, ap, codes, drop, if◌then◌else◌, refl, slice_get, true, ℕ}
 use Rattle.std.specs.Option.{option_and_then}
 use Rattle.std.specs.Str.{bytes_eq}
+use Rattle.vpc_base.proofs.Bytes.{bytes_self}
 use Rattle.answer_check.specs.Lines.{all_lines, begins_with, query_words, question_words}
 use Rattle.listing_reader.proofs.ReadLists.{lines_follow_two}
 use Rattle.listing_reader.specs.Listings.{lists_in}
@@ -10,7 +11,6 @@ use Rattle.listing_reader.specs.declared.origins.Origin.{Origin}
 use Rattle.query_words.specs.Events.{words_of}
 use Rattle.report_reader.specs.Boxes.{word_at}
 use Rattle.report_reader.specs.Reports.{is_ended, pieces_of}
-use Rattle.vpc_laws.proofs.Numbering.{bytes_self}
 use Rattle.vpc_laws.specs.Types.{Row}
 use Rattle.listing_laws.proofs.ShortWords.{IsShortWord, IsShortWord-id}
 use Rattle.listing_laws.proofs.Listings.{lists_from}

@@ -8,7 +8,7 @@ use Rattle.std.proofs.lemmas.List.{append_cancel_left, drop_more, get_or-drop, t
 use Rattle.std.proofs.lemmas.List.Elements.{All-from_get_or}
 use Rattle.std.proofs.lemmas.List.Splits.{join_with_byte-slice_split, length-slice_split, slice_split-cons_yes, slice_split_at, slice_split_none}
 use Rattle.std.proofs.lemmas.List.Sums.{AllPass-from_list_all}
-use Rattle.vpc_laws.proofs.Numbering.{bytes_self, same_bytes}
+use Rattle.vpc_base.proofs.Bytes.{bytes_self, same_bytes}
 use Rattle.query_words.specs.Events.{words_of}
 use Rattle.listing_reader.specs.Cuts.{begins_with}
 

@@ -13,6 +13,7 @@ use Rattle.report_reader.specs.ReadsBack.{Fits}
 use Rattle.report_reader.specs.Reports.{pieces_of}
 use Rattle.report_reader.proofs.Printed.{IsWord-decimal, IsWord-id, words_of-joined}
 use Rattle.report_reader.proofs.ReadLines.{AreWords-box, IsWord-row, box_text-joined, box_words}
+use Rattle.report_reader.proofs.ReadReports.{line_before}
 use Rattle.listing_reader.specs.Listings.{row_count}
 use Rattle.listing_reader.specs.Printed.{Printed, end_line, lines_from, lists_of, row_lines_from}
 use Rattle.listing_reader.specs.ReadsBack.{HasNoBlank, IsOneLine, IsPrintable, IsPrintableRow}
@@ -120,9 +121,6 @@ one_line-end_text count short =
 
 pub pieces_of-line : (line rest : List ℕ) → IsOneLine line → pieces_of (line ++ 10 ∷ rest) ≡ line ∷ pieces_of rest
 pieces_of-line line rest one = slice_split_at _ line 10 rest one refl
-
-line_before : (line lines rest : List ℕ) → ((line ++ 10 ∷ []) ++ lines) ++ rest ≡ line ++ 10 ∷ (lines ++ rest)
-line_before line lines rest = simp append_assoc
 
 pieces_of-rows : (n : ℕ) (id : List ℕ) (boxes : List Box5) (rows : List (Row (List ℕ))) (rest : List ℕ) → n + length rows ≤ 20001 → IsOneLine id → All (IsPrintableRow boxes) rows
     → pieces_of (row_lines_from n id rows ++ rest) ≡ row_texts n id rows ++ pieces_of rest

@@ -6,8 +6,9 @@ use Rattle.std.proofs.lemmas.Bool.{and_right, cond-false, cond-true, false_from_
 use Rattle.std.proofs.lemmas.List.{drop_at}
 use Rattle.std.proofs.lemmas.List.Elements.{All-head, All-tail}
 use Rattle.std.proofs.lemmas.List.Sums.{sum_by-cons}
+use Rattle.vpc_base.proofs.Bytes.{bytes_self, same_bytes}
+use Rattle.vpc_base.proofs.Pairs.{AllPairs-tail}
 use Rattle.prefix_text.specs.Range.{range_text}
-use Rattle.vpc_laws.proofs.Numbering.{bytes_self, same_bytes}
 use Rattle.vpc_laws.specs.Types.{Box5, Row}
 use Rattle.block_report.specs.Reports.{addresses_text}
 use Rattle.query_words.specs.Events.{words_of}
@@ -92,9 +93,6 @@ rows_at-others origin m n (p ∷ printed) count few short h other =
 pairs_head : {X : Type 0} (R : X → X → Type 0) (x : X) (xs : List X) → AllPairs R (x ∷ xs) → All (R x) xs
 pairs_head R x xs pairs = λ k d inside. pairs 0 (suc k) d (omega arith) (omega (arith, inside))
 
-pairs_tail : {X : Type 0} (R : X → X → Type 0) (x : X) (xs : List X) → AllPairs R (x ∷ xs) → AllPairs R xs
-pairs_tail R x xs pairs = λ i j d before inside. pairs (suc i) (suc j) d (omega (arith, before)) (omega (arith, inside))
-
 lists_at-printed : (n : ℕ) (printed : List Printed) (count : ℕ) → n + row_count (lists_of printed) ≤ 20001 → count < 10 ^ 10 → All IsPrintable printed → AllPairs (λ p q. p.origin.id ≢ q.origin.id) printed
     → lists_at (origins_of printed) n (texts_from n printed ++ end_text count ∷ []) ≡ lists_of printed
 lists_at-printed n [] count few short h apart = refl
@@ -111,7 +109,7 @@ lists_at-printed n (p ∷ printed) count few short h apart =
     ap (lists_at (origins_of (p ∷ printed)) n) (append_assoc own (texts_from past printed) (end_text count ∷ []))
     ∙ (ap (λ (rows : List (Row (List ℕ))). rows ∷ lists_at origins (n + length rows) (drop (length rows) (own ++ rest))) (rows_at-own origin n past p.rows rest refl (omega (arith, few, sum)) first.id_word first.rows none)
     ∙ (ap (λ (lines : List (List ℕ)). p.rows ∷ lists_at origins past lines) (drop_at own rest (length p.rows) (length-row_texts n origin.id p.rows))
-    ∙ ap (λ (lists : List (List (Row (List ℕ)))). p.rows ∷ lists) (lists_at-printed past printed count (omega (arith, few, sum)) short others (pairs_tail (λ (a b : Printed). a.origin.id ≢ b.origin.id) p printed apart))))
+    ∙ ap (λ (lists : List (List (Row (List ℕ)))). p.rows ∷ lists) (lists_at-printed past printed count (omega (arith, few, sum)) short others (AllPairs-tail (λ (a b : Printed). a.origin.id ≢ b.origin.id) p printed apart))))
 
 -- ---- the whole
 

@@ -5,7 +5,7 @@ use Rattle.std.specs.Str.{bytes_eq}
 use Rattle.std.proofs.lemmas.Bool.{and_from, and_left, and_parts, both_ways, cond-false, cond-true, false_from_ne_true, le-leb, leb-true, lt-leb}
 use Rattle.std.proofs.lemmas.List.{get_or-append-add, get_or_at}
 use Rattle.std.proofs.lemmas.List.Splits.{join_with_byte-slice_split}
-use Rattle.vpc_laws.proofs.Numbering.{bytes_self}
+use Rattle.vpc_base.proofs.Bytes.{bytes_self}
 use Rattle.vpc_laws.specs.Types.{Box5}
 use Rattle.query_words.specs.Events.{words_of}
 use Rattle.report_reader.specs.Boxes.{box_at, box_of, word_at}

@@ -1,5 +1,5 @@
 -- The lines of all starts.
-use Rattle.std.proofs.Common.{◌≡◌, ◌≤◌, ◌<◌, ◌+◌, ◌-◌, ◌++◌, ◌∷◌, ◌∙◌, ◌==◌, [], All, Bool, Contains, Err, List, None, Ok, OnOk, Option, Result, Some, ap, append_assoc, append-nil, arith, cond, drop, false, get_or, is_some, length, map, refl, subst, sym, take, true, ℕ}
+use Rattle.std.proofs.Common.{◌≡◌, ◌≤◌, ◌<◌, ◌+◌, ◌-◌, ◌++◌, ◌∷◌, ◌∙◌, ◌==◌, [], All, Bool, Contains, List, None, Option, ap, append_assoc, append-nil, arith, cond, drop, false, get_or, length, map, refl, subst, sym, take, true, ℕ}
 use Rattle.std.proofs.lemmas.Bool.{eqb-true}
 use Rattle.std.proofs.lemmas.Bool.Decides.{nat_tests}
 use Rattle.std.proofs.lemmas.List.Elements.{All-contains, All-nil, All-push, Contains-append_right}
@@ -17,21 +17,6 @@ use Rattle.listing_text.specs.Bodies.{IsAdded, IsBody}
 use Rattle.listing_text.specs.Bodies as bodies
 use Rattle.listing_text.specs.Texts.{told_lines_from}
 use Rattle.listing_text.specs.Told.{AreToldAll, AreToldInPart, IsToldFrom, StartRows, Wanted, row_count}
-
--- ---- options
-
-pub none_if : {A : Type 0} (o : Option A) → is_some o ≡ false → o ≡ None
-none_if None is = refl
-none_if (Some x) is = absurd cc
-
-pub some_if : {A : Type 0} (o : Option A) → is_some o ≡ true → o ≡ None → ⊥
-some_if None is none = absurd cc
-some_if (Some x) is none = absurd cc
-
--- what follows from three facts
-pub on_ok_three : {E : Type 0} (A B C D : Type 0) (r : Result (Unit {0}) E) → (A → B → C → D) → OnOk r A → OnOk r B → OnOk r C → OnOk r D
-on_ok_three A B C D (Ok u) follows a b c = follows a b c
-on_ok_three A B C D (Err e) follows a b c = tt
 
 -- ---- one start more
 

@@ -1,5 +1,5 @@
 -- What is told of starts decides the status, whatever order they are asked in.
-use Rattle.std.proofs.Common.{◌≡◌, ◌≢◌, ◌∙◌, ◌<◌, ◌≤◌, ◌+◌, ◌∷◌, [], All, Contains, List, None, Option, Some, ap, arith, inl, inr, length, map, refl, subst, suc, sum_by, sym, true, zero, ℕ}
+use Rattle.std.proofs.Common.{◌≡◌, ◌≢◌, ◌∙◌, ◌<◌, ◌≤◌, ◌+◌, ◌∷◌, [], All, Contains, List, None, ap, arith, inl, inr, length, map, refl, subst, suc, sum_by, sym, true, zero, ℕ}
 use Rattle.std.proofs.lemmas.List.Elements.{All-contains, All-head, All-tail}
 use Rattle.std.proofs.lemmas.List.Folds.{list_any_at}
 use Rattle.std.proofs.lemmas.List.Sums.{sum_by-append, sum_by-cons}
@@ -16,8 +16,10 @@ use Rattle.header_boxes.specs.declared.boxes.Box5.{Box5}
 use Rattle.header_boxes.specs.declared.rows.Row.{Row}
 use Rattle.vpc_base.specs.Cuts.{AreAmong, CutLists}
 use Rattle.vpc_base.specs.declared.headers.Header.{Header}
+use Rattle.vpc_base.proofs.Members.{Contains-map}
+use Rattle.vpc_base.proofs.Options.{some_not_none}
 use Rattle.listing_text.proofs.BodyLemmas.{last_among}
-use Rattle.listing_text.proofs.Orders.{AreAlike, mapped_in}
+use Rattle.listing_text.proofs.Orders.{AreAlike}
 use Rattle.listing_text.specs.Answered.{IsDecidedBy, IsTold}
 use Rattle.listing_text.specs.Answered as answered
 use Rattle.listing_text.specs.Sides.{AreEachAlone, alone}
@@ -35,9 +37,6 @@ part_in : (cuts : CutLists) (boxes : List Box5) (part : Box5) → IsPartOf cuts 
 part_in cuts boxes part k =
     list_any_at (λ b. holds (low_of part) b) boxes k.among.0 k.whole k.among.1
     (subst (λ (b : Box5). holds (low_of part) b ≡ true) (sym k.among.2) (holds_whole (low_of part) part k.whole k.within (holds_low part (valid_if_within part k.whole k.within))))
-
-some_word : {W : Type 0} (o : Option W) (e : W) → o ≡ Some e → o ≢ None
-some_word o e is none = let same = sym is ∙ none in absurd cc
 
 uncovered : {W : Type 0} (rows : List (Row W)) (h : Header) → length rows ≡ 0 → is_covered rows h ≡ true → ⊥
 uncovered [] h none is = absurd cc
@@ -108,7 +107,7 @@ module _ {S W : Type 0} (AreTargets : List (ℕ × ℕ) → Type 0) (AreStarts :
             among = in_starts;
             header = low_of row.part;
             inside = part_in w.cuts (w.boxes t.start) row.part part;
-            told = some_word (w.word t.start (low_of row.part)) row.word (word (low_of row.part) (holds_low row.part (valid_if_within row.part part.whole part.within)));
+            told = some_not_none (w.word t.start (low_of row.part)) row.word (word (low_of row.part) (holds_low row.part (valid_if_within row.part part.whole part.within)));
           }
 
   -- such a request is in a row of its start
@@ -159,7 +158,7 @@ module _ {S W : Type 0} (AreTargets : List (ℕ × ℕ) → Type 0) (AreStarts :
       few = λ x f. refl;
       none = λ not.
           let at = some_rows told some in
-          absurd (not (row_tells at.0 (subst (λ (l : List S). Contains l at.0.start) are.starts_are (mapped_in (λ (t : StartRows S W). t.start) told at.0 at.1.0))
+          absurd (not (row_tells at.0 (subst (λ (l : List S). Contains l at.0.start) are.starts_are (Contains-map (λ (t : StartRows S W). t.start) told at.0 at.1.0))
           (All-contains (IsToldFrom w) told at.0 are.each at.1.0) at.1.1));
     }
 

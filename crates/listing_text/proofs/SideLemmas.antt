@@ -1,8 +1,9 @@
 -- Sides of addresses: none is empty, and no two share a number, nor do the boxes between them share a header.
-use Rattle.std.proofs.Common.{◌≡◌, ◌≤◌, ◌∷◌, [], All, AllPairs, List, arith, get_or, map, suc, ℕ}
+use Rattle.std.proofs.Common.{◌≡◌, ◌≤◌, ◌∷◌, [], All, AllPairs, List, arith, get_or, map, ℕ}
 use Rattle.std.proofs.lemmas.List.Elements.{All-cons, All-map, All-nil}
-use Rattle.std.proofs.lemmas.List.Kept.{AllPairs-cons, AllPairs-from_increasing}
+use Rattle.std.proofs.lemmas.List.Kept.{AllPairs-from_increasing}
 use Rattle.std.specs.List.Sorted.{IsStrictlyIncreasing}
+use Rattle.vpc_base.proofs.Pairs.{AllPairs-map}
 use Rattle.header_boxes.proofs.Held.{in_from_holds}
 use Rattle.header_boxes.specs.Boxes.{AreDisjoint, IsValid}
 use Rattle.query_words.specs.Pairs.{IsSide}
@@ -10,12 +11,6 @@ use Rattle.query_words.specs.ReachQuery.{AreReachPairs}
 use Rattle.query_words.specs.Sides.{all_addresses}
 use Rattle.query_words.specs.declared.reaches.ReachPairs.{ReachPairs}
 use Rattle.listing_text.specs.Sides.{alone, sides_between}
-
-pub AllPairs-map : {X Y : Type 0} (R : Y → Y → Type 0) (f : X → Y) (xs : List X) → AllPairs (λ a b. R (f a) (f b)) xs → AllPairs R (map f xs)
-AllPairs-map R f [] h = λ i j d lt inside. absurd (omega arith)
-AllPairs-map R f (x ∷ xs) h =
-    AllPairs-cons R (f x) (map f xs) (All-map (R (f x)) f xs (λ k d lt. h 0 (suc k) d (omega arith) (omega arith)))
-    (AllPairs-map R f xs (λ i j d lt inside. h (suc i) (suc j) d (omega arith) (omega arith)))
 
 -- no number is in both sides
 abbrev pub AreApart : ℕ × ℕ → ℕ × ℕ → Type 0

@@ -4,6 +4,7 @@ use Rattle.std.specs.List.{count_by, filter, filter_map, list_any}
 use Rattle.std.proofs.lemmas.Bool.{and_right, or_left}
 use Rattle.std.proofs.lemmas.Bool.Decides.{nat_tests}
 use Rattle.std.proofs.lemmas.List.FromFn.{length-map-range_with_len}
+use Rattle.vpc_base.proofs.Members.{nothing-append}
 use Rattle.vpc_model.specs.Accepted.{duplicate_addresses, duplicate_ids, duplicate_publics, duplicates_in, holds_twice, ids_by_list, is_long, is_long_group, is_main_of, is_table_of, missing_references, public_addresses, repeats, same_address, too_long, too_many_rows, two_acls, two_gateways, two_tables, without_acl, without_table}
 use Rattle.vpc_model.specs.Lookup.{is_listed, vpc_of_interface}
 use Rattle.vpc_model.specs.declared.refusals.ListName.{ListName}
@@ -14,7 +15,7 @@ use Rattle.made_network.specs.Types.{Acl, Association, Attachment, Group, Interf
 use Rattle.made_network.specs.Made.{MadeIsAccepted, for_each, host_address, made, made_acl, made_association, made_attachment, made_gateway_table, made_group, made_interface, made_subnet, made_table, made_vpc, subnet_id, vpc_id}
 use Rattle.made_network.proofs.Described.{nothing-missing}
 use Rattle.made_network.proofs.Numbers.{ids-differ, numbered-same, numbered-self}
-use Rattle.made_network.proofs.Ranges.{Differ, IsOneOf, append-none, count-none, count-one, filter-each, flat_map-each, flat_map-none, flat_map-single, list_any-each, list_any-none, repeats-each}
+use Rattle.made_network.proofs.Ranges.{Differ, IsOneOf, count-none, count-one, filter-each, flat_map-each, flat_map-none, flat_map-single, list_any-each, list_any-none, repeats-each}
 
 -- ---- what would stand twice
 
@@ -113,7 +114,7 @@ no-two_tables n most =
     (λ j other same. numbered-same (codes "vpc") j k (omega (arith, other.1, most)) (omega (arith, one.1, most)) same)) in
     let none : (k : ℕ) → IsOneOf 1 n k → holds_twice (is_table_of (subnet_id k)) d.tables ≡ false = λ k one.
     ap (nat_le 2) (count-none (is_table_of (subnet_id k)) made_table 1 n (λ j other. refl)) in
-    append-none (map (λ (v : Vpc). refusals.TwoTables v.id) (filter (λ (v : Vpc). holds_twice (is_main_of v.id) d.tables) d.vpcs)) (map (λ (s : Subnet). refusals.TwoTables s.id) (filter (λ (s : Subnet). holds_twice (is_table_of s.id) d.tables) d.subnets))
+    nothing-append (map (λ (v : Vpc). refusals.TwoTables v.id) (filter (λ (v : Vpc). holds_twice (is_main_of v.id) d.tables) d.vpcs)) (map (λ (s : Subnet). refusals.TwoTables s.id) (filter (λ (s : Subnet). holds_twice (is_table_of s.id) d.tables) d.subnets))
     (ap (map (λ (v : Vpc). refusals.TwoTables v.id)) (filter-each (λ (v : Vpc). holds_twice (is_main_of v.id) d.tables) made_vpc 1 n alone))
     (ap (map (λ (s : Subnet). refusals.TwoTables s.id)) (filter-each (λ (s : Subnet). holds_twice (is_table_of s.id) d.tables) made_subnet 1 n none))
 
@@ -158,19 +159,19 @@ no-long_lists n most =
     let t13 = t12 ++ too_long named.TransitGatewayRoutes (λ (t : TgwTable). is_long t.routes) d.tgw_tables in
     let routes : too_long named.TransitGatewayRoutes (λ (t : TgwTable). is_long t.routes) (made_gateway_table n ∷ []) ≡ [] = one_list named.TransitGatewayRoutes (λ (t : TgwTable). is_long t.routes) (made_gateway_table n) (short _ n most) in
     let n1 = short-lists named.Vpcs (λ (v : Vpc). is_long v.blocks) made_vpc n most (λ k. refl) in
-    let n2 = append-none t1 _ n1 (short-lists named.Subnets (λ (s : Subnet). false) made_subnet n most (λ k. refl)) in
-    let n3 = append-none t2 _ n2 (short-lists named.NetworkInterfaces (λ (e : Interface). is_long e.addresses || is_long e.groups) made_interface n most (λ k. refl)) in
-    let n4 = append-none t3 _ n3 (short-lists named.RouteTables (λ (t : RouteTable). is_long t.subnets || is_long t.routes) made_table n most (λ k. refl)) in
-    let n5 = append-none t4 [] n4 refl in
-    let n6 = append-none t5 _ n5 (short-lists named.NetworkAcls (λ (a : Acl). is_long a.subnets || is_long a.rows) made_acl n most (λ k. refl)) in
-    let n7 = append-none t6 _ n6 (short-lists named.SecurityGroups is_long_group made_group n most (λ k. refl)) in
-    let n8 = append-none t7 [] n7 refl in
-    let n9 = append-none t8 [] n8 refl in
-    let n10 = append-none t9 [] n9 refl in
-    let n11 = append-none t10 _ n10 (short-lists named.TransitGatewayVpcAttachments (λ (a : Attachment). is_long a.subnets) made_attachment n most (λ k. refl)) in
-    let n12 = append-none t11 _ n11 (short-lists named.TransitGatewayAttachments (λ (x : Association). false) made_association n most (λ k. refl)) in
-    let n13 = append-none t12 _ n12 routes in
-    append-none t13 [] n13 refl
+    let n2 = nothing-append t1 _ n1 (short-lists named.Subnets (λ (s : Subnet). false) made_subnet n most (λ k. refl)) in
+    let n3 = nothing-append t2 _ n2 (short-lists named.NetworkInterfaces (λ (e : Interface). is_long e.addresses || is_long e.groups) made_interface n most (λ k. refl)) in
+    let n4 = nothing-append t3 _ n3 (short-lists named.RouteTables (λ (t : RouteTable). is_long t.subnets || is_long t.routes) made_table n most (λ k. refl)) in
+    let n5 = nothing-append t4 [] n4 refl in
+    let n6 = nothing-append t5 _ n5 (short-lists named.NetworkAcls (λ (a : Acl). is_long a.subnets || is_long a.rows) made_acl n most (λ k. refl)) in
+    let n7 = nothing-append t6 _ n6 (short-lists named.SecurityGroups is_long_group made_group n most (λ k. refl)) in
+    let n8 = nothing-append t7 [] n7 refl in
+    let n9 = nothing-append t8 [] n8 refl in
+    let n10 = nothing-append t9 [] n9 refl in
+    let n11 = nothing-append t10 _ n10 (short-lists named.TransitGatewayVpcAttachments (λ (a : Attachment). is_long a.subnets) made_attachment n most (λ k. refl)) in
+    let n12 = nothing-append t11 _ n11 (short-lists named.TransitGatewayAttachments (λ (x : Association). false) made_association n most (λ k. refl)) in
+    let n13 = nothing-append t12 _ n12 routes in
+    nothing-append t13 [] n13 refl
   where
     one_list : {X : Type 0} (name : ListName) (p : X → Bool) (x : X) → p x ≡ false → too_long name p (x ∷ []) ≡ []
     one_list name p x e = rw e
@@ -189,12 +190,12 @@ made_is_accepted n some most =
     let r7 = r6 ++ two_gateways d in
     let r8 = r7 ++ two_tables d in
     let r9 = r8 ++ two_acls d in
-    let n2 = append-none r1 (missing_references d) (no-duplicate_ids n most) (nothing-missing n most) in
-    let n3 = append-none r2 (duplicate_addresses d) n2 (no-duplicate_addresses n) in
-    let n4 = append-none r3 (duplicate_publics d) n3 (no-duplicate_publics n) in
-    let n5 = append-none r4 (without_table d) n4 (no-lack_of_table n) in
-    let n6 = append-none r5 (without_acl d) n5 (no-lack_of_acl n) in
-    let n7 = append-none r6 (two_gateways d) n6 (no-two_gateways n) in
-    let n8 = append-none r7 (two_tables d) n7 (no-two_tables n most) in
-    let n9 = append-none r8 (two_acls d) n8 (no-two_acls n most) in
-    append-none r9 (too_many_rows d) n9 (no-long_lists n most)
+    let n2 = nothing-append r1 (missing_references d) (no-duplicate_ids n most) (nothing-missing n most) in
+    let n3 = nothing-append r2 (duplicate_addresses d) n2 (no-duplicate_addresses n) in
+    let n4 = nothing-append r3 (duplicate_publics d) n3 (no-duplicate_publics n) in
+    let n5 = nothing-append r4 (without_table d) n4 (no-lack_of_table n) in
+    let n6 = nothing-append r5 (without_acl d) n5 (no-lack_of_acl n) in
+    let n7 = nothing-append r6 (two_gateways d) n6 (no-two_gateways n) in
+    let n8 = nothing-append r7 (two_tables d) n7 (no-two_tables n most) in
+    let n9 = nothing-append r8 (two_acls d) n8 (no-two_acls n most) in
+    nothing-append r9 (too_many_rows d) n9 (no-long_lists n most)

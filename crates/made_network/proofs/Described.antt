@@ -3,13 +3,14 @@ use Rattle.std.proofs.Common.{◌++◌, ◌≡◌, ◌≤◌, ◌∙◌, ◌∷�
 use Rattle.std.specs.List.{flat_map}
 use Rattle.std.proofs.lemmas.Bool.{and_from, cond-true}
 use Rattle.std.proofs.lemmas.Grind.{flat_map-append}
+use Rattle.vpc_base.proofs.Members.{nothing-append}
 use Rattle.vpc_model.specs.Accepted.{is_subnet_of, missing_of_acl, missing_of_appliance, missing_of_attachment, missing_of_group, missing_of_igw, missing_of_interface, missing_of_life, missing_of_subnet, missing_of_table, missing_references, wanted}
 use Rattle.vpc_model.specs.Lookup.{has_group, has_list, has_subnet, has_vpc, subnet_at, subnet_no}
 use Rattle.vpc_model.specs.declared.rows.NatGateway.{NatGateway}
 use Rattle.made_network.specs.Types.{Group, Permission, Subnet, Vpc}
 use Rattle.made_network.specs.Made.{group_id, made, made_acl, made_attachment, made_group, made_interface, made_subnet, made_table, made_vpc, port_rule, subnet_id, vpc_id}
 use Rattle.made_network.proofs.Numbers.{numbered-same, numbered-self}
-use Rattle.made_network.proofs.Ranges.{IsOneOf, append-none, flat_map-each, flat_map-none, found-each, list_any-each}
+use Rattle.made_network.proofs.Ranges.{IsOneOf, flat_map-each, flat_map-none, found-each, list_any-each}
 
 wanted-there : (is_there : Bool) (from to : List ℕ) → is_there ≡ true → wanted is_there from to ≡ []
 wanted-there is_there from to e = rw e
@@ -46,14 +47,14 @@ of_interface n k one =
     let e = made_interface k in
     let subnet = wanted-there (has_subnet (made n) (subnet_id k)) e.id (subnet_id k) (subnet-there n k one) in
     let group = wanted-there (has_group (made n) (group_id k)) e.id (group_id k) (group-there n k one) in
-    append-none (wanted (has_subnet (made n) (subnet_id k)) e.id (subnet_id k)) (flat_map (λ g. wanted (has_group (made n) g) e.id g) (group_id k ∷ [])) subnet
+    nothing-append (wanted (has_subnet (made n) (subnet_id k)) e.id (subnet_id k)) (flat_map (λ g. wanted (has_group (made n) g) e.id g) (group_id k ∷ [])) subnet
     (flat_map-none (λ g. wanted (has_group (made n) g) e.id g) (group_id k ∷ []) (group, tt))
 
 of_table : (n k : ℕ) → IsOneOf 1 n k → missing_of_table (made n) (made_table k) ≡ []
 of_table n k one =
     let t = made_table k in
     let vpc = wanted-there (has_vpc (made n) (vpc_id k)) t.id (vpc_id k) (vpc-there n k one) in
-    append-none (wanted (has_vpc (made n) (vpc_id k)) t.id (vpc_id k) ++ []) [] (append-none (wanted (has_vpc (made n) (vpc_id k)) t.id (vpc_id k)) [] vpc refl) refl
+    nothing-append (wanted (has_vpc (made n) (vpc_id k)) t.id (vpc_id k) ++ []) [] (nothing-append (wanted (has_vpc (made n) (vpc_id k)) t.id (vpc_id k)) [] vpc refl) refl
 
 of_acl : (n k : ℕ) → IsOneOf 1 n k → missing_of_acl (made n) (made_acl k) ≡ []
 of_acl n k one =
@@ -67,8 +68,8 @@ of_group n k one =
     let vpc = wanted-there (has_vpc (made n) (vpc_id k)) g.id (vpc_id k) (vpc-there n k one) in
     let of_rule : Permission → List _ = λ p. flat_map (λ l. wanted (has_list (made n) l) g.id l) p.lists in
     let inward = flat_map-each of_rule (port_rule k) 0 100 (λ j within. refl) in
-    append-none (wanted (has_vpc (made n) (vpc_id k)) g.id (vpc_id k)) (flat_map of_rule (g.inward ++ g.outward)) vpc
-    (flat_map-append of_rule g.inward g.outward ∙ append-none (flat_map of_rule g.inward) (flat_map of_rule g.outward) inward refl)
+    nothing-append (wanted (has_vpc (made n) (vpc_id k)) g.id (vpc_id k)) (flat_map of_rule (g.inward ++ g.outward)) vpc
+    (flat_map-append of_rule g.inward g.outward ∙ nothing-append (flat_map of_rule g.inward) (flat_map of_rule g.outward) inward refl)
 
 of_attachment : (n k : ℕ) → n ≤ 50 → IsOneOf 1 n k → missing_of_attachment (made n) (made_attachment k) ≡ []
 of_attachment n k most one =
@@ -92,11 +93,11 @@ nothing-missing n most =
     let m7 = m6 ++ flat_map (λ (g : NatGateway). missing_of_life d g.id g.life) d.nats in
     let m8 = m7 ++ flat_map (missing_of_attachment d) d.attachments in
     let n1 = flat_map-each (missing_of_subnet d) made_subnet 1 n (of_subnet n) in
-    let n2 = append-none m1 (flat_map (missing_of_interface d) d.interfaces) n1 (flat_map-each (missing_of_interface d) made_interface 1 n (of_interface n)) in
-    let n3 = append-none m2 (flat_map (missing_of_table d) d.tables) n2 (flat_map-each (missing_of_table d) made_table 1 n (of_table n)) in
-    let n4 = append-none m3 (flat_map (missing_of_acl d) d.acls) n3 (flat_map-each (missing_of_acl d) made_acl 1 n (of_acl n)) in
-    let n5 = append-none m4 (flat_map (missing_of_group d) d.groups) n4 (flat_map-each (missing_of_group d) made_group 1 n (of_group n)) in
-    let n6 = append-none m5 (flat_map (missing_of_igw d) d.igws) n5 refl in
-    let n7 = append-none m6 (flat_map (λ (g : NatGateway). missing_of_life d g.id g.life) d.nats) n6 refl in
-    let n8 = append-none m7 (flat_map (missing_of_attachment d) d.attachments) n7 (flat_map-each (missing_of_attachment d) made_attachment 1 n (λ k one. of_attachment n k most one)) in
-    append-none m8 (flat_map (missing_of_appliance d) d.appliances) n8 refl
+    let n2 = nothing-append m1 (flat_map (missing_of_interface d) d.interfaces) n1 (flat_map-each (missing_of_interface d) made_interface 1 n (of_interface n)) in
+    let n3 = nothing-append m2 (flat_map (missing_of_table d) d.tables) n2 (flat_map-each (missing_of_table d) made_table 1 n (of_table n)) in
+    let n4 = nothing-append m3 (flat_map (missing_of_acl d) d.acls) n3 (flat_map-each (missing_of_acl d) made_acl 1 n (of_acl n)) in
+    let n5 = nothing-append m4 (flat_map (missing_of_group d) d.groups) n4 (flat_map-each (missing_of_group d) made_group 1 n (of_group n)) in
+    let n6 = nothing-append m5 (flat_map (missing_of_igw d) d.igws) n5 refl in
+    let n7 = nothing-append m6 (flat_map (λ (g : NatGateway). missing_of_life d g.id g.life) d.nats) n6 refl in
+    let n8 = nothing-append m7 (flat_map (missing_of_attachment d) d.attachments) n7 (flat_map-each (missing_of_attachment d) made_attachment 1 n (λ k one. of_attachment n k most one)) in
+    nothing-append m8 (flat_map (missing_of_appliance d) d.appliances) n8 refl

@@ -8,8 +8,8 @@ use Rattle.std.proofs.lemmas.List.Elements.{All-from_get_or}
 use Rattle.std.proofs.lemmas.List.Folds.{list_all-append}
 use Rattle.std.proofs.lemmas.List.Sums.{list_all-from_AllPass}
 use Rattle.std.proofs.lemmas.Str.Parse.{digit_at}
+use Rattle.vpc_base.proofs.Bytes.{bytes_self, same_bytes}
 use Rattle.vpc_model.specs.Id.{is_id, is_visible}
-use Rattle.vpc_laws.proofs.Numbering.{bytes_self, same_bytes}
 use Rattle.vpc_model.specs.Accepted.{duplicates_in}
 use Rattle.vpc_model.specs.declared.refusals.Refusal.TheVariants as refusals
 use Rattle.made_network.specs.Made.{for_each, numbered}

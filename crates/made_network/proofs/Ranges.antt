@@ -4,8 +4,9 @@ use Rattle.std.specs.List.{AllByRecursion, count_by, filter, flat_map, list_any,
 use Rattle.std.proofs.lemmas.Bool.{cases_Bool, cases_lt, ltb-true, or_left, or_right}
 use Rattle.std.proofs.lemmas.List.Folds.{list_any-append}
 use Rattle.std.proofs.lemmas.List.FromFn.{get_or-map-range_with_len, length-map-range_with_len, map-range_with_len_more}
-use Rattle.std.proofs.lemmas.List.Sums.{sum_by-cons}
-use Rattle.vpc_laws.proofs.Numbering.{found-at}
+use Rattle.vpc_base.proofs.Members.{nothing-append}
+use Rattle.vpc_base.proofs.Positions.{found-at}
+use Rattle.vpc_base.proofs.Tests.{count_by-cons}
 use Rattle.vpc_model.specs.Accepted.{repeats, repeats_after}
 use Rattle.made_network.specs.Made.{for_each}
 
@@ -21,16 +22,13 @@ later-one a n k one = (omega (arith, one.0), omega (arith, one.1))
 
 -- ---- lists of which nothing is left
 
-pub append-none : {X : Type 0} (xs ys : List X) → xs ≡ [] → ys ≡ [] → xs ++ ys ≡ []
-append-none xs ys e f = rw (e, f)
-
 pub flat_map-none : {X Y : Type 0} (f : X → List Y) (xs : List X) → AllByRecursion (λ x. f x ≡ []) xs → flat_map f xs ≡ []
 flat_map-none f [] all = refl
-flat_map-none f (x ∷ xs) all = append-none (f x) (flat_map f xs) all.0 (flat_map-none f xs all.1)
+flat_map-none f (x ∷ xs) all = nothing-append (f x) (flat_map f xs) all.0 (flat_map-none f xs all.1)
 
 pub flat_map-each : {X Y : Type 0} (f : X → List Y) (row : ℕ → X) (a n : ℕ) → ((k : ℕ) → IsOneOf a n k → f (row k) ≡ []) → flat_map f (map row (range_with_len a n)) ≡ []
 flat_map-each f row a zero none = refl
-flat_map-each f row a (suc n) none = append-none (f (row a)) (flat_map f (map row (range_with_len (a + 1) n))) (none a (first-one a n)) (flat_map-each f row (a + 1) n (λ k one. none k (later-one a n k one)))
+flat_map-each f row a (suc n) none = nothing-append (f (row a)) (flat_map f (map row (range_with_len (a + 1) n))) (none a (first-one a n)) (flat_map-each f row (a + 1) n (λ k one. none k (later-one a n k one)))
 
 pub filter-each : {X : Type 0} (p : X → Bool) (row : ℕ → X) (a n : ℕ) → ((k : ℕ) → IsOneOf a n k → p (row k) ≡ false) → filter p (map row (range_with_len a n)) ≡ []
 filter-each p row a zero none = refl
@@ -87,21 +85,18 @@ found-each p row a n k d one passes only =
 
 -- ---- how many rows pass
 
-count-cons : {X : Type 0} (p : X → Bool) (x : X) (xs : List X) → count_by p (x ∷ xs) ≡ cond (p x) 1 0 + count_by p xs
-count-cons p x xs = sum_by-cons (λ y. cond (p y) 1 0) x xs
-
 pub count-none : {X : Type 0} (p : X → Bool) (row : ℕ → X) (a n : ℕ) → ((k : ℕ) → IsOneOf a n k → p (row k) ≡ false) → count_by p (map row (range_with_len a n)) ≡ 0
 count-none p row a zero none = refl
 count-none p row a (suc n) none =
     let rest = map row (range_with_len (a + 1) n) in
-    count-cons p (row a) rest ∙ rw (none a (first-one a n), count-none p row (a + 1) n (λ k one. none k (later-one a n k one)))
+    count_by-cons p (row a) rest ∙ rw (none a (first-one a n), count-none p row (a + 1) n (λ k one. none k (later-one a n k one)))
 
 pub count-one : {X : Type 0} (p : X → Bool) (row : ℕ → X) (a n only : ℕ) → ((k : ℕ) → IsOneOf a n k → p (row k) ≡ true → k ≡ only) → count_by p (map row (range_with_len a n)) ≤ 1
 count-one p row a zero only alone = omega arith
 count-one p row a (suc n) only alone =
     let rest = map row (range_with_len (a + 1) n) in
     let later = count-one p row (a + 1) n only (λ k one. alone k (later-one a n k one)) in
-    let first = count-cons p (row a) rest in
+    let first = count_by-cons p (row a) rest in
     elim (cases_Bool (p (row a))) [
       | inl passes ↦
           let same = alone a (first-one a n) passes in

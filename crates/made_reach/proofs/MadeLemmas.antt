@@ -1,8 +1,8 @@
 -- What is asked of a generated network, and what is printed of it.
 use Rattle.std.proofs.Common.{◌≡◌, ◌∙◌, ◌+◌, ◌-◌, ◌++◌, ◌<◌, ◌≤◌, ◌∷◌, [], List, ap, append-nil, append_assoc, arith, codes, decimal, le_refl, map-id, nat_lt, refl, subst, sym, true, ℕ}
 use Rattle.std.specs.List.{range_with_len}
-use Rattle.std.proofs.lemmas.Bool.Decides.{nat_tests}
 use Rattle.std.proofs.lemmas.List.FromFn.{length-map-range_with_len, map-range_with_len_more}
+use Rattle.std.proofs.lemmas.Bool.{lt-ltb}
 use Rattle.block_report.specs.Words.{word}
 use Rattle.made_network.specs.Made.{host_address, interface_id, made, made_interface}
 use Rattle.network_reach.specs.Reached.{IsQueryIn}
@@ -15,11 +15,8 @@ use Rattle.made_reach.specs.Made.{Adds, ArePairs, IsPair, IsSurvey, requests_to,
 
 -- ---- queries
 
-is-below : (j n : ℕ) → j < n → nat_lt j n ≡ true
-is-below j n below = grind (arith, nat_tests)
-
 host-end : (n j : ℕ) → j < n → is_end (made n) (places.Interface (record { 0 = j })) ≡ true
-host-end n j below = ap (nat_lt j) (length-map-range_with_len made_interface 1 n) ∙ is-below j n below
+host-end n j below = ap (nat_lt j) (length-map-range_with_len made_interface 1 n) ∙ lt-ltb j n below
 
 is-query : (n : ℕ) (goal : End) (addresses : ℕ × ℕ) → 1 ≤ n → is_end (made n) goal ≡ true → addresses.0 ≤ addresses.1 → IsQueryIn (made n) (requests_to goal addresses)
 is-query n goal addresses some there range = record {

@@ -7,7 +7,7 @@ use Rattle.std.proofs.lemmas.Bool.{cases_Bool}
 use Rattle.std.proofs.lemmas.Bool.Decides.{nat_tests}
 use Rattle.std.proofs.lemmas.List.Folds.{list_any-append}
 use Rattle.vpc_base.specs.Header.{opening_of}
-use Rattle.conn_tracking.proofs.Lookups.{answers_open, list_any-take-drop}
+use Rattle.conn_tracking.proofs.Lookups.{answers_open}
 use Rattle.nat_gateway.specs.declared.sent.Sent.{Sent}
 use Rattle.nat_gateway.specs.Sent.{flow_of, same_sent, with_port}
 use Rattle.nat_gateway.specs.declared.parts.Afters.{Afters}
@@ -15,13 +15,14 @@ use Rattle.nat_gateway.specs.declared.parts.Befores.{Befores}
 use Rattle.nat_gateway.specs.declared.parts.Counts.{Counts}
 use Rattle.nat_gateway.specs.Parts.{HasAfters, HasBefores, HasCounts, IsKept}
 use Rattle.nat_gateway.specs.Tables.{AllUsed, AreCounts, ArePorts, AreValues, IsFirst, SameUsed, is_taken_beside, is_used, made_into, value_at}
-use Rattle.nat_gateway.proofs.Lists.{count_by-push, count_by-take-drop, first_free-alike, first_free-nothing, first_free-over, found-take-drop, free_here, free_later}
+use Rattle.nat_gateway.proofs.Lists.{count_by-take-drop, first_free-alike, first_free-nothing, first_free-over, found-take-drop, free_here, free_later}
 use Rattle.nat_gateway.proofs.Runs.{IsPut}
 use Rattle.nat_gateway.proofs.Values.{first-longer, same_sent-true}
 use Rattle.vpc_laws.proofs.Books.{IsBook-nil}
 use Rattle.vpc_laws.specs.Translations.{IsBook}
 use Rattle.vpc_base.specs.declared.headers.Header.{Header}
 use Rattle.vpc_base.specs.Header.{reply_of}
+use Rattle.vpc_base.proofs.Tests.{count_by-push, list_any-take-drop}
 use Rattle.vpc_model.specs.declared.numbers.NatNo.{NatNo}
 use Rattle.vpc_model.specs.Connections.{is_header, same_header}
 use Rattle.vpc_model.specs.Nat.{Translation, first_free, inward, is_full, is_taken, shares}
@@ -216,10 +217,6 @@ ports-taken old new ts t key e put all =
     ports-take old new ts t (subst (λ (s : Sent). IsPut old new s (s.header.p + 1)) e (record { at = put })) all
 
 -- ---- answers of a call
-
-pub on_ok-map : {X E : Type 0} (r : Result X E) {P Q : Type 0} → (P → Q) → OnOk r P → OnOk r Q
-on_ok-map (Ok x) f p = f p
-on_ok-map (Err e) f p = p
 
 pub either : {X E : Type 0} (r : Result X E) {P Q R : Type 0} → OnOk r P → OnErr r Q → (P → R) → (Q → R) → R
 either (Ok x) p q f g = f p

@@ -1,5 +1,4 @@
 pub mod Additions
-pub mod Books
 pub mod Lists
 pub mod Runs
 pub mod SentLemmas

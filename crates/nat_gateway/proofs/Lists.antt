@@ -1,17 +1,14 @@
 -- Lists in two parts, and searches for a free port.
-use Rattle.std.proofs.Common.{◌≡◌, ◌≤◌, ◌<◌, ◌+◌, ◌-◌, ℕ, zero, suc, Bool, true, false, List, [], ◌∷◌, ◌++◌, Option, Some, None, cond, refl, sym, ap, ◌∙◌, take, drop, arith}
+use Rattle.std.proofs.Common.{◌≡◌, ◌≤◌, ◌<◌, ◌+◌, ◌-◌, ℕ, zero, suc, Bool, true, false, List, Option, Some, None, cond, refl, sym, ap, ◌∙◌, take, drop, arith}
 use Rattle.std.specs.List.{count_by, find}
 use Rattle.std.specs.Option.{option_map, option_or}
 use Rattle.std.proofs.lemmas.List.{take-append-drop}
 use Rattle.std.proofs.lemmas.List.Folds.{find-append}
-use Rattle.std.proofs.lemmas.List.Sums.{sum_by-cons, sum_by-take-drop}
+use Rattle.std.proofs.lemmas.List.Sums.{sum_by-take-drop}
+use Rattle.vpc_base.proofs.Options.{option_map-or}
 use Rattle.vpc_model.specs.Nat.{first_free}
 
 -- ---- lists
-
-pub option_map-or : {X Y : Type 0} (f : X → Y) (a b : Option X) → option_map f (option_or a b) ≡ option_or (option_map f a) (option_map f b)
-option_map-or f (Some x) b = refl
-option_map-or f None b = refl
 
 -- a search of a list is that of its first k items, or else that of the rest
 pub find-take-drop : {X : Type 0} (p : X → Bool) (k : ℕ) (xs : List X) → find p xs ≡ option_or (find p (take k xs)) (find p (drop k xs))
@@ -23,14 +20,6 @@ found-take-drop f p k xs = ap (option_map f) (find-take-drop p k xs) ∙ option_
 
 pub count_by-take-drop : {X : Type 0} (p : X → Bool) (k : ℕ) (xs : List X) → count_by p (take k xs) + count_by p (drop k xs) ≡ count_by p xs
 count_by-take-drop p k xs = sum_by-take-drop (λ x. cond (p x) 1 0) xs k
-
-pub count_by-push : {X : Type 0} (p : X → Bool) (xs : List X) (x : X) → count_by p (xs ++ x ∷ []) ≡ count_by p xs + cond (p x) 1 0
-count_by-push p [] x = let e = sum_by-cons (λ y. cond (p y) 1 0) x [] in omega arith
-count_by-push p (y ∷ ys) x =
-    let long = sum_by-cons (λ z. cond (p z) 1 0) y (ys ++ x ∷ []) in
-    let short = sum_by-cons (λ z. cond (p z) 1 0) y ys in
-    let rest = count_by-push p ys x in
-    omega arith
 
 -- ---- free ports
 

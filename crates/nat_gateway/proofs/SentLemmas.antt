@@ -1,5 +1,5 @@
 -- Opens and answers on images at a NAT gateway.
-use Rattle.std.proofs.Common.{◌≡◌, ◌<◌, ◌+◌, ◌-◌, ◌==◌, ◌&&◌, ◌||◌, ◌∷◌, [], ℕ, suc, zero, Bool, List, None, Option, Some, true, false, arith, ap, cond, count_by, if◌then◌else◌, find, option_and_then, refl, subst, sym, ◌∙◌, ⊎_elim}
+use Rattle.std.proofs.Common.{◌≡◌, ◌<◌, ◌+◌, ◌-◌, ◌==◌, ◌&&◌, ◌∷◌, [], ℕ, suc, zero, Bool, List, None, Option, Some, true, false, arith, ap, cond, count_by, if◌then◌else◌, find, option_and_then, refl, subst, sym, ◌∙◌, ⊎_elim}
 use Rattle.std.specs.List.{Contains, list_any}
 use Rattle.std.proofs.lemmas.Bool.{eq-eqb, or_parts}
 use Rattle.std.proofs.lemmas.List.Elements.{All-cons, All-nil}
@@ -24,7 +24,7 @@ use Rattle.box_images.specs.declared.fields.Side.TheVariants.{P, Proto}
 use Rattle.box_images.specs.declared.images.Image.{Image}
 use Rattle.box_images.specs.declared.images.Part.{Part}
 use Rattle.box_images.proofs.BodyLemmas.{body_through}
-use Rattle.box_images.proofs.LawLemmas.{answers_follow, bodies_are_aligned}
+use Rattle.box_images.proofs.LawLemmas.{bodies_are_aligned}
 use Rattle.conn_tracking.specs.OnImages.{GivesReply, TellsReply}
 use Rattle.conn_tracking.proofs.ReplyCuts.{cut_inside, range_inside}
 use Rattle.cut_laws.specs.Dividing.{Divide, DivideAddresses}
@@ -84,22 +84,6 @@ tells_protocol i n x e first past told body ends = record {
       (cut_inside cuts i.part i.proto Proto n e (d.proto n first))
       (cut_inside cuts i.part i.proto Proto (n + 1) e (d.proto (n + 1) past)));
 }
-
--- the first of two tests decides, where it holds
-pub tells_first : (D : CutLists → Type 0) (f g : Header → Bool) (part : Box5) (x : Part Bool) → Answers D f part x → x.told ≡ true
-    → Answers D (λ h. f h || g h) part x
-tells_first D f g part x k e = record { told = λ h t. e ∙ sym (ap (λ (b : Bool). b || g h) (sym (k.told h t) ∙ e)); body = k.body; aligned = k.aligned }
-
--- and the second one, where the first doesn't
-pub tells_second : (D : CutLists → Type 0) (f g : Header → Bool) (part : Box5) (x y : Part Bool) → Answers D f part x → x.told ≡ false
-    → Answers D g x.body y → Answers D (λ h. f h || g h) part y
-tells_second D f g part x y k e l =
-    answers_follow D (λ h. f h || g h) x.body part y k.body k.aligned
-    (record {
-      told = λ h t. l.told h t ∙ sym (ap (λ (b : Bool). b || g h) (sym (k.told h (holds_whole h y.body x.body l.body.within t)) ∙ e));
-      body = l.body;
-      aligned = l.aligned;
-    })
 
 -- ---- outward
 

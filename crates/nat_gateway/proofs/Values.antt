@@ -1,19 +1,21 @@
 -- Look-ups in tables, and what they have of the first entries of a list.
-use Rattle.std.proofs.Common.{◌≡◌, ◌<◌, ◌+◌, ◌==◌, ℕ, Bool, true, false, List, [], ◌∷◌, ◌++◌, Option, Some, None, cond, refl, sym, ap, ◌∙◌, get_or, inl, inr, is_some, length, length-append, subst, take, add-one, arith}
+use Rattle.std.proofs.Common.{◌≡◌, ◌<◌, ◌+◌, ◌==◌, ℕ, Bool, true, false, List, [], ◌∷◌, ◌++◌, Option, Some, None, cond, refl, sym, ap, ◌∙◌, get_or, inl, inr, is_some, length, length-append, subst, take, add-one, arith, ap₂}
 use Rattle.std.specs.List.{find}
 use Rattle.std.specs.Map.{lookup}
 use Rattle.std.specs.Option.{option_map, option_or}
 use Rattle.std.specs.Ordering.{is_eq, nat_cmp}
+use Rattle.std.proofs.Math.Bool.{and_comm}
 use Rattle.std.proofs.Math.Seq.{take-suc}
 use Rattle.std.proofs.lemmas.Bool.{and_parts, cases_Bool}
 use Rattle.std.proofs.lemmas.List.{take-append-le}
 use Rattle.std.proofs.lemmas.List.Folds.{find-append}
 use Rattle.conn_tracking.specs.Order.{order_by_ports}
-use Rattle.conn_tracking.proofs.Lookups.{and-flip, is_eq-number, is_eq-then, order_by_ports_is_same}
+use Rattle.conn_tracking.proofs.Lookups.{is_eq-number, is_eq-then, order_by_ports_is_same}
 use Rattle.nat_gateway.specs.declared.sent.Sent.{Sent}
 use Rattle.nat_gateway.specs.Sent.{order_of_sent, same_sent}
 use Rattle.nat_gateway.specs.Tables.{AreValues, IsFirst, value_at}
 use Rattle.vpc_base.specs.declared.headers.Header.{Header}
+use Rattle.vpc_base.proofs.Options.{none_if}
 use Rattle.vpc_laws.proofs.Same.{NatNo-same, same_header-true}
 use Rattle.vpc_model.specs.declared.numbers.NatNo.{NatNo}
 use Rattle.vpc_model.specs.Connections.{same_header}
@@ -30,16 +32,13 @@ order_is_same_sent : (a b : Sent) → is_eq (order_of_sent a b) ≡ same_sent a 
 order_is_same_sent a b =
     is_eq-then (order_by_ports a.header b.header) (nat_cmp a.nat.0 b.nat.0) (same_header a.header b.header) (a.nat.0 == b.nat.0)
     (order_by_ports_is_same a.header b.header) (is_eq-number a.nat.0 b.nat.0)
-    ∙ and-flip (same_header a.header b.header) (a.nat.0 == b.nat.0)
-
-two : {A B C : Type 0} (make : A → B → C) (a c : A) (b d : B) → a ≡ c → b ≡ d → make a b ≡ make c d
-two make a c b d e f = cc
+    ∙ and_comm (same_header a.header b.header) (a.nat.0 == b.nat.0)
 
 pub same_sent-true : (a b : Sent) → same_sent a b ≡ true → a ≡ b
 same_sent-true a b e =
     let parts = and_parts (a.nat.0 == b.nat.0) (same_header a.header b.header) e in
     let make : NatNo → Header → Sent = λ n h. record { nat = n; header = h } in
-    two make a.nat b.nat a.header b.header (NatNo-same a.nat b.nat parts.0) (same_header-true a.header b.header parts.1)
+    ap₂ make (NatNo-same a.nat b.nat parts.0) (same_header-true a.header b.header parts.1)
 
 -- ---- tables
 
@@ -138,13 +137,9 @@ pub values_had : {W : Type 0} (key_of : Translation → Sent) (value_of : Transl
 values_had key_of value_of table ts t key r e is some all =
     values_keep key_of value_of table ts t (ap (λ (s : Sent). is_some (value_at table s)) (sym e) ∙ ap is_some (sym is) ∙ some) all
 
-no_value : {W : Type 0} (r : Option W) → is_some r ≡ false → r ≡ None
-no_value None e = refl
-no_value (Some v) e = cc
-
 pub values_added : {W : Type 0} (key_of : Translation → Sent) (value_of : Translation → W) (old more : List (Sent × W)) (ts : List Translation) (t : Translation) (key : Sent) (v : W) (r : Option W)
     → key ≡ key_of t → v ≡ value_of t → r ≡ value_at old key → is_some r ≡ false → ((k : Sent) → value_at more k ≡ cond (same_sent key k) (Some v) (value_at old k))
     → AreValues key_of value_of old ts → AreValues key_of value_of more (ts ++ t ∷ [])
 values_added {W = W} key_of value_of old more ts t key v r e f is none put all =
-    values_put key_of value_of old more ts t (ap (value_at old) (sym e) ∙ sym is ∙ no_value r none)
+    values_put key_of value_of old more ts t (ap (value_at old) (sym e) ∙ sym is ∙ none_if r none)
     (λ k. put k ∙ ap (λ (s : Sent). cond (same_sent s k) (Some v) (value_at old k)) e ∙ ap (λ (x : W). cond (same_sent (key_of t) k) (Some x) (value_at old k)) f) all

@@ -9,6 +9,7 @@ use Rattle.std.proofs.lemmas.List.Elements.{All-head, All-tail, filter_passes}
 use Rattle.std.proofs.lemmas.List.Sorted.{All-permutation, IsPermutation-refl}
 use Rattle.vpc_base.specs.declared.headers.Dir.{Dir}
 use Rattle.vpc_base.specs.declared.headers.Header.{Header}
+use Rattle.vpc_base.proofs.Tests.{find-kept}
 use Rattle.vpc_model.specs.declared.rows.AclRow.{AclRow}
 use Rattle.vpc_model.specs.Acls.{acl_matches, acl_verdict, is_of_dir, verdict_of_row}
 use Rattle.vpc_model.specs.Choice.{chosen, is_unbeaten}
@@ -24,16 +25,6 @@ list_any-kept p d implies (x ∷ xs) =
       | inr dropped ↦
           let fails : p x ≡ false = false_from_ne_true (p x) (λ passes. both_ways (d x) dropped (implies x passes)) in
           rw (dropped, fails) (list_any-kept p d implies xs)
-    ]
-
-find-kept : {X : Type 0} (p d : X → Bool) → ((x : X) → p x ≡ true → d x ≡ true) → (xs : List X) → find p (filter d xs) ≡ find p xs
-find-kept p d implies [] = refl
-find-kept p d implies (x ∷ xs) =
-    elim (cases_Bool (d x)) [
-      | inl kept ↦ elim (cases_Bool (p x)) [ inl passes ↦ rw (kept, passes) refl | inr fails ↦ rw (kept, fails) (find-kept p d implies xs) ]
-      | inr dropped ↦
-          let fails : p x ≡ false = false_from_ne_true (p x) (λ passes. both_ways (d x) dropped (implies x passes)) in
-          rw (dropped, fails) (find-kept p d implies xs)
     ]
 
 -- so does what is chosen

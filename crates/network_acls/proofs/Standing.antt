@@ -4,7 +4,7 @@ use Rattle.std.proofs.lemmas.Bool.Decides.{nat_tests}
 use Rattle.std.proofs.lemmas.List.Elements.{Contains-get_or}
 use Rattle.std.proofs.lemmas.List.Sorted.{Contains-permutation, IsPermutation-sym}
 use Rattle.std.specs.List.{filter}
-use Rattle.vpc_laws.proofs.Members.{filter-member}
+use Rattle.vpc_base.proofs.Members.{filter-member}
 use Rattle.vpc_model.specs.Acls.{is_of_dir}
 use Rattle.vpc_model.specs.Cuts.{all_cuts, cuts_of_acl, cuts_of_acl_row, on_sides, standing_cuts}
 use Rattle.vpc_model.specs.Lookup.{acl_at}

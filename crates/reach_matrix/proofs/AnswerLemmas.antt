@@ -1,11 +1,7 @@
 -- What is answered.
-use Rattle.std.proofs.Common.{◌≡◌, ◌∙◌, ◌++◌, ◌<◌, ◌≤◌, Err, IfOk, List, Ok, Result, arith, get_or, length, map, refl, subst, sym, true, None, ℕ}
+use Rattle.std.proofs.Common.{◌≡◌, ◌∙◌, ◌++◌, ◌≤◌, Err, IfOk, List, Ok, Result, arith, get_or, refl, subst, sym, None, ℕ}
 use Rattle.std.specs.Global.{Vec}
-use Rattle.std.specs.List.{All, range_with_len}
-use Rattle.std.proofs.lemmas.Bool.{lt-ltb}
-use Rattle.std.proofs.lemmas.List.Elements.{All-filter}
-use Rattle.std.proofs.lemmas.List.FromFn.{get_or-map-range_with_len, length-map-range_with_len}
-use Rattle.std.proofs.lemmas.List.Sorted.{All-permutation}
+use Rattle.vpc_base.proofs.Numbers.{few-or-many}
 use Rattle.box_walk.specs.Asking.{Asking, asked, stop_of, stopped_of, whether}
 use Rattle.command_job.proofs.Devices.{no_device, query_is_none, yes_is_none}
 use Rattle.command_job.specs.Status.{IsOfDevice}
@@ -15,16 +11,14 @@ use Rattle.header_boxes.specs.Boxes.{IsValid}
 use Rattle.ordered_cover.specs.Ports.{AreOpenPorts}
 use Rattle.vpc_laws.specs.Types.{Box5, Description, EniNo, Verdict}
 use Rattle.vpc_model.specs.Appliances.{appliances_of}
-use Rattle.vpc_model.specs.Lookup.{interface_at}
 use Rattle.vpc_model.specs.Report.{ending_of}
-use Rattle.vpc_model.specs.Sound.{is_eni}
 use Rattle.vpc_model.specs.Verdict.{verdict_of}
 use Rattle.vpc_model.specs.declared.outcomes.Verdict.TheVariants as verdicts
 use Rattle.vpc_model.specs.declared.places.End.TheVariants as places
 use Rattle.network_reach.specs.Reached.{meaning_in}
 use Rattle.reach_matrix.specs.Answered.{IsMatrixAnswered, IsMatrixDecided, host_limit}
 use Rattle.reach_matrix.specs.Answered as matrix
-use Rattle.described_hosts.specs.Hosts.{AreHostsById, host_count, hosts_of, is_host, numbered}
+use Rattle.described_hosts.specs.Hosts.{host_count}
 use Rattle.reach_matrix.specs.Pairs.{address_of, query_between, requests_between}
 use Rattle.reach_matrix.specs.Ranges.{ArePairRanges}
 use Rattle.reach_matrix.specs.Words.{ports_asked}
@@ -55,25 +49,10 @@ pub valid_between : (src dst : ℕ) (ports : ℕ × ℕ) (sides : Box5) → port
 valid_between src dst ports sides some is =
     subst IsValid (sym is) (record { proto = omega arith; src = omega arith; dst = omega arith; p = omega arith; q = some })
 
--- ---- hosts
-
-pub hosts_are_described : (d : Description) (hosts : List EniNo) → AreHostsById d hosts → All (λ i. is_eni d i ≡ true) hosts
-hosts_are_described d hosts are =
-    let n = length d.interfaces in
-    let rows : All (λ (i : EniNo). is_eni d i ≡ true) (map numbered (range_with_len 0 n)) = λ k x below.
-    let long = length-map-range_with_len numbered 0 n in
-    let within : k < n = omega arith in
-    subst (λ (i : EniNo). is_eni d i ≡ true) (sym (get_or-map-range_with_len numbered 0 n k k x within (omega arith))) (lt-ltb k n within) in
-    All-permutation (λ (i : EniNo). is_eni d i ≡ true) (hosts_of d) hosts are.all
-    (All-filter (λ (i : EniNo). is_host (interface_at d i)) (λ (i : EniNo). is_eni d i ≡ true) (map numbered (range_with_len 0 n)) rows)
-
 -- ---- completeness
 
 same-ports : (words : List (List ℕ)) (p q : ℕ × ℕ) → ports_asked words ≡ Ok p → ports_asked words ≡ Ok q → p ≡ q
 same-ports words p q a b = let same : Ok p ≡ Ok q = sym a ∙ b in cc
-
-few-or-many : (count limit : ℕ) → limit < count → count ≤ limit → ⊥
-few-or-many count limit many few = omega arith
 
 -- where the words are right and the hosts few enough, it ends well
 pub matrix_is_decided : (d : Description) (words : List (List ℕ)) (status : Status) (text : List ℕ) → IsMatrixAnswered d words status text → IsMatrixDecided d words status

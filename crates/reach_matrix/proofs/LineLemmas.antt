@@ -6,6 +6,7 @@ use Rattle.std.proofs.lemmas.Grind.{flat_map-append}
 use Rattle.std.proofs.lemmas.List.{map-append, take_more}
 use Rattle.std.proofs.lemmas.List.Elements.{filter-append}
 use Rattle.block_report.specs.Words.{line_end}
+use Rattle.block_report.proofs.Texts.{append_parts}
 use Rattle.vpc_laws.specs.Types.{Description, EniNo}
 use Rattle.reach_matrix.specs.Matrix.{Adds, AreTexts, IsPairLine, IsTold, names_text, pairs_from, ranges_text}
 use Rattle.reach_matrix.specs.Matrix as matrix
@@ -77,16 +78,13 @@ told_added d ports pair (Err e) old new ranges slice have are is added = tt
 
 -- ---- a line
 
-line-text : (old names told end : List ℕ) → ((old ++ names) ++ told) ++ end ≡ old ++ (names ++ told ++ end)
-line-text old names told end = rw (append_assoc old names told, append_assoc old (names ++ told) end) refl
-
 pub line_added : {E : Type 0} (d : Description) (ports : ℕ × ℕ) (pair : EniNo × EniNo) (r : Result (Unit {0}) E) (old one two three : List ℕ) → one ≡ old ++ names_text d pair
     → Adds (IsTold d ports pair) one two → OnOk r (three ≡ two ++ line_end) → OnOk r (Adds (IsPairLine d ports pair) old three)
 line_added d ports pair (Ok u) old one two three named (told, (is, added)) ended = (
   names_text d pair ++ told ++ line_end,
   (
     record { told = told; is_told = is; text_is = refl },
-    ended ∙ (ap (λ (t : List ℕ). t ++ line_end) (added ∙ ap (λ (t : List ℕ). t ++ told) named) ∙ line-text old (names_text d pair) told line_end),
+    ended ∙ (ap (λ (t : List ℕ). t ++ line_end) (added ∙ ap (λ (t : List ℕ). t ++ told) named) ∙ append_parts old (names_text d pair) told line_end),
   ),
 )
 line_added d ports pair (Err e) old one two three named adds ended = tt

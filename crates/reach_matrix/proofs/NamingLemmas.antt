@@ -1,7 +1,9 @@
 -- The words of `ask` about a pair give the query about it.
-use Rattle.std.proofs.Common.{◌≡◌, ◌∙◌, ◌<◌, ◌≤◌, ◌&&◌, ◌^◌, Bool, Err, List, None, Ok, Option, Result, Some, ap, arith, bytes_eq, codes, false, is_some, nat_le, not, refl, sym, true, unwrap_or, ℕ}
+use Rattle.std.proofs.Common.{◌≡◌, ◌∙◌, ◌<◌, ◌≤◌, ◌&&◌, ◌^◌, Bool, Err, List, None, Ok, Option, Result, Some, ap, arith, bytes_eq, codes, false, is_some, nat_le, refl, true, unwrap_or, ℕ}
 use Rattle.std.specs.Prelude.{if◌then◌else◌, ok_or}
-use Rattle.std.proofs.lemmas.Bool.Decides.{nat_tests}
+use Rattle.std.proofs.lemmas.Bool.{le-leb, not-true}
+use Rattle.vpc_base.proofs.Bytes.{bytes_self}
+use Rattle.vpc_base.proofs.Members.{member-list_any, row-member}
 use Rattle.prefix_text.specs.Range.{range_of, range_text}
 use Rattle.prefix_text.proofs.RangeLaws.{range_of-range_text}
 use Rattle.query_words.specs.Ends.{end_at, end_of, ends_of, not_both}
@@ -12,8 +14,7 @@ use Rattle.query_words.specs.Sides.{primary_side, sides_of}
 use Rattle.query_words.specs.declared.queries.Query.{Query}
 use Rattle.query_words.specs.declared.refusal.QueryRefusal.{QueryRefusal}
 use Rattle.query_words.specs.declared.refusal.QueryRefusal.TheVariants as refusals
-use Rattle.vpc_laws.proofs.Members.{member-list_any}
-use Rattle.vpc_laws.proofs.Numbering.{accepted_numbers_are_own, bytes_self, row-member}
+use Rattle.vpc_laws.proofs.Numbering.{accepted_numbers_are_own}
 use Rattle.vpc_laws.specs.Types.{Box5, Description, End, EniNo, Interface}
 use Rattle.vpc_model.specs.Accepted.{IsAccepted}
 use Rattle.vpc_model.specs.Lookup.{eni_no, has_interface, interface_at, no_interface}
@@ -38,17 +39,13 @@ is-there d i can =
     let e = interface_at d i in
     member-list_any (λ (x : Interface). bytes_eq x.id (id_of d i)) d.interfaces e (row-member d.interfaces i.0 no_interface can.addressed.described) (bytes_self e.id)
 
-no-gateway : (b : Bool) → not b ≡ true → b ≡ false
-no-gateway true e = sym e
-no-gateway false e = refl
-
 end-is : (d : Description) (n : ℕ) (i : EniNo) → IsAccepted d → CanBeAsked d i
     → (let id = id_of d i in if bytes_eq id (codes "internet") then Ok places.Internet else (if has_interface d id then end_at d (eni_no d id) else Err (refusals.UnknownId n))) ≡ Ok (places.Interface i)
 end-is d n i accepted can =
     let own = accepted_numbers_are_own d accepted in
     let e = interface_at d i in
     chosen (bytes_eq (id_of d i) (codes "internet")) (has_interface d (id_of d i)) n (end_at d (eni_no d (id_of d i))) i can.named (is-there d i can)
-    (ap (end_at d) (own.interface i can.addressed.described) ∙ host-end d i (no-gateway (is_gateway e.kind) can.host))
+    (ap (end_at d) (own.interface i can.addressed.described) ∙ host-end d i (not-true (is_gateway e.kind) can.host))
 
 two-ends : (first second : Result End QueryRefusal) (start goal : End) → first ≡ Ok start → second ≡ Ok goal
     → (first >>= (λ s. second >>= (λ g. not_both s g))) ≡ not_both start goal
@@ -69,13 +66,10 @@ range-read o ports is proper = rw (is, proper) refl
 taken-value : {A B T : Type 0} (take : A → T) (rest : T → Result B QueryRefusal) (r : Result A QueryRefusal) (a : A) → r ≡ Ok a → ((r >>= (λ x. Ok (take x))) >>= rest) ≡ rest (take a)
 taken-value take rest r a is = rw is refl
 
-is-proper : (a b : ℕ) → a ≤ b → nat_le a b ≡ true
-is-proper a b le = grind (arith, nat_tests)
-
 pairs-are : (file : List ℕ) (d : Description) (pair : EniNo × EniNo) (ports : ℕ × ℕ) → ports.0 ≤ ports.1 → ports.1 < 65536
     → pairs_of (words_about file d pair ports) ≡ Ok (record { proto = 6; src = None; dst = None; p = (0, 65535); q = ports; max = 20000 })
 pairs-are file d pair ports proper within =
-    let read = range-read (range_of (range_text ports)) ports (range_of-range_text ports (omega arith) (omega arith)) (is-proper ports.0 ports.1 proper) in
+    let read = range-read (range_of (range_text ports)) ports (range_of-range_text ports (omega arith) (omega arith)) (le-leb ports.0 ports.1 proper) in
     taken-value _ _ (ok_or (range_of (range_text ports)) (refusals.BadWord 8) >>= some_ports 8) ports read
 
 -- ---- sides

@@ -6,6 +6,7 @@ use Rattle.header_boxes.specs.Boxes.{holds}
 use Rattle.header_boxes.specs.Rows.{IsFirst, NoneThrough}
 use Rattle.header_boxes.specs.declared.boxes.Box5.{Box5}
 use Rattle.network_reach.specs.Reached.{meaning_in}
+use Rattle.network_reach.proofs.ReachableLemmas.{nothing-stops}
 use Rattle.ordered_cover.specs.Ports.{AreOpenPorts, IsOpenPort, is_in_ranges}
 use Rattle.vpc_laws.specs.Types.{Description, EniNo, Header, Verdict}
 use Rattle.vpc_model.specs.Appliances.{appliances_of}
@@ -70,10 +71,6 @@ among meaning src dst ports port h least most held through =
 
 -- ---- verdicts
 
-untold : (d : Description) (v : Verdict) → ending_of d v ≡ None → v ≡ verdicts.Through
-untold d verdicts.Through e = refl
-untold d (verdicts.Stopped phase s) e = absurd cc
-
 ended : (d : Description) (v : Verdict) → v ≡ verdicts.Through → ending_of d v ≡ None
 ended d v is = rw is refl
 
@@ -86,7 +83,7 @@ ports_are_answered d ports pair ranges port are least most =
     let meaning = meaning_in d query in (
       λ e.
           let p = alone meaning query.sides.src.0 query.sides.dst.0 ports port ((are.hold port).0 e) in
-          record { header = p.header; inside = p.inside; through = untold d (verdict_of d (appliances_of d) query.start query.goal p.header) p.through },
+          record { header = p.header; inside = p.inside; through = nothing-stops d (verdict_of d (appliances_of d) query.start query.goal p.header) p.through },
       λ some. (are.hold port).1 (among meaning query.sides.src.0 query.sides.dst.0 ports port some.header least most some.inside (ended d (verdict_of d (appliances_of d) query.start query.goal some.header) some.through)),
     )
 

@@ -3,8 +3,8 @@ use Rattle.std.proofs.Common.{◌≡◌, ◌∙◌, ◌++◌, ◌∷◌, ◌+◌
 use Rattle.std.specs.Prelude.{is_some, if◌then◌else◌}
 use Rattle.std.specs.Map.{lookup}
 use Rattle.std.proofs.lemmas.Slice.Eq.{bytes_eq-Decides}
+use Rattle.vpc_base.proofs.Steps.{drop-next}
 use Rattle.read_filters.specs.GroupRules.{number_from, number_in}
-use Rattle.read_filters.proofs.RuleLemmas.{drop-next}
 
 -- the number, or else another one
 abbrev pub or_else : Option ℕ → Option ℕ → Option ℕ

@@ -1,6 +1,7 @@
 -- Rules read row by row.
-use Rattle.std.proofs.Common.{◌≡◌, ◌∙◌, ◌++◌, ◌∷◌, ◌+◌, ◌<◌, ℕ, suc, List, Option, Result, Ok, Err, refl, ap, subst, sym, map, drop, drop-cons, get_or, length, add-one, append_assoc, codes}
+use Rattle.std.proofs.Common.{◌≡◌, ◌∙◌, ◌++◌, ◌+◌, ◌<◌, ℕ, List, Option, Result, Ok, Err, refl, ap, subst, sym, map, drop, get_or, length, append_assoc, codes}
 use Rattle.std.specs.Prelude.{IsErrAnd, option_to_list}
+use Rattle.vpc_base.proofs.Steps.{drop-next}
 use Rattle.serde_json.specs.Data.{Data}
 use Rattle.json_fields.specs.FieldFault.{Reads, and_then}
 use Rattle.json_fields.specs.Paths.{at_row}
@@ -8,10 +9,6 @@ use Rattle.json_fields.specs.declared.fault.FieldFault.{FieldFault}
 use Rattle.json_fields.specs.declared.fault.FieldFault.TheVariants.{WrongShape, BadText, Memory}
 use Rattle.read_filters.specs.GroupRules.{rule_if, rules_from, seen_with}
 use Rattle.read_filters.specs.declared.group_rules.GroupRule.{GroupRule}
-
--- the item of this number and those after it
-pub drop-next : {R : Type 0} (rows : List R) (k : ℕ) (row : R) → k < length rows → row ≡ get_or rows k row → drop k rows ≡ row ∷ drop (k + 1) rows
-drop-next rows k row within at = rw (add-one, drop-cons rows k row within) (ap (λ x. x ∷ drop (suc k) rows) (sym at))
 
 -- one more row
 pub rules_from-step : {R : Type 0} (shown : R → Data) (number_of : List ℕ → Option ℕ) (seen : List (List ℕ)) (rows : List R) (k : ℕ) (row : R) (all : List GroupRule)

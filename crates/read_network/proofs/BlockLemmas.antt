@@ -2,8 +2,9 @@
 use Rattle.std.proofs.Common.{◌≡◌, ◌∙◌, ◌++◌, ◌∷◌, ◌&&◌, ◌==◌, ◌<◌, ◌+◌, ℕ, suc, not, refl, ap, get_or, drop, drop-cons, add-one, length, Bool, true, false, List, [], arith, map, sym}
 use Rattle.std.specs.List.{list_any}
 use Rattle.std.proofs.lemmas.Bool.Decides.{nat_tests}
+use Rattle.vpc_base.proofs.Tests.{list_any-map}
 use Rattle.prefix_text.specs.Block.{Block}
-use Rattle.json_fields.proofs.KeptLemmas.{unseen, unseen-none, kept-new, dropped-seen, list_any-map}
+use Rattle.json_fields.proofs.KeptLemmas.{unseen, unseen-none, kept-new, dropped-seen}
 use Rattle.read_network.specs.Vpcs.{each_once, same_block}
 
 abbrev pub itself : Block → Block
@@ -51,4 +52,4 @@ not-true false e = refl
 -- the block is among those that are kept by their numbers
 pub list_any-same_block : (first length : ℕ) (b : Block) (keys : List (ℕ × ℕ)) → first ≡ b.first → length ≡ b.length
     → list_any (λ k. (first == k.0) && (length == k.1)) keys ≡ list_any (same_block b) (map (λ k. record { first = k.0; length = k.1 }) keys)
-list_any-same_block first length b keys at_first at_length = rw (at_first, at_length) (sym (list_any-map (λ k. record { first = k.0; length = k.1 }) (same_block b) keys))
+list_any-same_block first length b keys at_first at_length = rw (at_first, at_length) (sym (list_any-map (same_block b) (λ k. record { first = k.0; length = k.1 }) keys))

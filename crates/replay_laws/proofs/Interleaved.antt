@@ -2,11 +2,12 @@
 use Rattle.std.proofs.Common.{◌≡◌, ◌==◌, ◌&&◌, ◌⊎◌, ◌∙◌, ◌∷◌, ◌++◌, [], List, None, Option, Some, ap, inl, inr, not, refl, subst, sym, true, ℕ}
 use Rattle.std.specs.List.{Contains}
 use Rattle.std.proofs.lemmas.Bool.{and_parts, cond_both}
-use Rattle.std.proofs.lemmas.Option.{none-some}
+use Rattle.std.proofs.lemmas.Option.{none-some, same_Some}
 use Rattle.vpc_base.specs.Dir.{same_dir}
 use Rattle.vpc_base.specs.Header.{reply_of}
 use Rattle.vpc_base.specs.declared.headers.Dir.TheVariants.{Inward, Outward}
 use Rattle.vpc_base.specs.declared.headers.Label.TheVariants.{Answer}
+use Rattle.vpc_base.proofs.Members.{list_any-member}
 use Rattle.vpc_model.specs.declared.outcomes.By.TheVariants.{NoGroups, Nothing, Rule, Tracked}
 use Rattle.vpc_model.specs.declared.outcomes.Outcome.TheVariants.{Stopped}
 use Rattle.vpc_model.specs.declared.places.Place.TheVariants.{OutOf, Router, Enter, Into, IgwOut, Internet, IgwIn, NatOut, NatIn, Peer, Tgw, TgwLeave}
@@ -21,12 +22,12 @@ use Rattle.vpc_model.specs.Replay.{moment_of}
 use Rattle.vpc_model.specs.Step.{step_at, step_of}
 use Rattle.vpc_model.specs.Step.Interface.{in_passing, step_into}
 use Rattle.vpc_model.specs.Step.Nat.{from_inward}
-use Rattle.vpc_model.specs.Step.Words.{Moment, Step, go, stop}
+use Rattle.vpc_model.specs.Step.Words.{Moment, Step, stop}
 use Rattle.vpc_model.specs.Walk.{Walk, walk_of}
+use Rattle.vpc_model.proofs.Nexts.{go-header}
 use Rattle.vpc_laws.specs.Step.{AsksGroups, LetsPass, own_connection}
 use Rattle.vpc_laws.specs.Walk.{IsWalk}
 use Rattle.vpc_laws.proofs.Gateways.{inward_answers_opens}
-use Rattle.vpc_laws.proofs.Members.{list_any-member}
 use Rattle.vpc_laws.proofs.Passing.{packets_pass_by_groups}
 use Rattle.vpc_laws.proofs.Replies.{is_header-some}
 use Rattle.vpc_laws.proofs.Same.{EniNo-same, same_dir-true, same_header-true, three}
@@ -54,9 +55,6 @@ hop-before : (d : Description) (appliances : Appliances) (m : Moment) (w : Walk)
 hop-before d appliances m w before after hop next is e = befores_at d appliances m is.rest before after hop next is.follows (sym is.hops ∙ e)
 
 -- ---- into an interface
-
-Some-same : {X : Type 0} (x y : X) → Some x ≡ Some y → x ≡ y
-Some-same x y e = cc
 
 -- what passes groups passes by something
 abbrev IsSomething : Option By → Type 0
@@ -107,10 +105,10 @@ Inward≢Outward e = cc
 
 own_connection-outward : (p : Place) (h : Header) (c : Connection) → own_connection p h ≡ Some c → c.dir ≡ Outward → IsOutward p h c
 own_connection-outward (OutOf i) h c own out =
-    let same = Some-same (record { eni = i; dir = Outward; header = h }) c own in
+    let same = same_Some (record { eni = i; dir = Outward; header = h }) c own in
     record { place = ap (λ (k : Connection). OutOf k.eni) same; header = ap (λ (k : Connection). k.header) same }
 own_connection-outward (Into i) h c own out =
-    let same = Some-same (record { eni = i; dir = Inward; header = h }) c own in
+    let same = same_Some (record { eni = i; dir = Inward; header = h }) c own in
     absurd (Inward≢Outward (ap (λ (k : Connection). k.dir) same ∙ out))
 own_connection-outward (Router s came) h c own out = absurd (none-some c own)
 own_connection-outward (Enter v by) h c own out = absurd (none-some c own)
@@ -212,9 +210,6 @@ nat_in-next d appliances m n nats h here same header =
     subst (λ (g : Header). let step = step_of d appliances Answer m in step.next ≡ from_inward d n (inward nats n g)) header
     (subst (λ (ts : List Translation). let step = step_of d appliances Answer m in step.next ≡ from_inward d n (inward ts n m.header)) same
     (subst (λ (p : Place). let step = step_at d appliances Answer p m in step.next ≡ from_inward d n (inward m.nats n m.header)) (sym here) refl))
-
-go-header : (p q : Place) (h k : Header) → go p h ≡ go q k → h ≡ k
-go-header p q h k e = cc
 
 sent-out : (earlier : List (Event × Walk)) (nats : List Translation) (n : NatNo) (h on : Header)
     → ((t : Translation) → Contains nats t → IsTranslated earlier t) → inward nats n h ≡ Some on → SentOut earlier n h on

@@ -2,14 +2,15 @@
 use Rattle.std.proofs.Common.{◌≡◌, ◌∙◌, ◌∷◌, ◌++◌, [], List, ap, inl, inr, map, refl, subst, sym}
 use Rattle.std.specs.List.{Contains}
 use Rattle.vpc_base.specs.declared.headers.Label.TheVariants.{Answer}
-use Rattle.vpc_laws.specs.Types.{Description, Header, Hop, Outcome, Place, Stop}
+use Rattle.vpc_base.proofs.Members.{Contains-cases, Contains-none}
+use Rattle.vpc_laws.specs.Types.{Description, Hop, Outcome, Stop}
 use Rattle.vpc_model.specs.declared.outcomes.Outcome.TheVariants.{Stopped}
 use Rattle.vpc_model.specs.Appliances.{Appliances}
 use Rattle.vpc_model.specs.Step.{step_of}
 use Rattle.vpc_model.specs.Step.Words.{Moment, go, stop}
+use Rattle.vpc_model.proofs.Nexts.{go≢stop}
 use Rattle.vpc_laws.specs.Walk.{EndsSo, Follows, hop_of, last_moment}
 use Rattle.vpc_laws.proofs.Growth.{answer_adds_nothing}
-use Rattle.vpc_laws.proofs.Members.{Contains-cases, Contains-none}
 use Rattle.replay_laws.specs.Interleaved.{IsLast}
 
 -- ---- one hop
@@ -21,9 +22,6 @@ pub record IsHopAt (d : Description) (appliances : Appliances) (start : Moment) 
   pub conns : moment.conns ≡ start.conns
   pub nats : moment.nats ≡ start.nats
   pub stops : (s : Stop) → (let step = step_of d appliances Answer moment in step.next ≡ stop s) → (outcome ≡ Stopped s) × IsLast hops hop
-
-go≢stop : (p : Place) (h : Header) (s : Stop) → go p h ≡ stop s → ⊥
-go≢stop p h s e = cc
 
 pub hops_at : (d : Description) (appliances : Appliances) (start : Moment) (rest : List Moment) (hops : List Hop) (outcome : Outcome) (hop : Hop)
     → Follows d appliances Answer start rest

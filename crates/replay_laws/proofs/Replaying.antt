@@ -1,13 +1,13 @@
 -- Each event of a replay meets what the events before it made.
 use Rattle.std.proofs.Common.{◌≡◌, ◌∷◌, ◌++◌, [], List, ap, append-nil, append_assoc, subst, sym}
 use Rattle.std.specs.List.{zip}
+use Rattle.vpc_base.proofs.Members.{Contains-none}
 use Rattle.vpc_laws.specs.Types.{Description, Event}
 use Rattle.vpc_model.specs.Appliances.{Appliances}
 use Rattle.vpc_model.specs.Connections.{Connection}
 use Rattle.vpc_model.specs.Nat.{Translation}
 use Rattle.vpc_model.specs.Replay.{moment_of, walks_after}
 use Rattle.vpc_model.specs.Walk.{Walk, walk_of}
-use Rattle.vpc_laws.proofs.Members.{Contains-none}
 use Rattle.replay_laws.specs.Interleaved.{Comes}
 use Rattle.replay_laws.proofs.Moments.{cons-head, cons-tail, nil≢middle}
 use Rattle.replay_laws.proofs.Remembered.{IsMadeBy, walk-made}

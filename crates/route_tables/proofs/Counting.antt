@@ -7,6 +7,7 @@ use Rattle.std.proofs.lemmas.List.{length-map}
 use Rattle.std.proofs.lemmas.List.Elements.{All-contains, Contains-append_cases, Contains-append_left, Contains-append_right}
 use Rattle.std.proofs.lemmas.List.Folds.{Any-from_list_any}
 use Rattle.std.proofs.lemmas.Option.{get_or_from_slice_get, slice_get-get_or, slice_get_within}
+use Rattle.vpc_base.proofs.Members.{Contains-cases, Contains-filter, Contains-flat_map, Contains-here, Contains-map, Contains-none, filter-member, flat_map-member, length-filter-le, list_any-fails, map-member}
 use Rattle.prefix_text.specs.Block.{Block, IsBlock, holds, last_of}
 use Rattle.piece_table.specs.Pieces.{PieceLists, told_at}
 use Rattle.vpc_laws.specs.Choice.{Chooses, IsLongest, RouteYields, length_of}
@@ -20,7 +21,6 @@ use Rattle.block_pieces.specs.declared.rows.BlockRow.{BlockRow}
 use Rattle.block_pieces.specs.Laws.{IsAsGood}
 use Rattle.block_pieces.specs.Told.{borders_of, told_by}
 use Rattle.block_pieces.proofs.Borders.{told-best, told-nothing}
-use Rattle.block_pieces.proofs.Members.{Contains-cons_cases, Contains-filter, Contains-flat_map, Contains-head, Contains-nil, Contains-of_filter, Contains-of_flat_map, Contains-tail, filter-passes, length-filter-le, list_any-member}
 use Rattle.block_pieces.proofs.Nested.{nested}
 use Rattle.block_pieces.proofs.ToldLemmas.{best_is_told, none_is_told}
 use Rattle.route_tables.specs.Rows.{AreBlocks, blocks_in, counted_rows, counted_rows_of, is_covered, length_row, local_rows, local_rows_of, row_of}
@@ -35,14 +35,14 @@ record MatchesBy (d : Description) (a : ℕ) (r : Reach) (n : ℕ) : Type 0 wher
   pub long : block.length ≡ n
 
 Contains-one : {X : Type 0} (x y : X) → Contains (x ∷ []) y → x ≡ y
-Contains-one x y h = elim (Contains-cons_cases x y [] h) [ inl same ↦ same | inr none ↦ absurd (Contains-nil y none) ]
+Contains-one x y h = elim (Contains-cases x y [] h) [ inl same ↦ same | inr none ↦ absurd (Contains-none y none) ]
 
 block-here : (a : ℕ) (b : Block) (n : ℕ) → (if holds a b then Some b.length else None) ≡ Some n → (holds a b ≡ true) × (b.length ≡ n)
 block-here a b n e = elim (cases_Bool (holds a b)) [ inl here ↦ let some = rw here at e in (here, cc) | inr out ↦ let none = rw out at e in cc ]
 
 -- where a route matches with a length, one of its blocks has that length and holds the address
 matches_by : (d : Description) (a : ℕ) (r : Reach) (n : ℕ) → match_length d a r ≡ Some n → MatchesBy d a r n
-matches_by d a (reaches.Block b) n e = let is = block-here a b n e in record { block = b; listed = Contains-head b []; here = is.0; long = is.1 }
+matches_by d a (reaches.Block b) n e = let is = block-here a b n e in record { block = b; listed = Contains-here b []; here = is.0; long = is.1 }
 matches_by d a (reaches.List id) n e =
     let longest = subst (IsLongest a (entries_of d id)) e (lists_match_by_longest d a id) in
     record { block = longest.0.0; listed = longest.0.1; here = longest.0.2; long = longest.0.3 }
@@ -74,25 +74,9 @@ record IsRowOf (d : Description) (number : ℕ) (r : Route) (y : BlockRow) : Typ
   pub rank : y.rank ≡ (32 - y.block.length) * 4 + kind_of r
   pub row : y.row ≡ number
 
-Contains-map : {X Y : Type 0} (f : X → Y) (xs : List X) (x : X) → Contains xs x → Contains (map f xs) (f x)
-Contains-map f [] x h = absurd (Contains-nil x h)
-Contains-map f (z ∷ xs) x h =
-    elim (Contains-cons_cases z x xs h) [
-      | inl same ↦ subst (λ w. Contains (map f (z ∷ xs)) (f w)) same (Contains-head (f z) (map f xs))
-      | inr later ↦ Contains-tail (f z) (f x) (map f xs) (Contains-map f xs x later)
-    ]
-
-Contains-of_map : {X Y : Type 0} (f : X → Y) (xs : List X) (y : Y) → Contains (map f xs) y → (x : X) × Contains xs x × (f x ≡ y)
-Contains-of_map f [] y h = absurd (Contains-nil y h)
-Contains-of_map f (z ∷ xs) y h =
-    elim (Contains-cons_cases (f z) y (map f xs) h) [
-      | inl same ↦ (z, Contains-head z xs, same)
-      | inr later ↦ let rest = Contains-of_map f xs y later in (rest.0, Contains-tail z rest.0 xs rest.1, rest.2)
-    ]
-
 row_of-member : (d : Description) (number : ℕ) (r : Route) (y : BlockRow) → Contains (map (row_of (kind_of r) number) (blocks_of_reach d r.reach)) y → IsRowOf d number r y
 row_of-member d number r y h =
-    let of = Contains-of_map (row_of (kind_of r) number) (blocks_of_reach d r.reach) y h in
+    let of = map-member (row_of (kind_of r) number) (blocks_of_reach d r.reach) y h in
     subst (IsRowOf d number r) of.2 (record { listed = of.1; rank = refl; row = refl })
 
 -- whether a route is kept back by local ones
@@ -105,7 +89,7 @@ counted-member d p number r y h =
     elim (cases_Bool (is_kept_back r)) [
       | inl back ↦
           let some : Contains (filter (λ (x : BlockRow). not (is_covered p x.block)) rows) y = rw back at h in
-          (row_of-member d number r y (Contains-of_filter (λ (x : BlockRow). not (is_covered p x.block)) rows y some), λ _. not-true-of (is_covered p y.block) (filter-passes (λ (x : BlockRow). not (is_covered p x.block)) rows y some))
+          (row_of-member d number r y ((filter-member (λ (x : BlockRow). not (is_covered p x.block)) rows y some).1), λ _. not-true-of (is_covered p y.block) ((filter-member (λ (x : BlockRow). not (is_covered p x.block)) rows y some).0))
       | inr free ↦ let all : Contains rows y = rw free at h in (row_of-member d number r y all, λ back. absurd (both_ways (is_kept_back r) free back))
     ]
   where
@@ -125,7 +109,7 @@ counted-listed d p number r b listed free =
 -- each row is one of a route's, and each of a route's is a row
 counted_rows-member : (d : Description) (p : PieceLists) (number : ℕ) (routes : List Route) (y : BlockRow) → Contains (counted_rows d p number routes) y
     → (j : ℕ) × (r : Route) × (slice_get routes j ≡ Some r) × Contains (counted_rows_of d p (number + j) r) y
-counted_rows-member d p number [] y h = absurd (Contains-nil y h)
+counted_rows-member d p number [] y h = absurd (Contains-none y h)
 counted_rows-member d p number (r ∷ rs) y h =
     elim (Contains-append_cases (counted_rows_of d p number r) (counted_rows d p (number + 1) rs) y h) [
       | inl here ↦ (0, r, refl, subst (λ k. Contains (counted_rows_of d p k r) y) (let e : number ≡ number + 0 = omega arith in e) here)
@@ -155,14 +139,14 @@ record IsLocalBlock (d : Description) (routes : List Route) (b : Block) : Type 0
 
 local_rows-member : (d : Description) (routes : List Route) (y : BlockRow) → Contains (local_rows d routes) y → (y ≡ length_row y.block) × IsLocalBlock d routes y.block
 local_rows-member d routes y h =
-    let found = Contains-of_flat_map (local_rows_of d) routes y h in
+    let found = flat_map-member (local_rows_of d) routes y h in
     let r : Route = found.0 in
     elim (cases_Bool (is_local r.target)) [
       | inl local ↦
           let some : Contains (map length_row (blocks_of_reach d r.reach)) y = rw local at found.2 in
-          let of = Contains-of_map length_row (blocks_of_reach d r.reach) y some in
+          let of = map-member length_row (blocks_of_reach d r.reach) y some in
           subst (λ (z : BlockRow). (z ≡ length_row z.block) × IsLocalBlock d routes z.block) of.2 (refl, record { route = r; listed = found.1; local = local; of = of.1 })
-      | inr other ↦ absurd (Contains-nil y (rw other at found.2))
+      | inr other ↦ absurd (Contains-none y (rw other at found.2))
     ]
 
 local_rows-listed : (d : Description) (routes : List Route) (r : Route) (b : Block) → Contains routes r → is_local r.target ≡ true → Contains (blocks_of_reach d r.reach) b → Contains (local_rows d routes) (length_row b)
@@ -354,7 +338,7 @@ told_by-counted d routes p a locals blocks = by (chosen_route d routes a) refl (
         (λ covered.
         let l = covered-in d routes p b a locals blocks is_b covered m.here in
         let held = matches_as d a l.1.route.reach l.0 l.1.of l.2 in
-        both_ways (is_local l.1.route.target && matches d a l.1.route) (list_any-member (λ (l : Route). is_local l.target && matches d a l) routes l.1.route (candidate-free d routes a x chooses.2 back) l.1.listed) (and_from (is_local l.1.route.target) (matches d a l.1.route) l.1.local held.matches)) in
+        both_ways (is_local l.1.route.target && matches d a l.1.route) (list_any-fails (λ (l : Route). is_local l.target && matches d a l) routes l.1.route (candidate-free d routes a x chooses.2 back) l.1.listed) (and_from (is_local l.1.route.target) (matches d a l.1.route) l.1.local held.matches)) in
         let chosen : IsChosenBlock d routes a k x b = record { at = chooses.1; short = is_b.short; long = m.long ∙ sym (ap (λ o. unwrap_or o 0) known.1); others = chooses.3 } in
         let from_zero : 0 + k ≡ k = omega arith in
         best_is_told (counted_rows d p 0 routes) a (row_of (kind_of x) k b)
@@ -395,7 +379,7 @@ route_cuts d routes = flat_map (λ r. flat_map block_cuts (blocks_of_reach d r.r
 
 pub borders-cuts : (d : Description) (p : PieceLists) (routes : List Route) (f : ℕ) → Contains (borders_of (counted_rows d p 0 routes)) f → Contains (route_cuts d routes) f
 borders-cuts d p routes f h =
-    let found = Contains-of_flat_map (λ (r : BlockRow). block_cuts r.block) (counted_rows d p 0 routes) f h in
+    let found = flat_map-member (λ (r : BlockRow). block_cuts r.block) (counted_rows d p 0 routes) f h in
     let of = counted_rows-member d p 0 routes found.0 found.1 in
     let is = counted-member d p (0 + of.0) of.1 found.0 of.3 in
     Contains-flat_map (λ (r : Route). flat_map block_cuts (blocks_of_reach d r.reach)) routes of.1 f (member-at routes of.0 of.1 of.2)

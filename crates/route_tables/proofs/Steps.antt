@@ -1,19 +1,12 @@
 -- Loops that add the rows of one more block or route.
-use Rattle.std.proofs.Common.{◌≡◌, ℕ, ◌<◌, ◌≤◌, ◌+◌, Bool, List, [], ◌∷◌, ◌++◌, ap, append_assoc, drop, get_or, length, map, subst, sym, take, ◌∙◌}
-use Rattle.std.specs.List.{All, filter}
-use Rattle.std.proofs.lemmas.List.{append-nil, drop_all, drop_more, map_more, take_all}
-use Rattle.std.proofs.lemmas.List.Elements.{All-more, filter-append}
+use Rattle.std.proofs.Common.{◌≡◌, ℕ, ◌<◌, ◌≤◌, ◌+◌, Bool, List, [], ◌∷◌, ◌++◌, ap, append_assoc, drop, get_or, length, map, sym, take, ◌∙◌}
+use Rattle.std.specs.List.{filter}
+use Rattle.std.proofs.lemmas.List.{append-nil, drop_all, drop_more, map_more}
+use Rattle.std.proofs.lemmas.List.Elements.{filter-append}
 use Rattle.block_pieces.specs.declared.rows.BlockRow.{BlockRow}
 use Rattle.piece_table.specs.Pieces.{PieceLists}
 use Rattle.vpc_laws.specs.Types.{Description, Route}
 use Rattle.route_tables.specs.Rows.{counted_rows, counted_rows_of}
-
-pub pushed-map : {X Y : Type 0} (f : X → Y) (start : List Y) (xs : List X) (i : ℕ) (x : X) (old new : List Y) → i < length xs → x ≡ get_or xs i x → old ≡ start ++ map f (take i xs) → new ≡ old ++ f x ∷ [] → new ≡ start ++ map f (take (i + 1) xs)
-pushed-map f start xs i x old new within is so_far added =
-    added
-    ∙ (ap (λ l. l ++ f x ∷ []) so_far
-    ∙ (append_assoc start (map f (take i xs)) (f x ∷ [])
-    ∙ ap (λ l. start ++ l) (ap (λ y. map f (take i xs) ++ f y ∷ []) is ∙ sym (map_more f xs i x within))))
 
 pub pushed-filter : {X Y : Type 0} (p : Y → Bool) (f : X → Y) (start : List Y) (xs : List X) (i : ℕ) (x : X) (old new : List Y) → i < length xs → x ≡ get_or xs i x → old ≡ start ++ filter p (map f (take i xs)) → new ≡ old ++ filter p (f x ∷ [])
     → new ≡ start ++ filter p (map f (take (i + 1) xs))
@@ -24,12 +17,6 @@ pushed-filter p f start xs i x old new within is so_far added =
     ∙ ap (λ l. start ++ l)
     (sym (filter-append p (map f (take i xs)) (f x ∷ []))
     ∙ ap (filter p) (ap (λ y. map f (take i xs) ++ f y ∷ []) is ∙ sym (map_more f xs i x within)))))
-
-pub All-one_more : {X : Type 0} (P : X → Type 0) (xs : List X) (i : ℕ) (x : X) → i < length xs → x ≡ get_or xs i x → All P (take i xs) → P x → All P (take (i + 1) xs)
-All-one_more P xs i x within is all one = All-more P xs i x within all (subst P is one)
-
-pub All-whole : {X : Type 0} (P : X → Type 0) (xs : List X) (i : ℕ) → length xs ≤ i → All P (take i xs) → All P xs
-All-whole P xs i past all = subst (All P) (take_all i xs past) all
 
 pub counted-step : (d : Description) (p : PieceLists) (routes : List Route) (i : ℕ) (r : Route) (old new whole : List BlockRow) → i < length routes → r ≡ get_or routes i r → old ++ counted_rows d p i (drop i routes) ≡ whole → new ≡ old ++ counted_rows_of d p i r
     → new ++ counted_rows d p (i + 1) (drop (i + 1) routes) ≡ whole

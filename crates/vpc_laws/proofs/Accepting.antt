@@ -2,9 +2,11 @@
 use Rattle.std.proofs.Common.{◌≡◌, ℕ, ◌<◌, ◌==◌, ◌&&◌, ◌||◌, Bool, List, [], ◌∷◌, ◌++◌, cond, false, inl, inr, map, refl, subst, sym, true, ◌∙◌}
 use Rattle.std.specs.List.{AllByRecursion, Contains, IsDistinct, count_by, filter, flat_map, list_any}
 use Rattle.std.specs.Str.{bytes_eq}
-use Rattle.std.proofs.lemmas.Bool.{and_parts, cases_Bool, eq-eqb, eqb-true, leb-false, false≢true, or_parts}
+use Rattle.std.proofs.lemmas.Bool.{and_parts, cases_Bool, leb-false, or_parts}
 use Rattle.std.proofs.lemmas.List.Folds.{list_any-append}
-use Rattle.std.proofs.lemmas.Slice.Eq.{bytes_eq-Decides}
+use Rattle.vpc_base.proofs.Bytes.{bytes_eq-comm}
+use Rattle.vpc_base.proofs.Members.{AllByRecursion-weaker, append-nothing, filter-nothing, flat_map-nothing, map-nothing}
+use Rattle.vpc_base.proofs.Numbers.{eqb-comm}
 use Rattle.vpc_laws.specs.Types.{Acl, Appliance, Attachment, Description, Group, Interface, InternetGateway, NatGateway, NatLife, Permission, Route, RouteTable, Subnet, Target, Vpc}
 use Rattle.vpc_model.specs.declared.rows.NatLife.TheVariants as lives
 use Rattle.vpc_model.specs.declared.rows.Target.TheVariants as targets
@@ -12,8 +14,6 @@ use Rattle.vpc_model.specs.declared.refusals.Refusal.TheVariants as refusals
 use Rattle.vpc_model.specs.Accepted.{IsAccepted, duplicate_addresses, duplicate_ids, duplicate_publics, duplicates_in, holds_twice, ids_by_list, is_interface_in, is_main_of, is_side, is_subnet_of, is_table_of, missing_of_acl, missing_of_appliance, missing_of_attachment, missing_of_group, missing_of_igw, missing_of_interface, missing_of_life, missing_of_reach, missing_of_route, missing_of_subnet, missing_of_table, missing_of_target, missing_references, private_addresses, public_addresses, repeats, repeats_after, same_address, serves_vpc, too_many_rows, two_acls, two_gateways, two_tables, wanted, without_acl, without_table}
 use Rattle.vpc_model.specs.Lookup.{eni_no, has_group, has_igw, has_interface, has_list, has_nat, has_peering, has_subnet, has_vpc, interface_at, is_listed, nat_at, nat_no, peer_no, peering_at}
 use Rattle.vpc_laws.specs.Accepted.{HasAllNamed, HasNothingTwice, HasTarget, IsFaultless}
-use Rattle.vpc_laws.proofs.Sorting.{all-turned}
-use Rattle.vpc_laws.proofs.Members.{append-nothing, filter-nothing, flat_map-nothing, map-nothing}
 
 pub accepted_is_faultless : (d : Description) → IsAccepted d → IsFaultless d
 accepted_is_faultless d accepted =
@@ -50,7 +50,7 @@ accepted_is_faultless d accepted =
 
 -- ---- references
 
-wanted-there : (is_there : Bool) (from to : List ℕ) → wanted is_there from to ≡ [] → is_there ≡ true
+pub wanted-there : (is_there : Bool) (from to : List ℕ) → wanted is_there from to ≡ [] → is_there ≡ true
 wanted-there true from to e = refl
 wanted-there false from to e = absurd cc
 
@@ -180,39 +180,24 @@ repeats_after-none same flips earlier [] e = (tt, tt)
 repeats_after-none same flips earlier (x ∷ xs) e =
     let here = none-earlier same earlier x (repeats_after same (earlier ++ x ∷ []) xs) e in
     let rest = repeats_after-none same flips (earlier ++ x ∷ []) xs here.1 in (
-      (here.0, all-turned (λ y. list_any (same y) (earlier ++ x ∷ []) ≡ false) (λ y. list_any (same y) earlier ≡ false) (λ y new. (list_any-push (same y) earlier x new).0) xs rest.0),
-      (all-turned (λ y. list_any (same y) (earlier ++ x ∷ []) ≡ false) (λ y. same x y ≡ false) (λ y new. flips x y ∙ (list_any-push (same y) earlier x new).1) xs rest.0, rest.1),
+      (here.0, AllByRecursion-weaker (λ y. list_any (same y) (earlier ++ x ∷ []) ≡ false) (λ y. list_any (same y) earlier ≡ false) (λ y new. (list_any-push (same y) earlier x new).0) xs rest.0),
+      (AllByRecursion-weaker (λ y. list_any (same y) (earlier ++ x ∷ []) ≡ false) (λ y. same x y ≡ false) (λ y new. flips x y ∙ (list_any-push (same y) earlier x new).1) xs rest.0, rest.1),
     )
 
 repeats-none : {X : Type 0} (same : X → X → Bool) → ((x y : X) → same x y ≡ same y x) → (xs : List X) → repeats same xs ≡ [] → IsDistinct same xs
 repeats-none same flips xs e = (repeats_after-none same flips [] xs e).1
 
-both-false : (a b : Bool) → (a ≡ true → b ≡ true) → (b ≡ true → a ≡ true) → a ≡ b
-both-false true true f g = refl
-both-false true false f g = absurd (false≢true (f refl))
-both-false false true f g = absurd (false≢true (g refl))
-both-false false false f g = refl
-
-eqb-flips : (a b : ℕ) → (a == b) ≡ (b == a)
-eqb-flips a b = both-false (a == b) (b == a) (λ e. eq-eqb b a (sym (eqb-true a b e))) (λ e. eq-eqb a b (sym (eqb-true b a e)))
-
-bytes_eq-flips : (a b : List ℕ) → bytes_eq a b ≡ bytes_eq b a
-bytes_eq-flips a b =
-    let one = bytes_eq-Decides a b in
-    let other = bytes_eq-Decides b a in
-    both-false (bytes_eq a b) (bytes_eq b a) (λ e. other.1 (sym (one.0 e))) (λ e. one.1 (sym (other.0 e)))
-
 two-flips : (a b c d : Bool) → a ≡ c → b ≡ d → (a && b) ≡ (c && d)
 two-flips a b c d e f = cc
 
 same_address-flips : (a b : List ℕ × ℕ) → same_address a b ≡ same_address b a
-same_address-flips a b = two-flips (bytes_eq a.0 b.0) (a.1 == b.1) (bytes_eq b.0 a.0) (b.1 == a.1) (bytes_eq-flips a.0 b.0) (eqb-flips a.1 b.1)
+same_address-flips a b = two-flips (bytes_eq a.0 b.0) (a.1 == b.1) (bytes_eq b.0 a.0) (b.1 == a.1) (bytes_eq-comm a.0 b.0) (eqb-comm a.1 b.1)
 
 distinct-lists : (lists : List (List (List ℕ))) → flat_map duplicates_in lists ≡ [] → AllByRecursion (IsDistinct bytes_eq) lists
 distinct-lists [] e = tt
 distinct-lists (ids ∷ lists) e =
     let parts = append-nothing (duplicates_in ids) (flat_map duplicates_in lists) e in
-    (repeats-none bytes_eq bytes_eq-flips ids (map-nothing refusals.DuplicateId (repeats bytes_eq ids) parts.0), distinct-lists lists parts.1)
+    (repeats-none bytes_eq bytes_eq-comm ids (map-nothing refusals.DuplicateId (repeats bytes_eq ids) parts.0), distinct-lists lists parts.1)
 
 once : {X : Type 0} (test : X → Bool) (rows : List X) → holds_twice test rows ≡ false → count_by test rows < 2
 once test rows e = leb-false 2 (count_by test rows) e
@@ -227,7 +212,7 @@ accepted_has_nothing_twice d accepted =
       ids = distinct-lists (ids_by_list d) faultless.ids;
       addresses = repeats-none same_address same_address-flips (private_addresses d)
           (map-nothing (λ (a : List ℕ × ℕ). refusals.DuplicateAddress a.0 a.1) (repeats same_address (private_addresses d)) faultless.addresses);
-      publics = repeats-none (λ a b. a == b) eqb-flips (public_addresses d) (map-nothing refusals.DuplicatePublic (repeats (λ a b. a == b) (public_addresses d)) faultless.publics);
+      publics = repeats-none (λ a b. a == b) eqb-comm (public_addresses d) (map-nothing refusals.DuplicatePublic (repeats (λ a b. a == b) (public_addresses d)) faultless.publics);
       gateways = λ v has. once (λ (g : InternetGateway). is_listed v.id g.vpcs) d.igws
           (filter-nothing (λ (v : Vpc). holds_twice (λ (g : InternetGateway). is_listed v.id g.vpcs) d.igws) d.vpcs
           (map-nothing (λ (v : Vpc). refusals.TwoInternetGateways v.id) (filter (λ (v : Vpc). holds_twice (λ (g : InternetGateway). is_listed v.id g.vpcs) d.igws) d.vpcs) faultless.one_gateway) v has);

@@ -1,5 +1,5 @@
 -- What a walk adds to connections and translations.
-use Rattle.std.proofs.Common.{◌≡◌, ◌≤◌, ◌==◌, ◌⊎◌, Bool, List, [], ◌∷◌, ◌++◌, Some, ap, append_assoc, arith, false, inl, inr, length, length-append, refl, subst, sym, true, ◌∙◌}
+use Rattle.std.proofs.Common.{◌≡◌, ◌≤◌, ◌==◌, ◌⊎◌, Bool, List, [], ◌∷◌, ◌++◌, Some, ap, append_assoc, arith, false, inl, inr, length, length-append, refl, subst, sym, true, ◌∙◌, ap₂}
 use Rattle.std.specs.List.{AllByRecursion, IsDistinct, list_any}
 use Rattle.std.proofs.lemmas.Bool.{and_parts, both_ways, false_from_ne_true, or_from, or_left, or_right}
 use Rattle.std.proofs.lemmas.List.{append-nil}
@@ -32,10 +32,10 @@ record IsAdded {X : Type 0} (place_of : X → Place) (alike : X → X → Bool) 
   pub apart : IsDistinct alike more
   pub visited : AllByRecursion (λ x. is_visited hops (place_of x) ≡ true) more
 
-is_visited-more : (hops : List Hop) (h : Hop) (p : Place) → is_visited hops p ≡ true → is_visited (hops ++ h ∷ []) p ≡ true
+pub is_visited-more : (hops : List Hop) (h : Hop) (p : Place) → is_visited hops p ≡ true → is_visited (hops ++ h ∷ []) p ≡ true
 is_visited-more hops h p there = list_any-append (λ (g : Hop). same_place g.place p) hops (h ∷ []) ∙ or_left (is_visited hops p) (is_visited (h ∷ []) p) there
 
-is_visited-last : (hops : List Hop) (h : Hop) → is_visited (hops ++ h ∷ []) h.place ≡ true
+pub is_visited-last : (hops : List Hop) (h : Hop) → is_visited (hops ++ h ∷ []) h.place ≡ true
 is_visited-last hops h =
     list_any-append (λ (g : Hop). same_place g.place h.place) hops (h ∷ [])
     ∙ or_right (is_visited hops h.place) (is_visited (h ∷ []) h.place) (or_left (same_place h.place h.place) false (same_place-refl h.place))
@@ -97,13 +97,10 @@ place_of_connection c = place_by c.eni c.dir
 abbrev place_of_translation : Translation → Place
 place_of_translation t = NatOut t.nat
 
-two-args : {A B C : Type 0} (f : A → B → C) (a c : A) (b d : B) → a ≡ c → b ≡ d → f a b ≡ f c d
-two-args f a c b d e g = cc
-
 one_door : (a b : Connection) → same_door a b ≡ true → place_of_connection a ≡ place_of_connection b
 one_door a b e =
     let parts = and_parts (a.eni.0 == b.eni.0) (same_dir a.dir b.dir) e in
-    two-args place_by a.eni b.eni a.dir b.dir (EniNo-same a.eni b.eni parts.0) (same_dir-true a.dir b.dir parts.1)
+    ap₂ place_by (EniNo-same a.eni b.eni parts.0) (same_dir-true a.dir b.dir parts.1)
 
 one_gateway : (s t : Translation) → same_gateway s t ≡ true → place_of_translation s ≡ place_of_translation t
 one_gateway s t e = ap NatOut (NatNo-same s.nat t.nat e)

@@ -1,9 +1,9 @@
 -- A step keeps the translations in order.
-use Rattle.std.proofs.Common.{◌≡◌, ℕ, ◌+◌, ◌≤◌, ◌<◌, ◌^◌, ◌==◌, ◌&&◌, Bool, true, false, List, [], ◌∷◌, ◌++◌, Option, Some, None, refl, cond, ◌∙◌, sym, arith, subst, inl, inr}
+use Rattle.std.proofs.Common.{◌≡◌, ℕ, ◌≤◌, ◌<◌, ◌^◌, ◌==◌, ◌&&◌, Bool, true, false, List, [], ◌∷◌, ◌++◌, Option, Some, None, refl, cond, ◌∙◌, sym, arith, subst, inl, inr}
 use Rattle.std.specs.List.{list_any, count_by, find, AllByRecursion, IsDistinct}
 use Rattle.std.proofs.lemmas.Bool.{cond_both, and_parts, and_from, eqb-true, eq-eqb, or_parts, or_from, leb-false, cases_Bool}
-use Rattle.std.proofs.lemmas.List.Sums.{sum_by-cons}
 use Rattle.vpc_base.specs.declared.headers.Label.TheVariants.{Opening, Answer}
+use Rattle.vpc_base.proofs.Tests.{count_by-push}
 use Rattle.vpc_model.specs.declared.places.Place.TheVariants.{OutOf, Router, Enter, Into, IgwOut, Internet, IgwIn, NatOut, NatIn, Peer, Tgw, TgwLeave}
 use Rattle.vpc_laws.specs.Types.{Description, Header, Label, NatNo, Place}
 use Rattle.vpc_laws.specs.Translations.{IsBook, IsTranslation, collide, same_before}
@@ -29,14 +29,6 @@ IsDistinct-push_new same [] x apart new = (tt, tt)
 IsDistinct-push_new same (y ∷ ys) x apart new =
     let parts = or_parts (same y x) (list_any (λ z. same z x) ys) new in
     (AllByRecursion-push (λ z. same y z ≡ false) ys x apart.0 parts.0, IsDistinct-push_new same ys x apart.1 parts.1)
-
-count_by-push : {X : Type 0} (p : X → Bool) (xs : List X) (x : X) → count_by p (xs ++ x ∷ []) ≡ count_by p xs + cond (p x) 1 0
-count_by-push p [] x = let e = sum_by-cons (λ y. cond (p y) 1 0) x [] in omega arith
-count_by-push p (y ∷ ys) x =
-    let long = sum_by-cons (λ z. cond (p z) 1 0) y (ys ++ x ∷ []) in
-    let short = sum_by-cons (λ z. cond (p z) 1 0) y ys in
-    let rest = count_by-push p ys x in
-    omega arith
 
 pub find-none : {X : Type 0} (test : X → Bool) (xs : List X) → find test xs ≡ None → list_any test xs ≡ false
 find-none test [] e = refl
@@ -83,7 +75,7 @@ few-push ts n h t nat proto dst q room few k g =
           omega arith
     ]
 
-new-book : (ts : List Translation) (n : NatNo) (own : ℕ) (h : Header) → h.p < 2 ^ 16 → is_translatable h.proto ≡ true → translation_of ts n h ≡ None → is_full ts n h ≡ false → IsBook ts → IsBook (ts ++ new_translation ts n own h ∷ [])
+pub new-book : (ts : List Translation) (n : NatNo) (own : ℕ) (h : Header) → h.p < 2 ^ 16 → is_translatable h.proto ≡ true → translation_of ts n h ≡ None → is_full ts n h ≡ false → IsBook ts → IsBook (ts ++ new_translation ts n own h ∷ [])
 new-book ts n own h fits translatable none room book =
     let t = new_translation ts n own h in
     let ports = new_translation-fits ts n own h fits in

@@ -1,13 +1,13 @@
 -- What is chosen among rows, and the first match of sorted rows.
-use Rattle.std.proofs.Common.{◌≡◌, ℕ, ◌<◌, ◌==◌, ◌&&◌, ◌⊎◌, Bool, List, None, Option, Some, [], ◌∷◌, ap, arith, false, inl, inr, length, ltb, not, refl, subst, sym, true, ◌∙◌}
-use Rattle.std.specs.List.{list_any, position, position_or_len, slice_get, slice_index_or}
+use Rattle.std.proofs.Common.{◌≡◌, ℕ, ◌<◌, ◌==◌, ◌&&◌, ◌⊎◌, Bool, List, None, Option, Some, [], ◌∷◌, ap, arith, false, inl, inr, ltb, not, refl, subst, sym, true, ◌∙◌}
+use Rattle.std.specs.List.{list_any, position, slice_get, slice_index_or}
 use Rattle.std.specs.Cmp.{IsStrictWeakOrder}
 use Rattle.std.proofs.lemmas.Bool.{and_cases, and_from, and_parts, and_right, both_ways, cases_Bool, false_from_ne_true, eqb-true, ltb-false, ltb-true, not-false, not-true, not_from_false, or_from, or_left, or_right}
 use Rattle.std.proofs.lemmas.Bool.Decides.{nat_tests}
 use Rattle.std.proofs.lemmas.List.Folds.{Any-from_list_any, list_any_at}
 use Rattle.std.proofs.lemmas.List.Quantifiers.{position-Some}
-use Rattle.std.proofs.lemmas.List.Sums.{fails_before_first}
 use Rattle.std.proofs.lemmas.Option.{none-some, get_or_from_slice_get, slice_get-get_or, slice_get_within}
+use Rattle.vpc_base.proofs.Positions.{position-None}
 use Rattle.vpc_model.specs.Choice.{chosen_number, is_unbeaten}
 use Rattle.vpc_laws.specs.Choice.{Chooses}
 
@@ -99,16 +99,6 @@ unbeaten-exists candidate beats order rows j y at_j at_y =
 -- a row is beaten by another one, or stands behind it and neither beats the other
 abbrev pub YieldsTo : {X : Type 0} → (X → X → Bool) → ℕ → X → ℕ → X → Type 0
 YieldsTo beats j y k x = (beats x y ≡ true) ⊎ ((beats x y ≡ false) × (beats y x ≡ false) × (k < j))
-
-pub position-None : {X : Type 0} (test : X → Bool) (xs : List X) (j : ℕ) (y : X) → position test xs ≡ None → slice_get xs j ≡ Some y → test y ≡ false
-position-None test xs j y e at =
-    let inside = slice_get_within xs j y at in
-    elim (cases_Bool (ltb (position_or_len test xs) (length xs))) [
-      | inl found ↦ let some = (rw found at e) in cc
-      | inr past ↦
-          let least = ltb-false (position_or_len test xs) (length xs) past in
-          subst (λ z. test z ≡ false) (get_or_from_slice_get xs j y y at) (fails_before_first test xs j y (omega arith))
-    ]
 
 pub list_any-get : {X : Type 0} (test : X → Bool) (xs : List X) (j : ℕ) (y : X) → list_any test xs ≡ false → slice_get xs j ≡ Some y → test y ≡ false
 list_any-get test xs j y none at =

@@ -3,9 +3,10 @@ use Rattle.std.proofs.Common.{◌≡◌, ℕ, ◌<◌, ◌^◌, ◌==◌, ◌&&�
 use Rattle.std.specs.List.{AllByRecursion, Contains, filter, find}
 use Rattle.std.proofs.lemmas.Bool.{and_parts, cases_Bool, cond_both, eq-eqb, eqb-true}
 use Rattle.std.proofs.lemmas.List.Elements.{Contains-push}
-use Rattle.std.proofs.lemmas.Option.{none-some}
+use Rattle.std.proofs.lemmas.Option.{none-some, same_Some}
 use Rattle.vpc_base.specs.Header.{echo_reply, exchanged, reply_of}
 use Rattle.vpc_base.specs.declared.headers.Label.TheVariants.{Answer, Opening}
+use Rattle.vpc_base.proofs.Members.{AllByRecursion-at, filter-member, filter_map-member, find-member, flat_map-member}
 use Rattle.vpc_model.specs.declared.places.Place.TheVariants.{OutOf, Router, Enter, Into, IgwOut, Internet, IgwIn, NatOut, NatIn, Peer, Tgw, TgwLeave}
 use Rattle.vpc_laws.specs.Types.{Description, Header, Hop, Label, NatNo, Place, VpcNo}
 use Rattle.vpc_model.specs.Appliances.{Appliances}
@@ -23,9 +24,8 @@ use Rattle.vpc_laws.specs.Rewriting.{ChangesDestination, ChangesSource, ChangesS
 use Rattle.vpc_laws.specs.Translations.{IsBook, IsTranslation}
 use Rattle.vpc_laws.proofs.Books.{AllByRecursion-push}
 use Rattle.vpc_laws.proofs.Flow.{is_of, open_keeps_flow}
-use Rattle.vpc_laws.proofs.Members.{AllByRecursion-at, filter-member, filter_map-member, find-member, flat_map-member}
 use Rattle.vpc_laws.proofs.Growth.{step_internet-nats, step_into-nats, step_nat_in-nats, step_out-nats}
-use Rattle.vpc_laws.proofs.Replies.{Some-same, is_header-some}
+use Rattle.vpc_laws.proofs.Replies.{is_header-some}
 use Rattle.vpc_laws.proofs.Same.{NatNo-same, same_header-true, three}
 use Rattle.vpc_laws.proofs.Walking.{IsKept, NextFits, hop_at, open-in_order, walk_of-keeps}
 
@@ -35,7 +35,7 @@ pair_of-some : (x : ℕ × Option ℕ) (p : ℕ × ℕ) → pair_of x ≡ Some p
 pair_of-some (a, None) p e = absurd (none-some p e)
 pair_of-some (a, Some b) (f, g) e =
     let pair : ℕ × ℕ = (a, b) in
-    let same : pair ≡ (f, g) = Some-same pair (f, g) e in
+    let same : pair ≡ (f, g) = same_Some pair (f, g) e in
     ap (λ (q : ℕ × ℕ). (q.0, Some q.1)) same
 
 -- a pair of a VPC is that of one of its interfaces
@@ -183,8 +183,8 @@ given-back t h k is e f =
           elim (cases_Bool (t.before.q == 2048)) [
             | inl asks ↦
                 let after_asks : (t.after.q == 2048) ≡ true = eq-eqb t.after.q 2048 (is.q ∙ eqb-true t.before.q 2048 asks) in
-                let x : echo_reply t.after ≡ h = Some-same (echo_reply t.after) h (rw (after_icmp, after_asks) at e) in
-                let y : echo_reply t.before ≡ k = Some-same (echo_reply t.before) k (rw (icmp, asks) at f) in
+                let x : echo_reply t.after ≡ h = same_Some (echo_reply t.after) h (rw (after_icmp, after_asks) at e) in
+                let y : echo_reply t.before ≡ k = same_Some (echo_reply t.before) k (rw (icmp, asks) at f) in
                 let h_icmp : (h.proto == 1) ≡ true = eq-eqb h.proto 1 (sym (ap (λ (g : Header). g.proto) x) ∙ is.proto ∙ one) in
                 record {
                   proto = sym (ap (λ (g : Header). g.proto) y) ∙ sym is.proto ∙ ap (λ (g : Header). g.proto) x;
@@ -197,8 +197,8 @@ given-back t h k is e f =
           ]
       | inr other ↦
           let after_other : (t.after.proto == 1) ≡ false = ap (λ n. n == 1) is.proto ∙ other in
-          let x : exchanged t.after ≡ h = Some-same (exchanged t.after) h (rw after_other at e) in
-          let y : exchanged t.before ≡ k = Some-same (exchanged t.before) k (rw other at f) in
+          let x : exchanged t.after ≡ h = same_Some (exchanged t.after) h (rw after_other at e) in
+          let y : exchanged t.before ≡ k = same_Some (exchanged t.before) k (rw other at f) in
           let h_other : (h.proto == 1) ≡ false = ap (λ n. n == 1) (sym (ap (λ (g : Header). g.proto) x)) ∙ after_other in
           record {
             proto = sym (ap (λ (g : Header). g.proto) y) ∙ sym is.proto ∙ ap (λ (g : Header). g.proto) x;

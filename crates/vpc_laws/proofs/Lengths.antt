@@ -1,23 +1,20 @@
 -- The lists of an accepted description are short.
 use Rattle.std.proofs.Common.{inl, inr, ◌≡◌, ◌||◌, Bool, List, [], ◌∷◌, ◌++◌, false, length}
 use Rattle.std.specs.List.{Contains, list_any}
-use Rattle.std.proofs.lemmas.Bool.{both_ways, cases_Bool, false_from_ne_true, ltb-false, or_parts}
+use Rattle.std.proofs.lemmas.Bool.{cases_Bool, ltb-false, or_parts}
+use Rattle.vpc_base.proofs.Members.{append-nothing, list_any-fails}
 use Rattle.vpc_laws.specs.Types.{Acl, Appliance, Association, Attachment, Description, Group, Interface, InternetGateway, ListName, NatGateway, Peering, Permission, PrefixList, RouteTable, Subnet, TgwTable, Vpc}
 use Rattle.vpc_model.specs.declared.refusals.ListName.TheVariants as lists
 use Rattle.vpc_model.specs.declared.refusals.Refusal.TheVariants as refusals
 use Rattle.vpc_model.specs.Accepted.{IsAccepted, is_long, is_long_group, is_long_rule, too_long}
 use Rattle.vpc_laws.specs.Accepted.{HasShortLists, IsShort}
 use Rattle.vpc_laws.proofs.Accepting.{accepted_is_faultless}
-use Rattle.vpc_laws.proofs.Members.{append-nothing, member-list_any}
 
 is_long-short : {X : Type 0} (xs : List X) → is_long xs ≡ false → IsShort xs
 is_long-short xs e = ltb-false 100000 (length xs) e
 
 both-short : {X Y : Type 0} (xs : List X) (ys : List Y) → (is_long xs || is_long ys) ≡ false → IsShort xs × IsShort ys
 both-short xs ys e = let parts = or_parts (is_long xs) (is_long ys) e in (is_long-short xs parts.0, is_long-short ys parts.1)
-
-none-any : {X : Type 0} (p : X → Bool) (xs : List X) (x : X) → list_any p xs ≡ false → Contains xs x → p x ≡ false
-none-any p xs x none has = false_from_ne_true (p x) (λ e. both_ways (list_any p xs) none (member-list_any p xs x has e))
 
 -- a list that isn't too long, and no row of which is
 short-list : {X : Type 0} (name : ListName) (row_is_long : X → Bool) (rows : List X) → too_long name row_is_long rows ≡ [] → IsShort rows × ((x : X) → Contains rows x → row_is_long x ≡ false)
@@ -26,7 +23,7 @@ short-list name row_is_long rows e =
       | inl long ↦ let some : refusals.TooManyRows name ∷ [] ≡ [] = (rw long at e) in absurd cc
       | inr short ↦
           let parts = or_parts (is_long rows) (list_any row_is_long rows) short in
-          (is_long-short rows parts.0, λ x has. none-any row_is_long rows x parts.1 has)
+          (is_long-short rows parts.0, λ x has. list_any-fails row_is_long rows x parts.1 has)
     ]
 
 -- the rules of a group, and what one of them names
@@ -48,7 +45,7 @@ group-short g e =
     record {
       inward = is_long-short g.inward outer.0;
       outward = is_long-short g.outward inner.0;
-      rules = λ p has. rule-short p (none-any is_long_rule (g.inward ++ g.outward) p inner.1 has);
+      rules = λ p has. rule-short p (list_any-fails is_long_rule (g.inward ++ g.outward) p inner.1 has);
     }
 
 pub accepted_has_short_lists : (d : Description) → IsAccepted d → HasShortLists d

@@ -11,7 +11,6 @@ pub mod Sorting
 pub mod Stepping
 pub mod Passing
 pub mod Adding
-pub mod Members
 pub mod Gateways
 pub mod Accepting
 pub mod Numbering

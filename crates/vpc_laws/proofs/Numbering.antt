@@ -1,16 +1,15 @@
 -- Rows and their numbers.
-use Rattle.std.proofs.Common.{◌≡◌, ℕ, ◌&&◌, ◌||◌, ◌⊎◌, Bool, List, [], Option, Some, None, ap, arith, false, inl, inr, length, ltb, map, not, refl, subst, sym, true, unwrap_or, ◌∙◌}
-use Rattle.std.specs.List.{Contains, filter, IsDistinct, list_any, position, position_or_len, slice_index_or}
+use Rattle.std.proofs.Common.{◌≡◌, ℕ, ◌&&◌, ◌||◌, ◌⊎◌, Bool, List, [], Option, Some, None, ap, arith, false, inl, inr, length, ltb, map, not, refl, subst, sym, true, unwrap_or, ◌∙◌, IfSome, is_some}
+use Rattle.std.specs.List.{filter, IsDistinct, list_any, position, position_or_len, slice_index_or}
 use Rattle.std.specs.Str.{bytes_eq}
-use Rattle.std.proofs.lemmas.Bool.{and_parts, both_ways, cases_Bool, false_from_ne_true, lt-ltb, ltb-false, ltb-true, not-false, or_cases}
+use Rattle.std.proofs.lemmas.Bool.{and_parts, both_ways, false_from_ne_true, ltb-true, not-false, or_cases}
 use Rattle.std.proofs.lemmas.List.{get_or-map, length-map}
-use Rattle.std.proofs.lemmas.List.Elements.{Contains-get_or}
-use Rattle.std.proofs.lemmas.List.Folds.{Any-from_list_any}
-use Rattle.std.proofs.lemmas.List.Quantifiers.{position-Some}
-use Rattle.std.proofs.lemmas.List.Sums.{fails_before_first, passes_at_first, position_or_len_is}
+use Rattle.std.proofs.lemmas.List.Sums.{position_or_len_is}
 use Rattle.std.proofs.lemmas.Map.Made.{AllPairs-from_IsDistinct}
-use Rattle.std.proofs.lemmas.Option.{slice_get-get_or}
 use Rattle.std.proofs.lemmas.Slice.Eq.{bytes_eq-Decides}
+use Rattle.vpc_base.proofs.Bytes.{bytes_self, same_bytes}
+use Rattle.vpc_base.proofs.Members.{filter-nothing, list_any-member, map-nothing, row-member}
+use Rattle.vpc_base.proofs.Positions.{found-at, position-at, position-none_member}
 use Rattle.vpc_laws.specs.Types.{Acl, Description, EniNo, IgwNo, Interface, InternetGateway, NatGateway, NatNo, PeerNo, Peering, RouteTable, Subnet, SubnetNo, TableNo, Vpc, VpcNo}
 use Rattle.vpc_model.specs.declared.rows.NatLife.TheVariants as lives
 use Rattle.vpc_model.specs.declared.refusals.Refusal.TheVariants as refusals
@@ -20,37 +19,6 @@ use Rattle.vpc_model.specs.Lookup.{acl_of, eni_no, has_address, has_interface, h
 use Rattle.vpc_model.specs.Sound.{is_acl, is_eni, is_nat, is_subnet, is_table}
 use Rattle.vpc_laws.specs.Accepted.{IdsHaveNumbers, NumbersAreInRange, NumbersAreOwn}
 use Rattle.vpc_laws.proofs.Accepting.{accepted_has_all_named, accepted_has_nothing_twice, accepted_is_faultless}
-use Rattle.vpc_laws.proofs.Choosing.{position-None}
-use Rattle.vpc_laws.proofs.Members.{filter-nothing, list_any-member, map-nothing}
-
--- ---- rows that a test finds
-
-pub found-at : {X : Type 0} (p : X → Bool) (xs : List X) (d : X) → list_any p xs ≡ true → (ltb (position_or_len p xs) (length xs) ≡ true) × (p (slice_index_or xs (position_or_len p xs) d) ≡ true)
-found-at p xs d some =
-    let any = Any-from_list_any p xs some in
-    elim (cases_Bool (ltb (position_or_len p xs) (length xs))) [
-      | inl inside ↦ (inside, passes_at_first p xs d (ltb-true (position_or_len p xs) (length xs) inside))
-      | inr past ↦
-          let most = ltb-false (position_or_len p xs) (length xs) past in
-          let below = any.2 in
-          absurd (both_ways (p any.1) (subst (λ z. p z ≡ false) any.3 (fails_before_first p xs any.0 any.1 (omega arith))) any.4)
-    ]
-
-pub position-at : {X : Type 0} (p : X → Bool) (xs : List X) (k : ℕ) (d : X) → position p xs ≡ Some k → (ltb k (length xs) ≡ true) × (p (slice_index_or xs k d) ≡ true)
-position-at p xs k d e = let first = position-Some p xs k d e in (lt-ltb k (length xs) first.0, first.1)
-
-pub position-none_member : {X : Type 0} (p : X → Bool) (xs : List X) (x : X) → position p xs ≡ None → Contains xs x → p x ≡ false
-position-none_member p xs x e has = position-None p xs has.0 x e (slice_get-get_or xs has.0 x has.1 ∙ ap Some has.2)
-
--- a row in range is in the list
-pub row-member : {X : Type 0} (xs : List X) (k : ℕ) (d : X) → ltb k (length xs) ≡ true → Contains xs (slice_index_or xs k d)
-row-member xs k d inside = Contains-get_or xs k d (ltb-true k (length xs) inside)
-
-pub same_bytes : (a b : List ℕ) → bytes_eq a b ≡ true → a ≡ b
-same_bytes a b e = (bytes_eq-Decides a b).0 e
-
-pub bytes_self : (a : List ℕ) → bytes_eq a a ≡ true
-bytes_self a = (bytes_eq-Decides a a).1 refl
 
 -- ---- ids
 
@@ -90,6 +58,11 @@ ids_are_found d = record {
   nat = λ id has. id-found (λ (n : NatGateway). n.id) d.nats no_nat id has;
   peering = λ id has. id-found (λ (x : Peering). x.id) d.peerings no_peering id has;
 }
+
+-- an interface that an id finds has a number in range
+pub named-lies : (d : Description) (id : List ℕ) (found : Option EniNo) → is_some found ≡ has_interface d id → IfSome found (λ i. i ≡ eni_no d id) → IfSome found (λ i. is_eni d i ≡ true)
+named-lies d id None some own = tt
+named-lies d id (Some i) some own = subst (λ (k : EniNo). is_eni d k ≡ true) (sym own) ((ids_are_found d).interface id (sym some)).0
 
 -- ---- numbers
 

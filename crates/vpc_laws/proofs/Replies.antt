@@ -2,9 +2,11 @@
 use Rattle.std.proofs.Common.{◌≡◌, ◌≤◌, ◌<◌, ◌==◌, ◌&&◌, Bool, true, false, List, [], ◌∷◌, ◌++◌, Option, Some, None, refl, ◌∙◌, sym, ap, arith, inl, inr, option_and_then}
 use Rattle.std.specs.List.{count_by, find, IsDistinct, Contains}
 use Rattle.std.proofs.lemmas.Bool.{and_parts, and_from, eqb-true, eq-eqb, cases_Bool, both_ways, le-leb, lt-leb, true≢false}
+use Rattle.std.proofs.lemmas.Option.{same_Some}
 use Rattle.std.proofs.lemmas.Map.Keys.{IsDistinct-head, IsDistinct-tail}
 use Rattle.vpc_base.specs.Header.{reply_of, echo_reply, exchanged}
 use Rattle.vpc_base.specs.declared.headers.Label.TheVariants.{Opening}
+use Rattle.vpc_base.proofs.Members.{AllByRecursion-at, Contains-cases}
 use Rattle.vpc_model.specs.declared.places.Place.TheVariants.{NatOut}
 use Rattle.vpc_model.specs.declared.stops.Stop.TheVariants.{NatFull}
 use Rattle.vpc_laws.specs.Types.{Description, Header, NatNo}
@@ -16,7 +18,6 @@ use Rattle.vpc_model.specs.Nat.{Translation, inward, is_translatable, new_transl
 use Rattle.vpc_model.specs.Step.{step_of}
 use Rattle.vpc_model.specs.Step.Nat.{from_nat, own_address}
 use Rattle.vpc_model.specs.Step.Words.{stop}
-use Rattle.vpc_laws.proofs.Members.{AllByRecursion-at, Contains-cases}
 use Rattle.vpc_laws.proofs.Flow.{IsSame, same_header-fields}
 
 -- ---- replies
@@ -26,20 +27,17 @@ data IsReply (a r : Header) : Type 0 where
   echo : a.proto ≡ 1 → a.q ≡ 2048 → r.proto ≡ a.proto → r.src ≡ a.dst → r.p ≡ a.p → IsReply a r
   other : a.proto == 1 ≡ false → r.proto ≡ a.proto → r.src ≡ a.dst → r.p ≡ a.q → r.q ≡ a.p → IsReply a r
 
-pub Some-same : {X : Type 0} (x y : X) → Some x ≡ Some y → x ≡ y
-Some-same x y e = cc
-
 reply_of-tells : (a r : Header) → reply_of a ≡ Some r → IsReply a r
 reply_of-tells a r e =
     elim (cases_Bool (a.proto == 1)) [
       | inl icmp ↦ elim (cases_Bool (a.q == 2048)) [
         | inl asks ↦
-            let same : echo_reply a ≡ r = Some-same _ _ (rw (icmp, asks) at e) in
+            let same : echo_reply a ≡ r = same_Some _ _ (rw (icmp, asks) at e) in
             echo (eqb-true a.proto 1 icmp) (eqb-true a.q 2048 asks) (sym (ap (λ (h : Header). h.proto) same)) (sym (ap (λ (h : Header). h.src) same)) (sym (ap (λ (h : Header). h.p) same))
         | inr says ↦ let none = (rw (icmp, says) at e) in cc
       ]
       | inr not_icmp ↦
-          let same : exchanged a ≡ r = Some-same _ _ (rw not_icmp at e) in
+          let same : exchanged a ≡ r = same_Some _ _ (rw not_icmp at e) in
           other not_icmp (sym (ap (λ (h : Header). h.proto) same)) (sym (ap (λ (h : Header). h.src) same)) (sym (ap (λ (h : Header). h.p) same)) (sym (ap (λ (h : Header). h.q) same))
     ]
 

@@ -1,5 +1,5 @@
 -- What route tables, transit gateway tables, prefix lists and ACLs choose.
-use Rattle.std.proofs.Common.{◌≡◌, ℕ, ◌<◌, ◌≤◌, ◌==◌, ◌&&◌, ◌||◌, ◌⊎◌, Bool, List, None, Option, Some, ap, arith, false, inl, inr, length, ltb, not, refl, subst, sym, true, ◌∙◌, option_and_then, option_map}
+use Rattle.std.proofs.Common.{◌≡◌, ℕ, ◌<◌, ◌==◌, ◌&&◌, ◌||◌, ◌⊎◌, Bool, List, None, Option, Some, ap, arith, false, inl, inr, length, ltb, not, refl, subst, sym, true, ◌∙◌, option_and_then, option_map}
 use Rattle.std.specs.List.{Contains, list_any, position_or_len, slice_get}
 use Rattle.std.specs.Cmp.{IsStrictWeakOrder}
 use Rattle.std.proofs.lemmas.Bool.{and_cases, and_from, and_left, and_parts, and_right, both_ways, cases_Bool, ltb-false, ltb-true, not-false, not_from_false, not_from_true}
@@ -133,9 +133,6 @@ tgw_routes_are_chosen routes a =
     (chooses-best (λ (r : TgwRoute). holds a r.block) beats_tgw routes beats_tgw-order (chosen_tgw_route routes a) refl)
 
 -- ---- the chosen row itself
-
-cond-position : (n len : ℕ) → ltb n len ≡ false → len ≤ n
-cond-position n len e = ltb-false n len e
 
 -- a row is found at its number
 pub find-at_position : {X : Type 0} (candidate : X → Bool) (beats : X → X → Bool) (rows : List X) → chosen candidate beats rows ≡ option_and_then (slice_get rows) (chosen_number candidate beats rows)

@@ -1,5 +1,5 @@
 -- The tests of places, headers, connections and ends decide whether two of them are one.
-use Rattle.std.proofs.Common.{◌≡◌, ℕ, ◌==◌, ◌&&◌, Bool, true, refl, ap, subst}
+use Rattle.std.proofs.Common.{◌≡◌, ℕ, ◌==◌, ◌&&◌, true, refl, ap, subst, ap₂}
 use Rattle.std.specs.Bool.{Decides}
 use Rattle.std.proofs.lemmas.Bool.{and_parts, and_from, eqb-true, eq-eqb, false≢true}
 use Rattle.vpc_base.specs.Dir.{same_dir}
@@ -29,17 +29,14 @@ EniNo-same a b e = let make : ℕ → EniNo = λ k. record { 0 = k } in ap make 
 pub NatNo-same : (a b : NatNo) → (a.0 == b.0) ≡ true → a ≡ b
 NatNo-same a b e = let make : ℕ → NatNo = λ k. record { 0 = k } in ap make (eqb-true a.0 b.0 e)
 
-PeerNo-same : (a b : PeerNo) → (a.0 == b.0) ≡ true → a ≡ b
+pub PeerNo-same : (a b : PeerNo) → (a.0 == b.0) ≡ true → a ≡ b
 PeerNo-same a b e = let make : ℕ → PeerNo = λ k. record { 0 = k } in ap make (eqb-true a.0 b.0 e)
 
-AttNo-same : (a b : AttNo) → (a.0 == b.0) ≡ true → a ≡ b
+pub AttNo-same : (a b : AttNo) → (a.0 == b.0) ≡ true → a ≡ b
 AttNo-same a b e = let make : ℕ → AttNo = λ k. record { 0 = k } in ap make (eqb-true a.0 b.0 e)
 
 pub itself : (n : ℕ) → (n == n) ≡ true
 itself n = eq-eqb n n refl
-
-both : (x y : Bool) → x ≡ true → y ≡ true → (x && y) ≡ true
-both x y a b = and_from x y a b
 
 -- ---- places
 
@@ -63,38 +60,34 @@ same_enter-refl : (a : EnterBy) → same_enter a a ≡ true
 same_enter-refl Gateway = refl
 same_enter-refl (Peering x) = itself x.0
 
--- places of two parts
-two : {A B C : Type 0} (make : A → B → C) (a c : A) (b d : B) → a ≡ c → b ≡ d → make a b ≡ make c d
-two make a c b d e f = cc
-
 pub same_place-true : (p q : Place) → same_place p q ≡ true → p ≡ q
 same_place-true (OutOf i) (OutOf j) e = ap OutOf (EniNo-same i j e)
-same_place-true (Router s c) (Router t b) e = let parts = and_parts (s.0 == t.0) (same_came c b) e in two Router s t c b (SubnetNo-same s t parts.0) (same_came-true c b parts.1)
-same_place-true (Enter v b) (Enter w c) e = let parts = and_parts (v.0 == w.0) (same_enter b c) e in two Enter v w b c (VpcNo-same v w parts.0) (same_enter-true b c parts.1)
+same_place-true (Router s c) (Router t b) e = let parts = and_parts (s.0 == t.0) (same_came c b) e in ap₂ Router (SubnetNo-same s t parts.0) (same_came-true c b parts.1)
+same_place-true (Enter v b) (Enter w c) e = let parts = and_parts (v.0 == w.0) (same_enter b c) e in ap₂ Enter (VpcNo-same v w parts.0) (same_enter-true b c parts.1)
 same_place-true (Into i) (Into j) e = ap Into (EniNo-same i j e)
 same_place-true (IgwOut v) (IgwOut w) e = ap IgwOut (VpcNo-same v w e)
 same_place-true Internet Internet e = refl
 same_place-true (IgwIn v) (IgwIn w) e = ap IgwIn (VpcNo-same v w e)
 same_place-true (NatOut n) (NatOut o) e = ap NatOut (NatNo-same n o e)
 same_place-true (NatIn n) (NatIn o) e = ap NatIn (NatNo-same n o e)
-same_place-true (Peer x v) (Peer y w) e = let parts = and_parts (x.0 == y.0) (v.0 == w.0) e in two Peer x y v w (PeerNo-same x y parts.0) (VpcNo-same v w parts.1)
-same_place-true (Tgw a s) (Tgw b t) e = let parts = and_parts (a.0 == b.0) (s.0 == t.0) e in two Tgw a b s t (AttNo-same a b parts.0) (SubnetNo-same s t parts.1)
-same_place-true (TgwLeave a s) (TgwLeave b t) e = let parts = and_parts (a.0 == b.0) (s.0 == t.0) e in two TgwLeave a b s t (AttNo-same a b parts.0) (SubnetNo-same s t parts.1)
+same_place-true (Peer x v) (Peer y w) e = let parts = and_parts (x.0 == y.0) (v.0 == w.0) e in ap₂ Peer (PeerNo-same x y parts.0) (VpcNo-same v w parts.1)
+same_place-true (Tgw a s) (Tgw b t) e = let parts = and_parts (a.0 == b.0) (s.0 == t.0) e in ap₂ Tgw (AttNo-same a b parts.0) (SubnetNo-same s t parts.1)
+same_place-true (TgwLeave a s) (TgwLeave b t) e = let parts = and_parts (a.0 == b.0) (s.0 == t.0) e in ap₂ TgwLeave (AttNo-same a b parts.0) (SubnetNo-same s t parts.1)
 same_place-true _ _ e = absurd (false≢true e)
 
 pub same_place-refl : (p : Place) → same_place p p ≡ true
 same_place-refl (OutOf i) = itself i.0
-same_place-refl (Router s c) = both (s.0 == s.0) (same_came c c) (itself s.0) (same_came-refl c)
-same_place-refl (Enter v b) = both (v.0 == v.0) (same_enter b b) (itself v.0) (same_enter-refl b)
+same_place-refl (Router s c) = and_from (s.0 == s.0) (same_came c c) (itself s.0) (same_came-refl c)
+same_place-refl (Enter v b) = and_from (v.0 == v.0) (same_enter b b) (itself v.0) (same_enter-refl b)
 same_place-refl (Into i) = itself i.0
 same_place-refl (IgwOut v) = itself v.0
 same_place-refl Internet = refl
 same_place-refl (IgwIn v) = itself v.0
 same_place-refl (NatOut n) = itself n.0
 same_place-refl (NatIn n) = itself n.0
-same_place-refl (Peer x v) = both (x.0 == x.0) (v.0 == v.0) (itself x.0) (itself v.0)
-same_place-refl (Tgw a s) = both (a.0 == a.0) (s.0 == s.0) (itself a.0) (itself s.0)
-same_place-refl (TgwLeave a s) = both (a.0 == a.0) (s.0 == s.0) (itself a.0) (itself s.0)
+same_place-refl (Peer x v) = and_from (x.0 == x.0) (v.0 == v.0) (itself x.0) (itself v.0)
+same_place-refl (Tgw a s) = and_from (a.0 == a.0) (s.0 == s.0) (itself a.0) (itself s.0)
+same_place-refl (TgwLeave a s) = and_from (a.0 == a.0) (s.0 == s.0) (itself a.0) (itself s.0)
 
 pub places_are_told_apart : (p q : Place) → Decides (same_place p q) (p ≡ q)
 places_are_told_apart p q = (same_place-true p q, λ e. subst (λ (r : Place). same_place p r ≡ true) e (same_place-refl p))
@@ -141,8 +134,8 @@ same_connection-true a b e =
 
 same_connection-refl : (a : Connection) → same_connection a a ≡ true
 same_connection-refl a =
-    both (a.eni.0 == a.eni.0) (same_dir a.dir a.dir && same_header a.header a.header) (itself a.eni.0)
-    (both (same_dir a.dir a.dir) (same_header a.header a.header) (same_dir-refl a.dir) (same_header-refl a.header))
+    and_from (a.eni.0 == a.eni.0) (same_dir a.dir a.dir && same_header a.header a.header) (itself a.eni.0)
+    (and_from (same_dir a.dir a.dir) (same_header a.header a.header) (same_dir-refl a.dir) (same_header-refl a.header))
 
 pub connections_are_told_apart : (a b : Connection) → Decides (same_connection a b) (a ≡ b)
 connections_are_told_apart a b = (same_connection-true a b, λ e. subst (λ (c : Connection). same_connection a c ≡ true) e (same_connection-refl a))

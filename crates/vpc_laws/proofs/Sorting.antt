@@ -11,6 +11,8 @@ use Rattle.std.proofs.lemmas.List.Folds.{Any-from_list_any, find_at}
 use Rattle.std.proofs.lemmas.List.Sorted.{list_any-IsPermutation, sorted_far}
 use Rattle.std.proofs.lemmas.List.Sums.{fails_before_first}
 use Rattle.std.proofs.lemmas.Option.{slice_get-get_or, get_or_from_slice_get}
+use Rattle.vpc_base.proofs.Members.{AllByRecursion-weaker}
+use Rattle.vpc_base.proofs.Tests.{find-nowhere}
 use Rattle.vpc_laws.specs.Types.{AclRow, Dir, Header}
 use Rattle.vpc_model.specs.Acls.{acl_matches, acl_verdict, verdict_of_row}
 use Rattle.vpc_model.specs.Choice.{chosen, is_unbeaten}
@@ -58,17 +60,9 @@ find-passes p (x ∷ xs) m e =
       | inr fails ↦ let rest = find-passes p xs m (rw fails at e) in (rest.0, or_right (p x) (list_any p xs) rest.1)
     ]
 
-find-nothing : {X : Type 0} (p : X → Bool) (xs : List X) → list_any p xs ≡ false → find p xs ≡ None
-find-nothing p [] none = refl
-find-nothing p (x ∷ xs) none = let parts = or_parts (p x) (list_any p xs) none in rw parts.0 (find-nothing p xs parts.1)
-
 all-from_none : {X : Type 0} (p : X → Bool) (xs : List X) → list_any p xs ≡ false → AllByRecursion (λ x. p x ≡ false) xs
 all-from_none p [] none = tt
 all-from_none p (x ∷ xs) none = let parts = or_parts (p x) (list_any p xs) none in (parts.0, all-from_none p xs parts.1)
-
-pub all-turned : {X : Type 0} (P Q : X → Type 0) → ((x : X) → P x → Q x) → (xs : List X) → AllByRecursion P xs → AllByRecursion Q xs
-all-turned P Q turn [] all = tt
-all-turned P Q turn (x ∷ xs) all = (turn x all.0, all-turned P Q turn xs all.1)
 
 -- ---- sorted rows
 
@@ -142,12 +136,12 @@ unbeaten-ties candidate lt order xs m at_m there least x under =
 pub find-sorted : {X : Type 0} (candidate : X → Bool) (lt : X → X → Bool) → IsStrictWeakOrder lt → (xs ys : List X) → IsPermutation xs ys → IsSortedBy lt ys → IsStableBy lt xs ys → (o : Option X) → find candidate ys ≡ o → chosen candidate lt xs ≡ o
 find-sorted candidate lt order xs ys same sorted stable None none =
     let nobody : list_any candidate xs ≡ false = list_any-IsPermutation candidate xs ys same ∙ find-none candidate ys none in
-    find-nothing (is_unbeaten candidate lt xs) xs (none-unbeaten candidate lt xs xs nobody)
+    find-nowhere (is_unbeaten candidate lt xs) xs (none-unbeaten candidate lt xs xs nobody)
 find-sorted {X = X} candidate lt order xs ys same sorted stable (Some m) first =
     let there : ((q : X → Bool) → q m ≡ true → list_any q xs ≡ true) = λ q at. list_any-IsPermutation q xs ys same ∙ find-there candidate q ys m first at in
     let passes = find-passes candidate ys m first in
     let least : list_any (λ y. candidate y && lt y m) xs ≡ false = list_any-IsPermutation (λ y. candidate y && lt y m) xs ys same ∙ first-is_least candidate lt order ys sorted m first in
-    let alike = all-turned (λ x. (candidate x && lt x m) ≡ false) (λ x. is_unbeaten candidate lt xs x ≡ (ties lt m x && candidate x)) (unbeaten-ties candidate lt order xs m passes.0 there least) xs
+    let alike = AllByRecursion-weaker (λ x. (candidate x && lt x m) ≡ false) (λ x. is_unbeaten candidate lt xs x ≡ (ties lt m x && candidate x)) (unbeaten-ties candidate lt order xs m passes.0 there least) xs
     (all-from_none (λ x. candidate x && lt x m) xs least) in
     let self = beats-self lt order m in
     let tied : ties lt m m ≡ true = rw self refl in

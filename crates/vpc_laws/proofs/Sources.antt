@@ -2,6 +2,7 @@
 use Rattle.std.proofs.Common.{◌≡◌, ℕ, refl, subst, sym, true}
 use Rattle.std.specs.List.{AllByRecursion, Contains}
 use Rattle.std.proofs.lemmas.Bool.{and_parts, false≢true}
+use Rattle.vpc_base.proofs.Members.{row-member}
 use Rattle.vpc_laws.specs.Types.{Description, Header, Interface, Label, NatLife, NatNo}
 use Rattle.vpc_model.specs.declared.rows.NatLife.TheVariants as lives
 use Rattle.vpc_model.specs.declared.places.Place.TheVariants as places
@@ -14,7 +15,7 @@ use Rattle.vpc_model.specs.Step.Nat.{own_address}
 use Rattle.vpc_model.specs.Step.Words.{Moment, Next, arrive, go, stop}
 use Rattle.vpc_laws.specs.Rewriting.{IfGoes, IsToOwn}
 use Rattle.vpc_laws.proofs.Gateways.{nat_gives_own_address}
-use Rattle.vpc_laws.proofs.Numbering.{nat_addresses_are_interfaces, row-member}
+use Rattle.vpc_laws.proofs.Numbering.{nat_addresses_are_interfaces}
 
 abbrev HasInterface : Description → ℕ → Type 0
 HasInterface d a = (e : Interface) × Contains d.interfaces e × (has_address e a ≡ true)

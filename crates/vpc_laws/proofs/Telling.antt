@@ -57,7 +57,7 @@ walks_are_sound d appliances label m accepted sound =
 
 -- ---- verdicts
 
-start-sound : (d : Description) (end : End) → is_end d end ≡ true → is_sound d (start_of end) ≡ true
+pub start-sound : (d : Description) (end : End) → is_end d end ≡ true → is_sound d (start_of end) ≡ true
 start-sound d (ends.Interface i) e = e
 start-sound d ends.Internet e = refl
 

@@ -99,7 +99,7 @@ walk_is_short d appliances label m =
     let s = step_of d appliances label m in
     walk_on-length d appliances label 63 (hop_at d appliances label m ∷ []) m.header s.next s.conns s.nats
 
-places_of-push : (hops : List Hop) (h : Hop) → places_of (hops ++ h ∷ []) ≡ places_of hops ++ h.place ∷ []
+pub places_of-push : (hops : List Hop) (h : Hop) → places_of (hops ++ h ∷ []) ≡ places_of hops ++ h.place ∷ []
 places_of-push [] h = refl
 places_of-push (x ∷ hops) h = ap (λ (ps : List Place). x.place ∷ ps) (places_of-push hops h)
 

@@ -1,5 +1,5 @@
 use Rattle.std.proofs.Common.{sym}
-use Rattle.command_job.proofs.Answers.{if_ok}
+use Rattle.vpc_base.proofs.Results.{if_ok}
 use Rattle.answer_check.specs.Texts as texts
 use Rattle.answer_check.proofs.command.check_text.Goals as goal
 

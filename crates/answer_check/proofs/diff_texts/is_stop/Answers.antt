@@ -1,5 +1,5 @@
 use Rattle.std.proofs.Common.{◌∙◌, ap}
-use Rattle.block_report.specs.Walks.{name_text}
+use Rattle.vpc_model.specs.Names.{name_text}
 use Rattle.vpc_model.specs.Told.{name_of, stop_id, stop_rule}
 use Rattle.answer_check.proofs.DiffPieces.{none_after_two, same_after_two}
 use Rattle.answer_check.proofs.diff_texts.is_stop.Goals as goal

@@ -1,7 +1,7 @@
 use Rattle.std.proofs.Common.{◌≡◌, ◌∙◌, List, ap, arith, drop, length, map, sym, ℕ}
 use Rattle.std.proofs.lemmas.List.{drop-map}
+use Rattle.vpc_base.proofs.Results.{if_ok}
 use Rattle.change_report.specs.Asked.{Comparison, comparison}
-use Rattle.command_job.proofs.Answers.{if_ok}
 use Rattle.listing_check.specs.Answered.{IsListingChecked}
 use Rattle.answer_check.specs.Diffs.{IsCheckedFor, all_asked}
 use Rattle.answer_check.proofs.DiffChecking.{checked_for}

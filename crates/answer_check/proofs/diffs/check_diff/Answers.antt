@@ -1,5 +1,5 @@
 use Rattle.std.proofs.Common.{◌∙◌, sym}
-use Rattle.command_job.proofs.Answers.{if_ok}
+use Rattle.vpc_base.proofs.Results.{if_ok}
 use Rattle.answer_check.specs.Diffs as diffs
 use Rattle.answer_check.proofs.DiffChecking.{diff_answers}
 use Rattle.answer_check.proofs.diffs.check_diff.Goals as goal

@@ -1,5 +1,5 @@
 use Rattle.std.proofs.Common.{◌∙◌, ap, map, sym}
-use Rattle.command_job.proofs.Answers.{if_ok}
+use Rattle.vpc_base.proofs.Results.{if_ok}
 use Rattle.answer_check.specs.DiffStarts as starts
 use Rattle.answer_check.specs.Diffs.{diff_question}
 use Rattle.answer_check.proofs.diffs.check_lines.Goals as goal

@@ -1,5 +1,5 @@
 use Rattle.std.proofs.Common.{map}
-use Rattle.command_job.proofs.Answers.{if_ok}
+use Rattle.vpc_base.proofs.Results.{if_ok}
 use Rattle.answer_check.proofs.DiffChecking.{lines_as}
 use Rattle.answer_check.proofs.diffs.check_listing.Goals as goal
 

@@ -1,4 +1,4 @@
-use Rattle.command_job.proofs.Answers.{if_ok}
+use Rattle.vpc_base.proofs.Results.{if_ok}
 use Rattle.answer_check.specs.Questions as questions
 use Rattle.answer_check.proofs.reaches.check_asked.Goals as goal
 

@@ -1,5 +1,5 @@
 use Rattle.std.proofs.Common.{map, sym}
-use Rattle.command_job.proofs.Answers.{if_ok}
+use Rattle.vpc_base.proofs.Results.{if_ok}
 use Rattle.answer_check.proofs.Checked.{checked_of, refused_of}
 use Rattle.answer_check.proofs.reaches.check_lines.Goals as goal
 

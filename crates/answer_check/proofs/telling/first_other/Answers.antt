@@ -1,5 +1,5 @@
 use Rattle.std.specs.Prelude.{option_map}
-use Rattle.command_job.proofs.Answers.{if_ok}
+use Rattle.vpc_base.proofs.Results.{if_ok}
 use Rattle.header_boxes.specs.Rows.{IsFirst}
 use Rattle.listing_check.specs.Looks.{IsOther}
 use Rattle.answer_check.specs.Agreement.{agreement_of}

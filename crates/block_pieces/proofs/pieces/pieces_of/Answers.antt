@@ -1,24 +1,24 @@
 use Rattle.std.proofs.Common.{◌≡◌, ◌∷◌, ◌∙◌, ap, arith, length, map, subst, sym}
 use Rattle.std.specs.List.{Contains}
+use Rattle.vpc_base.proofs.Members.{Contains-here}
 use Rattle.prefix_text.specs.Block.{IsBlock}
 use Rattle.std.specs.List.{All}
 use Rattle.piece_table.specs.Pieces.{told_at}
 use Rattle.block_pieces.specs.declared.rows.BlockRow.{BlockRow}
 use Rattle.block_pieces.specs.Told.{told_by}
 use Rattle.block_pieces.specs.Sweep.{within_line}
-use Rattle.block_pieces.proofs.Members.{Contains-head}
 use Rattle.block_pieces.proofs.Borders.{first-border, first-zero, length-within_line, told_at-border_pieces}
 use Rattle.block_pieces.proofs.pieces.pieces_of.Goals as goal
 
 pub of-requires-clause-some : goal.of-requires-clause-some
 of-requires-clause-some c =
     let is = c.in_ok-all_borders.ensures.all in
-    (first-zero c.ascending-firsts.result.items c.ascending-firsts.ensures.order ((c.ascending-firsts.ensures.members 0).1 (subst (λ l. Contains l 0) (sym is) (Contains-head 0 (within_line c.deref.result.now))))).0
+    (first-zero c.ascending-firsts.result.items c.ascending-firsts.ensures.order ((c.ascending-firsts.ensures.members 0).1 (subst (λ l. Contains l 0) (sym is) (Contains-here 0 (within_line c.deref.result.now))))).0
 
 pub of-requires-clause-zero : goal.of-requires-clause-zero
 of-requires-clause-zero c =
     let is = c.in_ok-all_borders.ensures.all in
-    (first-zero c.ascending-firsts.result.items c.ascending-firsts.ensures.order ((c.ascending-firsts.ensures.members 0).1 (subst (λ l. Contains l 0) (sym is) (Contains-head 0 (within_line c.deref.result.now))))).1
+    (first-zero c.ascending-firsts.result.items c.ascending-firsts.ensures.order ((c.ascending-firsts.ensures.members 0).1 (subst (λ l. Contains l 0) (sym is) (Contains-here 0 (within_line c.deref.result.now))))).1
 
 pub returns-clause-told : goal.returns-clause-told
 returns-clause-told c = λ a fits.

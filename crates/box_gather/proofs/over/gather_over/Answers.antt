@@ -2,7 +2,7 @@ use Rattle.std.proofs.Common.{◌≡◌, ◌+◌, List, rules, subst, take}
 use Rattle.std.proofs.lemmas.List.{get_or_default}
 use Rattle.header_boxes.specs.declared.boxes.Box5.{Box5}
 use Rattle.box_gather.specs.Pile.{IsPile}
-use Rattle.box_gather.proofs.Trims.{all_taken, few_all, few_some, gathered_over, pile_from_gathered, pile_more, pile_shortened, pile_trimmed}
+use Rattle.box_gather.proofs.Trims.{all_taken, few_all, few_taken, gathered_over, pile_from_gathered, pile_more, pile_shortened, pile_trimmed}
 use Rattle.box_gather.proofs.over.gather_over.Goals as goal
 
 pub loop-part-preserved : goal.loop-part-preserved
@@ -12,7 +12,7 @@ loop-part-preserved g c =
     let boxes = c.args.boxes.now in
     let k = c.loop-part.part-index in
     let part = pile_from_gathered meaning cuts _ c.args.room c.in_ok-more.more c.pile_of.result.rows.items c.pile_of.result.next c.in_ok-more.ensures c.pile_of.ensures in
-    pile_shortened meaning cuts (take (k + 1) boxes) c.args.room c.join.new.self.rows.items c.shorten.new.self.rows.items c.join.new.self.next c.shorten.new.self.next (few_some boxes c.requires.disjoint (k + 1))
+    pile_shortened meaning cuts (take (k + 1) boxes) c.args.room c.join.new.self.rows.items c.shorten.new.self.rows.items c.join.new.self.next c.shorten.new.self.next (few_taken boxes c.requires.disjoint (k + 1))
     (pile_more meaning cuts boxes c.args.room k _ c.loop-part.pile.rows.items c.pile_of.result.rows.items c.join.new.self.rows.items c.loop-part.pile.next c.pile_of.result.next c.join.new.self.next c.requires.disjoint
     (search rules) (get_or_default boxes k _ _ (search rules)) c.loop-part.invariant part c.in_ok-join.ensures.next c.in_ok-join.ensures.rows)
     c.shorten.ensures

@@ -1,17 +1,13 @@
-use Rattle.std.proofs.Common.{◌≡◌, ◌==◌, ℕ, Option, Some, arith, subst, sym}
-use Rattle.std.proofs.lemmas.Bool.Decides.{nat_tests}
+use Rattle.std.proofs.Common.{◌==◌, ℕ, Option, Some, subst, sym}
 use Rattle.box_images.specs.Answers.{Answers}
 use Rattle.box_images.specs.Images.{header_at}
 use Rattle.box_images.specs.declared.fields.Side.TheVariants.{Proto}
 use Rattle.cut_laws.specs.Dividing.{Divide}
 use Rattle.vpc_model.specs.Filter.{is_between, matches_proto}
-use Rattle.image_tests.proofs.Answering.{answers_same, side_answers}
+use Rattle.image_tests.proofs.Answering.{answers_same, between_itself, side_answers}
 use Rattle.image_tests.proofs.EdgeCuts.{proto_edges}
 use Rattle.image_tests.proofs.rules.proto_on.Goals as goal
 use Rattle.image_tests.specs.Tests.{TellsSide, cuts_of_proto}
-
-same : (n x : ℕ) → is_between n n x ≡ (n == x)
-same n x = grind (arith, nat_tests)
 
 pub returns-in-Some : goal.returns-in-Some
 returns-in-Some c =
@@ -22,5 +18,5 @@ returns-in-Some c =
     let told = subst (λ (k : ℕ). TellsSide i Proto n k x) c.from-in-Some.ensures told in
     subst (λ (proto : Option ℕ). Answers (Divide (cuts_of_proto proto)) (λ h. matches_proto proto (header_at i h).proto) i.part x) (sym c.in-Some.is)
     (answers_same (Divide (cuts_of_proto (Some n))) (λ h. is_between n n (header_at i h).proto) (λ h. n == (header_at i h).proto) i.part x
-    (λ h. same n (header_at i h).proto)
+    (λ h. between_itself n (header_at i h).proto)
     (side_answers (Divide (cuts_of_proto (Some n))) i Proto n n x c.requires.valid (proto_edges i n c.requires.walk) told))

@@ -1,5 +1,5 @@
 use Rattle.std.proofs.Common.{◌≤◌, All, List, ap, arith, length, subst, sym, ℕ}
-use Rattle.command_job.proofs.Answers.{if_ok}
+use Rattle.vpc_base.proofs.Results.{if_ok}
 use Rattle.header_boxes.specs.Boxes.{IsValid}
 use Rattle.header_boxes.specs.declared.rows.Row.{Row}
 use Rattle.listing_check.proofs.Decided.{checked_if_fault, checked_if_read, lists_counted}

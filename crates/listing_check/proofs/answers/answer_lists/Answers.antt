@@ -1,6 +1,6 @@
-use Rattle.command_job.proofs.Answers.{if_ok_two}
 use Rattle.command_job.specs.Lines.{line}
 use Rattle.std.proofs.Common.{◌≡◌}
+use Rattle.vpc_base.proofs.Results.{if_ok_two}
 use Rattle.listing_check.proofs.Decided.{found_names_start}
 use Rattle.listing_check.specs.Answered.{IsVerdict, found_status}
 use Rattle.listing_check.specs.Texts.{found_text}

@@ -1,6 +1,6 @@
-use Rattle.command_job.proofs.Answers.{if_ok}
 use Rattle.box_survey.specs.Survey.{IsFirstMattering}
 use Rattle.std.proofs.Common.{None}
+use Rattle.vpc_base.proofs.Results.{if_ok}
 use Rattle.listing_check.proofs.FirstDue.{told_in_common}
 use Rattle.listing_check.specs.Due.{IsToldIn}
 use Rattle.listing_check.specs.Looks.{IsOther}

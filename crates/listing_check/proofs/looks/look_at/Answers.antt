@@ -1,5 +1,5 @@
 use Rattle.std.proofs.Common.{sym}
-use Rattle.command_job.proofs.Answers.{if_ok}
+use Rattle.vpc_base.proofs.Results.{if_ok}
 use Rattle.listing_check.proofs.Looked.{look_same}
 use Rattle.listing_check.specs.Looks.{IsLook, asked_by}
 use Rattle.listing_check.proofs.looks.look_at.Goals as goal

@@ -1,5 +1,5 @@
 use Rattle.std.proofs.Common.{None, Some, subst}
-use Rattle.command_job.proofs.Answers.{if_ok}
+use Rattle.vpc_base.proofs.Results.{if_ok}
 use Rattle.box_survey.specs.Survey.{IsSurvey}
 use Rattle.listing_check.proofs.Looked.{look_apart}
 use Rattle.listing_check.specs.Due.{IsDue}

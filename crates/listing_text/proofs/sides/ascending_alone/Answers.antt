@@ -1,5 +1,5 @@
 use Rattle.std.proofs.Common.{◌∙◌, ap, map}
-use Rattle.command_job.proofs.Answers.{if_ok}
+use Rattle.vpc_base.proofs.Results.{if_ok}
 use Rattle.listing_text.specs.Sides.{alone}
 use Rattle.listing_text.proofs.sides.ascending_alone.Goals as goal
 

@@ -1,7 +1,7 @@
 use Rattle.std.proofs.Common.{◌∙◌, ap, sym}
+use Rattle.vpc_base.proofs.Results.{if_ok}
 use Rattle.made_reach.specs.Made.{made_count}
 use Rattle.made_reach.specs.Made as surveys
-use Rattle.command_job.proofs.Answers.{if_ok}
 use Rattle.made_reach.proofs.makes.make.Goals as goal
 
 pub returns-in-Some : goal.returns-in-Some

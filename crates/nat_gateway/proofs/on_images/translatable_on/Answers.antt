@@ -5,9 +5,9 @@ use Rattle.box_images.specs.Answers.{Answers}
 use Rattle.box_images.specs.Images.{header_at}
 use Rattle.box_images.specs.declared.images.Image.{Image}
 use Rattle.box_images.specs.declared.images.Part.{Part}
+use Rattle.box_images.proofs.LawLemmas.{answers_either, answers_first}
 use Rattle.cut_laws.specs.Dividing.{Divide}
 use Rattle.vpc_model.specs.Cuts.{fixed_cuts}
-use Rattle.nat_gateway.proofs.SentLemmas.{tells_first, tells_second}
 use Rattle.nat_gateway.proofs.on_images.translatable_on.Goals as goal
 
 -- asked of the image over a body
@@ -23,8 +23,8 @@ returns-then-tcp c =
     let icmp = c.protocol_on-icmp in
     let tcp = c.protocol_on-tcp in
     let asked = over_body i c.within.result icmp.result.body 6 tcp.result c.within.ensures.image tcp.ensures in
-    tells_second (Divide fixed_cuts) (λ h. proto h == 1) (λ h. (proto h == 6) || (proto h == 17)) i.part icmp.result tcp.result icmp.ensures c.if-icmp.false
-    (tells_first (Divide fixed_cuts) (λ h. proto h == 6) (λ h. proto h == 17) icmp.result.body tcp.result asked c.if-tcp.true)
+    answers_either (Divide fixed_cuts) (λ h. proto h == 1) (λ h. (proto h == 6) || (proto h == 17)) i.part icmp.result tcp.result c.if-icmp.false icmp.ensures
+    (answers_first (Divide fixed_cuts) (λ h. proto h == 6) (λ h. proto h == 17) icmp.result.body tcp.result c.if-tcp.true asked)
 
 pub returns : goal.returns
 returns c =
@@ -34,5 +34,5 @@ returns c =
     let tcp = c.protocol_on-tcp in
     let asked = over_body i c.within.result icmp.result.body 6 tcp.result c.within.ensures.image tcp.ensures in
     let last = over_body i c.within-2.result tcp.result.body 17 c.protocol_on.result c.within-2.ensures.image c.protocol_on.ensures in
-    tells_second (Divide fixed_cuts) (λ h. proto h == 1) (λ h. (proto h == 6) || (proto h == 17)) i.part icmp.result c.protocol_on.result icmp.ensures c.if-icmp.false
-    (tells_second (Divide fixed_cuts) (λ h. proto h == 6) (λ h. proto h == 17) icmp.result.body tcp.result c.protocol_on.result asked c.if-tcp.false last)
+    answers_either (Divide fixed_cuts) (λ h. proto h == 1) (λ h. (proto h == 6) || (proto h == 17)) i.part icmp.result c.protocol_on.result c.if-icmp.false icmp.ensures
+    (answers_either (Divide fixed_cuts) (λ h. proto h == 6) (λ h. proto h == 17) icmp.result.body tcp.result c.protocol_on.result c.if-tcp.false asked last)

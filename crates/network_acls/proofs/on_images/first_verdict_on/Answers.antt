@@ -1,7 +1,8 @@
 use Rattle.std.proofs.Common.{◌+◌, ◌∙◌, Some, ap, arith, subst, sym}
+use Rattle.vpc_base.proofs.Members.{row_has}
 use Rattle.box_images.specs.Images.{header_at}
 use Rattle.image_tests.proofs.Answering.{answers_map}
-use Rattle.image_tests.proofs.Trying.{IsTrying, low_of_rest, row_has, trying_first, trying_last, trying_next, trying_passed}
+use Rattle.image_tests.proofs.Trying.{IsTrying, low_of_rest, trying_first, trying_last, trying_next, trying_passed}
 use Rattle.vpc_model.specs.Acls.{verdict_of_row}
 use Rattle.network_acls.proofs.Matching.{answer_of_row, first_match, match_found, no_match_yet, none_of_rest, row_test}
 use Rattle.network_acls.proofs.on_images.first_verdict_on.Goals as goal

@@ -1,7 +1,7 @@
 use Rattle.std.proofs.Common.{map, string_bytes}
+use Rattle.vpc_base.proofs.Results.{if_ok, if_ok_two}
 use Rattle.query_words.specs.Packet.{packet_of}
 use Rattle.packet_trace.specs.Traced as traces
-use Rattle.command_job.proofs.Answers.{if_ok, if_ok_two}
 use Rattle.query_words.proofs.EventLemmas.{refused_if_told}
 use Rattle.packet_trace.proofs.traces.trace.Goals as goal
 

@@ -1,5 +1,5 @@
 use Rattle.std.proofs.Common.{map, sym}
-use Rattle.command_job.proofs.Answers.{if_ok, if_ok_two}
+use Rattle.vpc_base.proofs.Results.{if_ok, if_ok_two}
 use Rattle.reach_matrix.specs.Answered as matrix
 use Rattle.reach_matrix.proofs.answer.matrix.Goals as goal
 

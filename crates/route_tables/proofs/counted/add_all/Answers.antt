@@ -1,7 +1,7 @@
 use Rattle.std.proofs.Common.{◌∷◌, ◌++◌, ◌∙◌, [], ap}
+use Rattle.vpc_base.proofs.Steps.{All-one_more, pushed-map}
 use Rattle.prefix_text.specs.Block.{IsBlock}
 use Rattle.route_tables.specs.Rows.{row_of}
-use Rattle.route_tables.proofs.Steps.{All-one_more, pushed-map}
 use Rattle.route_tables.proofs.counted.add_all.Goals as goal
 
 pub loop-block-preserved : goal.loop-block-preserved

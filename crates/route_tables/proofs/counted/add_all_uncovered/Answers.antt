@@ -1,9 +1,10 @@
 use Rattle.std.proofs.Common.{◌∷◌, ◌++◌, ◌∙◌, [], ap, not}
 use Rattle.std.specs.List.{filter}
+use Rattle.vpc_base.proofs.Steps.{All-one_more}
 use Rattle.prefix_text.specs.Block.{IsBlock}
 use Rattle.block_pieces.specs.declared.rows.BlockRow.{BlockRow}
 use Rattle.route_tables.specs.Rows.{is_covered, row_of}
-use Rattle.route_tables.proofs.Steps.{All-one_more, pushed-filter}
+use Rattle.route_tables.proofs.Steps.{pushed-filter}
 use Rattle.route_tables.proofs.counted.add_all_uncovered.Goals as goal
 
 pub loop-block-preserved : goal.loop-block-preserved

@@ -1,9 +1,10 @@
 use Rattle.std.specs.List.{All}
+use Rattle.vpc_base.proofs.Steps.{All-one_more, All-whole}
 use Rattle.prefix_text.specs.Block.{IsBlock}
 use Rattle.vpc_laws.specs.Types.{Route}
 use Rattle.vpc_model.specs.Cuts.{blocks_of_reach}
 use Rattle.route_tables.specs.Rows.{counted_rows}
-use Rattle.route_tables.proofs.Steps.{All-one_more, All-whole, counted-end, counted-step}
+use Rattle.route_tables.proofs.Steps.{counted-end, counted-step}
 use Rattle.route_tables.proofs.counted.counted_rows.Goals as goal
 
 pub loop-number-preserved : goal.loop-number-preserved

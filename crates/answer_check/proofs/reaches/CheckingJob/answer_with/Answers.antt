@@ -1,7 +1,7 @@
 use Rattle.std.proofs.Common.{◌≡◌, ◌∙◌, ◌<◌, ◌^◌, List, ap, length, map, subst, sym, ℕ}
 use Rattle.std.specs.Prelude.{drop}
 use Rattle.std.proofs.lemmas.List.{drop-map}
-use Rattle.command_job.proofs.Answers.{if_ok}
+use Rattle.vpc_base.proofs.Results.{if_ok}
 use Rattle.end_reach.specs.Asked.{AreStarts, AreTargets}
 use Rattle.listing_check.specs.Answered.{IsListingChecked}
 use Rattle.listing_check.specs.Asked.{Asked}

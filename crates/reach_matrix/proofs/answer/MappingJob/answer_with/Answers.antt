@@ -3,7 +3,7 @@ use Rattle.std.specs.List.{All}
 use Rattle.vpc_laws.specs.Types.{Description, EniNo}
 use Rattle.vpc_model.specs.Sound.{is_eni}
 use Rattle.described_hosts.specs.Hosts.{AreHostsById}
-use Rattle.reach_matrix.proofs.AnswerLemmas.{hosts_are_described}
+use Rattle.described_hosts.proofs.HostLemmas.{hosts_are_described}
 use Rattle.reach_matrix.proofs.answer.MappingJob.answer_with.Goals as goal
 
 pub put_rows-requires-clause-hosts : goal.put_rows-requires-clause-hosts

@@ -1,0 +1,11 @@
+pub mod Bools
+pub mod Options
+pub mod Results
+pub mod Numbers
+pub mod Bytes
+pub mod Members
+pub mod Tests
+pub mod Positions
+pub mod Pairs
+pub mod Zips
+pub mod Steps
