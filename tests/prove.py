@@ -1,0 +1,170 @@
+"""Proves the crates of this checkout, lowest first, some at a time, over what earlier calls kept.
+
+    python3 tests/prove.py [--at-once N] [CRATE..]       these crates and what stands below them; all where none is named
+    python3 tests/prove.py --edits CRATE [EDIT..]        tries edits of a crate that is proved, those of the gate and of tests/edits
+
+For those who prove, where every gate begins from nothing: the first call takes as long as the gate's proofs, a call after a change what
+that changed. A crate that isn't proved is told with its first error, what stands on it waits, and all others go on; `bench/out/check/NAME.log` has
+the whole of what was said. Each edit takes seconds. It gives no verdict for the gate: what it keeps is trusted, and tests aren't run.
+"""
+
+import hashlib
+import os
+import re
+import shutil
+import subprocess
+import sys
+import tempfile
+from concurrent.futures import FIRST_COMPLETED, ThreadPoolExecutor, wait
+
+import check
+import edits
+
+PARTS = ("src", "specs", "proofs")
+
+
+def sources(crate):
+    """A checksum of a crate's files."""
+    told = hashlib.sha256()
+    for part in PARTS:
+        for at, folders, names in os.walk(os.path.join(check.TOP, "crates", crate, part)):
+            folders.sort()
+            for name in sorted(names):
+                path = os.path.join(at, name)
+                with open(path, "rb") as file:
+                    told.update(path.encode() + b"\0" + file.read())
+    return told.hexdigest()
+
+
+def below(all_crates, crate):
+    """The crates below one, each after those that it uses."""
+    found = []
+    for name in all_crates[crate]:
+        for it in [*below(all_crates, name), name] if name in all_crates else []:
+            if it not in found:
+                found.append(it)
+    return found
+
+
+def has_tests(crate):
+    source = os.path.join(check.TOP, "crates", crate, "src")
+    return any("#[test]" in open(os.path.join(at, it), encoding="utf-8").read() for at, _, names in os.walk(source) for it in names)
+
+
+def stamp_of(crate):
+    return os.path.join(check.KEPT, f"{crate}.stamp")
+
+
+def is_proved(crate, stamp):
+    try:
+        with open(stamp_of(crate), encoding="utf-8") as file:
+            return file.read() == stamp
+    except OSError:
+        return False
+
+
+def prove(crate, stamp):
+    """Whether the crate is proved, and its tests where it has some; what isn't is told."""
+    os.makedirs(check.KEPT, exist_ok=True)
+    for flags in [[], *[["--test"]] * has_tests(crate)]:
+        with open(os.path.join(check.KEPT, f"{crate}.log"), "w+", encoding="utf-8", errors="replace") as log:
+            words = check.command(check.KEPT, crate, flags)
+            status = subprocess.call(words, cwd=os.path.join(check.TOP, "crates", crate), stdin=subprocess.DEVNULL, stdout=log, stderr=log)
+            log.seek(0)
+            if status:
+                first = next((line.strip() for line in log if ": error" in line or line.startswith("rattle")), "no error is told")
+                print(f"FAILED: {crate}{' (tests)' * bool(flags)}: {first}", flush=True)
+                return False
+    with open(stamp_of(crate), "w", encoding="utf-8") as file:
+        file.write(stamp)
+    print(f"{crate} proved", flush=True)
+    return True
+
+
+def prove_all(names, at_once):
+    all_crates = check.crates()
+    unknown = [it for it in names if it not in all_crates]
+    if unknown:
+        sys.exit(f"crates.txt has no {unknown[0]}")
+    wanted = []
+    for name in names or all_crates:
+        wanted += [it for it in [*below(all_crates, name), name] if it not in wanted]
+    own = {it: sources(it) for it in wanted}
+    stamps = {it: " ".join([own[it], *[own[low] for low in below(all_crates, it)]]) for it in wanted}
+    given = {it: True for it in wanted if is_proved(it, stamps[it])}
+    left, running = [it for it in wanted if it not in given], {}
+    with ThreadPoolExecutor(at_once) as pool:
+        while left or running:
+            for crate in list(left):
+                lower = [given.get(it) for it in below(all_crates, crate)]
+                if False in lower:
+                    left.remove(crate)
+                    given[crate] = False
+                elif None not in lower and len(running) < at_once:
+                    left.remove(crate)
+                    running[pool.submit(prove, crate, stamps[crate])] = crate
+            for it in wait(running, return_when=FIRST_COMPLETED).done if running else []:
+                given[running.pop(it)] = it.result()
+    return sum(given.values()), sum(not it for it in given.values())
+
+
+def edited(path, room):
+    """Applies an edit to the copy of its crate."""
+    file, old = None, None
+    with open(path, encoding="utf-8") as lines:
+        for line in lines.read().split("\n"):
+            if line.startswith("file: "):
+                file = os.path.join(room, line[len("file: ") :].strip())
+            elif line.startswith("old: "):
+                old = line[len("old: ") :]
+            elif line.startswith("new:"):
+                with open(file, encoding="utf-8") as source:
+                    text = source.read()
+                with open(file, "w", encoding="utf-8") as source:
+                    source.write(text.replace(old, re.sub(r"\A ", "", line[len("new:") :])))
+
+
+def try_edits(crate, paths):
+    folders = [os.path.join(check.TOP, "crates", crate, "must-fail"), os.path.join(edits.EDITS, crate)]
+    paths = paths or [os.path.join(folder, name) for folder in folders for name in edits.edits_in(folder)]
+    passed, failed = 0, 0
+    with tempfile.TemporaryDirectory(prefix="edits-") as room:
+        kept = os.path.join(room, "kept")
+        shutil.copytree(os.path.join(check.KEPT, crate, "checks"), kept)
+        words = [kept if it == os.path.join(check.KEPT, crate, "checks") else it for it in check.command(check.KEPT, crate, ["--only", ""])]
+        at = words.index("--only")
+        words = [*words[:at], *words[at + 2 :]]
+        for path in paths:
+            name, copy = os.path.basename(path), os.path.join(room, "copy")
+            why = edits.unfit(crate, path)
+            if why is None:
+                for part in PARTS:
+                    if os.path.isdir(os.path.join(check.TOP, "crates", crate, part)):
+                        shutil.copytree(os.path.join(check.TOP, "crates", crate, part), os.path.join(copy, part))
+                edited(path, copy)
+                ran = subprocess.run(words, cwd=copy, stdin=subprocess.DEVNULL, stdout=subprocess.PIPE, stderr=subprocess.STDOUT, check=False)
+                shutil.rmtree(copy)
+                why = {0: "it is still proved", 1: None}.get(ran.returncode, "it did not reach the prover")
+            passed, failed = passed + (why is None), failed + (why is not None)
+            print(f"FAILED: {crate}/{name}: {why}" if why else f"{crate}/{name} refused", flush=True)
+    return passed, failed
+
+
+def main():
+    words = sys.argv[1:]
+    if words[:1] == ["--edits"] and len(words) > 1:
+        passed, failed = try_edits(words[1], words[2:])
+    else:
+        at_once = os.cpu_count()
+        if words[:1] == ["--at-once"] and len(words) > 1 and words[1].isdigit():
+            at_once, words = int(words[1]), words[2:]
+        if any(it.startswith("-") for it in words):
+            sys.exit(__doc__)
+        os.environ.setdefault("JOBS", "1")
+        passed, failed = prove_all(words, max(at_once, 1))
+    print(f"{passed} passed, {failed} failed")
+    sys.exit(1 if failed else 0)
+
+
+if __name__ == "__main__":
+    main()
