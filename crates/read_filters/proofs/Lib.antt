@@ -1,4 +1,3 @@
 pub mod Untold
-pub mod NumberLemmas
 pub mod RuleLemmas
 pub mod ShareLemmas

@@ -1,6 +1,6 @@
 -- What the rows of SecurityGroupRules mean (EC2 API, DescribeSecurityGroupRules): where they tell rules of a group, they
 -- stand in place of the group's permissions.
-use Rattle.std.specs.Prelude.{ℕ, ◌+◌, ◌==◌, ◌∷◌, ◌++◌, ◌||◌, ◌&&◌, Bool, not, List, [], Option, Some, None, bytes_eq, codes, filter, is_some, length, map, option_to_list, Result, Ok, if◌then◌else◌}
+use Rattle.std.specs.Prelude.{ℕ, ◌+◌, ◌==◌, ◌∷◌, ◌++◌, ◌||◌, ◌&&◌, Bool, not, List, [], Option, Some, None, bytes_eq, codes, filter, is_some, length, map, option_to_list, position, Result, Ok, if◌then◌else◌}
 use Rattle.std.specs.List.{list_any}
 use Rattle.serde_json.specs.Data.{Data}
 use Rattle.prefix_text.specs.Block.{Block}
@@ -16,16 +16,6 @@ use Rattle.read_filters.specs.declared.group_rules.GroupRule.{GroupRule}
 use Rattle.read_filters.specs.declared.group_rules.RuleBody.{RuleBody}
 use Rattle.read_filters.specs.declared.group_rules.RuleHead.{RuleHead}
 use Rattle.read_filters.specs.declared.permissions.Targets.{Targets}
-
--- the number, from n on, of the first group with the id
-abbrev pub number_from : ℕ → List (List ℕ) → List ℕ → Option ℕ
-number_from n [] id = None
-number_from n (known ∷ others) id = if bytes_eq id known then Some n else number_from (n + 1) others id
-
--- the number that stands beside the id
-abbrev pub number_in : List (List ℕ × ℕ) → List ℕ → Option ℕ
-number_in [] id = None
-number_in (entry ∷ entries) id = if bytes_eq id entry.0 then Some entry.1 else number_in entries id
 
 -- the ids of a rule and of its group, which are read of each row
 abbrev pub head_of : Data → List ℕ → Result RuleHead FieldFault
@@ -108,9 +98,10 @@ rules_from number_of seen k (row ∷ rows) =
     and_then (rules_from number_of (seen_with seen rule) (k + 1) rows) (λ others.
     Ok (option_to_list rule ++ others)))
 
--- the rules of a bundle whose groups have these ids
-abbrev pub rules_of : Data → List (List ℕ) → Result (List GroupRule) FieldFault
-rules_of bundle groups = and_then (rows_of bundle (codes "SecurityGroupRules")) (rules_from (number_from 0 groups) [] 0)
+-- the rules of a bundle with these groups: a rule is of the first group with the id that it names
+abbrev pub rules_of : Data → List Group → Result (List GroupRule) FieldFault
+rules_of bundle groups =
+    and_then (rows_of bundle (codes "SecurityGroupRules")) (rules_from (λ id. position (λ g. bytes_eq g.id id) groups) [] 0)
 
 -- the permissions of the rules of one direction
 abbrev pub permissions_of : (GroupRule → Bool) → List GroupRule → List Permission
@@ -138,4 +129,4 @@ groups_from n rules (group ∷ groups) = with_rules (rules_at n rules) group ∷
 
 -- the groups with the rules that the bundle tells of them, or the first fault
 abbrev pub group_rules_of : Data → List Group → Result (List Group) FieldFault
-group_rules_of bundle groups = and_then (rules_of bundle (map (λ group. group.id) groups)) (λ rules. Ok (groups_from 0 rules groups))
+group_rules_of bundle groups = and_then (rules_of bundle groups) (λ rules. Ok (groups_from 0 rules groups))

@@ -3,14 +3,15 @@ ghost use Rattle.std.specs.Prelude.{◌≡◌, ◌++◌, ◌∷◌, [], IfOk, On
 ghost use Rattle.serde_json.specs.View.{view};
 ghost use Rattle.json_fields.specs.FieldFault.{Reads};
 ghost use Rattle.json_fields.specs.Paths.{at_row};
-ghost use Rattle.read_filters.specs.GroupRules.{body_of, has_target, head_of, kept_for, names_group, number_in, one_target, rule_if, rule_with, rules_from, rules_of, seen_with, target_of};
+ghost use Rattle.reference_check.specs.FirstNumbers.{number_in};
+ghost use Rattle.read_filters.specs.GroupRules.{body_of, has_target, head_of, kept_for, names_group, one_target, rule_if, rule_with, rules_from, rules_of, seen_with, target_of};
 
-use crate::group_numbers::GroupNumbers;
 use crate::permissions::{Targets, Traffic, traffic_of};
 use json_fields::{
     FieldFault, Path, SeenIds, flag_at, id_at, id_if, id_if_within, member, prefix_if, rows_of,
 };
 use prefix_text::Prefix;
+use reference_check::FirstNumbers;
 use serde_json::Value;
 use std::alloc::{AllocError, Global};
 use vpc_base::{NoMemory, OwnList};
@@ -151,7 +152,7 @@ fn rule_with(id: Id, number: usize, body: RuleBody) -> GroupRule
 
 // The number of the group of a row that is kept. Its id is seen then.
 fn kept_for(
-    numbers: &GroupNumbers,
+    numbers: &FirstNumbers,
     seen: &mut SeenIds,
     row: &Value,
     head: &RuleHead,
@@ -174,7 +175,7 @@ fn kept_for(
 
 fn rule_if(
     alloc: Global,
-    numbers: &GroupNumbers,
+    numbers: &FirstNumbers,
     seen: &mut SeenIds,
     row: &Value,
     path: &Path,
@@ -203,7 +204,7 @@ fn add_if(rules: &mut Vec<GroupRule>, rule: Option<GroupRule>) -> Result<(), All
 // A row of the list at its place.
 fn row_if(
     alloc: Global,
-    numbers: &GroupNumbers,
+    numbers: &FirstNumbers,
     seen: &mut SeenIds,
     row: &Value,
     number: usize,
@@ -217,7 +218,7 @@ fn row_if(
 
 fn rules_among(
     alloc: Global,
-    numbers: &GroupNumbers,
+    numbers: &FirstNumbers,
     rows: &[&Value],
 ) -> Result<Vec<GroupRule>, FieldFault>
     ensures { Reads (λ v. v.items) (rules_from (number_in numbers.now) [] 0 (map (λ r. view r.now) rows.now)) result }
@@ -237,9 +238,9 @@ pub fn rules_of(
     bundle: &Value,
     groups: &[Group],
 ) -> Result<Vec<GroupRule>, FieldFault>
-    ensures { Reads (λ v. v.items) (rules_of (view bundle.now) (map (λ g. g.id) groups.now)) result }
+    ensures { Reads (λ v. v.items) (rules_of (view bundle.now) groups.now) result }
 {
     let rows = rows_of(alloc, bundle, "SecurityGroupRules")?;
-    let numbers = GroupNumbers::of(alloc, groups)?;
+    let numbers = FirstNumbers::of(alloc, groups)?;
     rules_among(alloc, &numbers, rows.as_slice())
 }

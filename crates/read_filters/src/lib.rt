@@ -5,7 +5,6 @@
 #![tactic(auto)]
 
 mod acls;
-mod group_numbers;
 mod group_rules;
 mod groups;
 mod permissions;

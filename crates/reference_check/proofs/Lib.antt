@@ -7,6 +7,7 @@ pub mod Keyed
 pub mod LongLists
 pub mod Maps
 pub mod Marks
+pub mod NumberLemmas
 pub mod VpcIds
 pub mod Owners
 pub mod Parts

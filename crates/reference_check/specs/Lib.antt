@@ -2,6 +2,7 @@ pub mod AllNumbered
 pub mod Attached
 pub mod Causes
 pub mod Claims
+pub mod FirstNumbers
 pub mod Hosts
 pub mod Keys
 pub mod Kinds

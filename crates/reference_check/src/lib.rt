@@ -5,6 +5,7 @@ mod addresses;
 mod claims;
 mod directory;
 mod duplicates;
+mod first_numbers;
 mod hosts;
 mod ids;
 mod lengths;
@@ -15,5 +16,6 @@ mod references;
 mod rows;
 mod subnets;
 
+pub use first_numbers::{FirstNumbers, Naming};
 pub use network::Network;
 pub use vpc_model::{ListName, Refusal};

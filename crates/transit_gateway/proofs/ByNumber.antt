@@ -1,10 +1,12 @@
 -- Rows by their numbers, and what stands in an index at them.
-use Rattle.std.proofs.Common.{◌≡◌, ◌<◌, ◌^◌, ◌∙◌, ℕ, Contains, List, Option, [], ap, arith, bytes_eq, get_or, length, position, subst, sym, true}
+use Rattle.std.proofs.Common.{◌≡◌, ◌<◌, ◌^◌, ◌∙◌, ℕ, Bool, Contains, List, None, Option, Some, [], ap, arith, bytes_eq, cond, false, get_or, length, nat_lt, position, refl, subst, sym, true}
 use Rattle.std.specs.Prelude.{option_and_then}
-use Rattle.std.specs.List.{All, slice_get}
-use Rattle.std.proofs.lemmas.Bool.{ltb-true}
+use Rattle.std.specs.List.{All, find, position_or_len, slice_get}
+use Rattle.std.proofs.lemmas.Bool.{ltb-false, ltb-true}
 use Rattle.std.proofs.lemmas.List.{length-map}
 use Rattle.std.proofs.lemmas.List.Elements.{Contains-get_or}
+use Rattle.std.proofs.lemmas.List.Folds.{find_at}
+use Rattle.std.proofs.lemmas.Option.{slice_get_past}
 use Rattle.vpc_base.proofs.Members.{row-member}
 use Rattle.number_tables.specs.declared.tables.Entry.{Entry}
 use Rattle.piece_table.specs.Pieces.{PieceLists}
@@ -14,34 +16,21 @@ use Rattle.vpc_laws.specs.Types.{Association, AttNo, Attachment, Description, Su
 use Rattle.vpc_model.specs.Accepted.{IsAccepted}
 use Rattle.vpc_model.specs.Lookup.{has_subnet, subnet_at, subnet_no, tgw_table_of_id}
 use Rattle.vpc_model.specs.Sound.{is_attachment, is_subnet, is_tgw_table}
+use Rattle.reference_check.specs.FirstNumbers.{number_in}
 use Rattle.transit_gateway.specs.Index.{HasAttachment, HasSubnet, HasTable, IsTransitOf, routes_of}
-use Rattle.transit_gateway.specs.FirstNumbers.{number_in}
 use Rattle.number_tables.specs.Keys.{key_of}
 use Rattle.transit_gateway.specs.Lists.{TransitLists}
 use Rattle.transit_gateway.specs.Rows.{IsRouteTable}
 use Rattle.transit_gateway.specs.Tables.{table_of_row}
 use Rattle.transit_gateway.specs.Sites.{zone_no}
 use Rattle.transit_gateway.specs.Zones.{zone_entry}
-use Rattle.transit_gateway.proofs.NumberLemmas.{row-position}
 
 -- ---- lists that numbers of 32 bits count
-
-pub short-subnets : (d e : Description) (rows : List Subnet) → IsAccepted d → e ≡ d → rows ≡ e.subnets → length rows < 2 ^ 32
-short-subnets d e rows accepted whole is =
-    let short = (accepted_has_short_lists d accepted).subnets in
-    let all = ap length (is ∙ ap (λ (x : Description). x.subnets) whole) in
-    omega arith
 
 pub short-attachments : (d e : Description) (rows : List Attachment) → IsAccepted d → e ≡ d → rows ≡ e.attachments → length rows < 2 ^ 32
 short-attachments d e rows accepted whole is =
     let short = (accepted_has_short_lists d accepted).attachments in
     let all = ap length (is ∙ ap (λ (x : Description). x.attachments) whole) in
-    omega arith
-
-pub short-associations : (d e : Description) (rows : List Association) → IsAccepted d → e ≡ d → rows ≡ e.associations → length rows < 2 ^ 32
-short-associations d e rows accepted whole is =
-    let short = (accepted_has_short_lists d accepted).associations in
-    let all = ap length (is ∙ ap (λ (x : Description). x.associations) whole) in
     omega arith
 
 pub short-tables : (d : Description) → IsAccepted d → All (λ t. length t.routes < 2 ^ 32) d.tgw_tables
@@ -62,6 +51,14 @@ pub entry-is : (d : Description) (k : ℕ) (id : List ℕ) (s : SubnetNo) (row :
 entry-is d k id s row zone key number is located keyed =
     ap (λ (n : ℕ). record { key = n; value = s }) (keyed ∙ ap (key_of k) (located ∙ ap (λ (x : Subnet). zone_no d x.zone) is))
     ∙ ap (λ (x : SubnetNo). record { key = key_of k (zone_no d (subnet_at d (subnet_no d id)).zone); value = x }) number
+
+-- the row with the number of the first that passes
+row-position : {X : Type 0} (p : X → Bool) (xs : List X) → option_and_then (slice_get xs) (position p xs) ≡ find p xs
+row-position p xs = by (nat_lt (position_or_len p xs) (length xs)) refl
+  where
+    by : (b : Bool) → nat_lt (position_or_len p xs) (length xs) ≡ b → option_and_then (slice_get xs) (cond b (Some (position_or_len p xs)) None) ≡ find p xs
+    by true e = sym (find_at p xs)
+    by false e = sym (find_at p xs ∙ slice_get_past xs (position_or_len p xs) (ltb-false (position_or_len p xs) (length xs) e))
 
 -- the table that the association with an attachment's number names
 pub row-table : (d e : Description) (att : Attachment) (rows : List Association) (numbers : List (List ℕ × ℕ)) (id : List ℕ) (number : Option ℕ) → e ≡ d → rows ≡ e.associations → id ≡ att.id → number ≡ number_in numbers id

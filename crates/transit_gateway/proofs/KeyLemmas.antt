@@ -1,5 +1,5 @@
 -- Numbers of ids, alone and in pairs.
-use Rattle.std.proofs.Common.{◌≡◌, ◌∙◌, ◌++◌, ◌==◌, ◌∷◌, [], ℕ, Bool, Contains, List, Some, ap, bytes_eq, cond, false, find, get_or, inl, inr, option_map, position, refl, sym, true}
+use Rattle.std.proofs.Common.{◌≡◌, ◌∙◌, ◌++◌, ◌<◌, ◌==◌, ◌^◌, ◌∷◌, [], ℕ, Bool, Contains, List, Some, ap, arith, bytes_eq, cond, false, find, get_or, inl, inr, option_map, position, refl, sym, true}
 use Rattle.std.specs.List.{list_any, position_or_len}
 use Rattle.std.proofs.lemmas.Bool.{both_ways, cases_Bool, eq-eqb, ne_eqb}
 use Rattle.vpc_base.proofs.Bytes.{bytes_self, same_bytes}
@@ -8,7 +8,9 @@ use Rattle.vpc_base.proofs.Positions.{found-at, position-there}
 use Rattle.number_tables.specs.Entries.{value_at}
 use Rattle.number_tables.specs.declared.tables.Entry.{Entry}
 use Rattle.vpc_model.specs.Choice.{or_else}
-use Rattle.transit_gateway.specs.FirstNumbers.{number_in}
+use Rattle.vpc_laws.specs.Accepted.{IsShort}
+use Rattle.reference_check.specs.FirstNumbers.{number_in}
+use Rattle.reference_check.proofs.Maps.{found_number}
 
 -- ---- numbers of ids
 
@@ -20,6 +22,12 @@ list_any-own name_of xs x has = member-list_any (λ y. bytes_eq (name_of y) (nam
 pub name-numbered : {X : Type 0} (name_of : X → List ℕ) (xs : List X) (x : X) (numbers : List (List ℕ × ℕ)) → ((id : List ℕ) → number_in numbers id ≡ position (λ y. bytes_eq (name_of y) id) xs) → Contains xs x
     → number_in numbers (name_of x) ≡ Some (position_or_len (λ y. bytes_eq (name_of y) (name_of x)) xs)
 name-numbered name_of xs x numbers are has = are (name_of x) ∙ position-there (λ y. bytes_eq (name_of y) (name_of x)) xs (list_any-own name_of xs x has)
+
+-- a number has 32 bits where the rows are few
+pub number-short : {X : Type 0} (name_of : X → List ℕ) (xs : List X) (numbers : List (List ℕ × ℕ)) (id : List ℕ) (k : ℕ) → ((i : List ℕ) → number_in numbers i ≡ position (λ y. bytes_eq (name_of y) i) xs) → IsShort xs → number_in numbers id ≡ Some k → k < 2 ^ 32
+number-short name_of xs numbers id k are short told =
+    let within = (found_number (λ y. bytes_eq (name_of y) id) xs k (sym (are id) ∙ told)).within in
+    omega (arith, short)
 
 -- two names that are there have one number only where they are the same
 pub number-same : {X : Type 0} (name_of : X → List ℕ) (xs : List X) (d : X) (a b : List ℕ) → list_any (λ x. bytes_eq (name_of x) a) xs ≡ true → list_any (λ x. bytes_eq (name_of x) b) xs ≡ true

@@ -1,6 +1,5 @@
 pub mod Choosing
 pub mod Steps
-pub mod NumberLemmas
 pub mod KeyLemmas
 pub mod Entering
 pub mod InZones

@@ -1,11 +1,11 @@
 -- Attachments by their gateways and VPCs (EC2 API, DescribeTransitGatewayVpcAttachments).
-use Rattle.std.specs.Prelude.{◌&&◌, ◌∷◌, ◌++◌, ◌+◌, ◌≡◌, [], if◌then◌else◌, List, Option, bytes_eq, option_and_then, option_map, position, true, ℕ}
+use Rattle.std.specs.Prelude.{◌&&◌, ◌∷◌, ◌++◌, ◌+◌, ◌<◌, ◌^◌, ◌≡◌, [], if◌then◌else◌, List, Option, Some, bytes_eq, option_and_then, option_map, position, true, ℕ}
 use Rattle.std.specs.List.{position_or_len}
 use Rattle.number_tables.specs.Entries.{value_at}
 use Rattle.number_tables.specs.declared.tables.Entry.{Entry}
 use Rattle.vpc_laws.specs.Types.{AttNo, Attachment, Description, VpcNo}
 use Rattle.vpc_model.specs.Lookup.{has_vpc, vpc_no}
-use Rattle.transit_gateway.specs.FirstNumbers.{number_in}
+use Rattle.reference_check.specs.FirstNumbers.{number_in}
 use Rattle.number_tables.specs.Keys.{key_of}
 
 -- a gateway by the number of its first attachment
@@ -15,6 +15,10 @@ gateway_no d id = position_or_len (λ a. bytes_eq a.gateway id) d.attachments
 -- the numbers are those of the gateways
 abbrev pub AreGateways : Description → List (List ℕ × ℕ) → Type 0
 AreGateways d numbers = (id : List ℕ) → number_in numbers id ≡ position (λ a. bytes_eq a.gateway id) d.attachments
+
+-- the numbers have 32 bits
+abbrev pub AreShort : List (List ℕ × ℕ) → Type 0
+AreShort numbers = (id : List ℕ) (k : ℕ) → number_in numbers id ≡ Some k → k < 2 ^ 32
 
 -- an attachment by its gateway and its VPC, where that is described
 abbrev pub attachment_entry : Description → ℕ → Attachment → List (Entry AttNo)

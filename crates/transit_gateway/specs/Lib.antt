@@ -1,4 +1,3 @@
-pub mod FirstNumbers
 pub mod Rows
 pub mod Tables
 pub mod Sites

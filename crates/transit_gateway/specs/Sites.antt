@@ -4,7 +4,7 @@ use Rattle.std.specs.List.{position_or_len}
 use Rattle.vpc_laws.specs.Types.{Description, Subnet, SubnetNo}
 use Rattle.vpc_model.specs.Lookup.{vpc_no}
 use Rattle.transit_gateway.specs.declared.sites.Site.{Site}
-use Rattle.transit_gateway.specs.FirstNumbers.{number_in}
+use Rattle.reference_check.specs.FirstNumbers.{number_in}
 
 -- a zone by the number of the first subnet there
 abbrev pub zone_no : Description → List ℕ → ℕ

@@ -1,20 +1,19 @@
 // The tables of the attachments.
 ghost use Rattle.std.specs.Prelude.{◌≡◌, ℕ, IfOk, List, bytes_eq, map, option_and_then, position, slice_get};
 ghost use Rattle.vpc_model.specs.Lookup.{tgw_table_of_id};
-ghost use Rattle.transit_gateway.specs.FirstNumbers.{number_in};
+ghost use Rattle.reference_check.specs.FirstNumbers.{number_in};
 ghost use Rattle.transit_gateway.specs.Tables.{table_of_row};
 
-use crate::first_numbers::FirstNumbers;
-use reference_check::Network;
+use reference_check::{FirstNumbers, Network};
 use std::alloc::{AllocError, Global};
 use vpc_model::{Association, Attachment, TgwTableNo};
 
 // The table that the association with this number names.
-fn table_at(n: &Network, rows: &[Association], number: Option<u32>) -> Option<TgwTableNo>
+fn table_at(n: &Network, rows: &[Association], number: Option<usize>) -> Option<TgwTableNo>
     ensures { result ≡ option_and_then (λ x. tgw_table_of_id n.now x.table)
         (option_and_then (slice_get rows.now) number) }
 {
-    let association = rows.get(number? as usize)?;
+    let association = rows.get(number?)?;
     n.tgw_table(association.table.bytes())
 }
 

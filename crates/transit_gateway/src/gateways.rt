@@ -1,10 +1,9 @@
 // The attachments of each gateway.
 ghost use Rattle.std.specs.Prelude.{◌≡◌, ◌++◌, ◌∷◌, [], Contains, IfOk, OnOk};
-ghost use Rattle.transit_gateway.specs.Gateways.{AreGateways, HasGatewaysOf, attachment_entries, attachment_entry, attachment_in};
+ghost use Rattle.transit_gateway.specs.Gateways.{AreGateways, AreShort, HasGatewaysOf, attachment_entries, attachment_entry, attachment_in, gateway_no};
 
-use crate::first_numbers::FirstNumbers;
 use number_tables::{Entry, NumberTable, key_of};
-use reference_check::Network;
+use reference_check::{FirstNumbers, Network};
 use std::alloc::{AllocError, Global};
 use vpc_model::{AttNo, Attachment, VpcNo};
 
@@ -14,6 +13,17 @@ fn add(entries: &mut Vec<Entry<AttNo>>, key: u64, value: AttNo) -> Result<(), Al
 {
     entries.push(Entry { key, value })?;
     Ok(())
+}
+
+// The number of an attachment's gateway.
+fn gateway_of(n: &Network, gateways: &FirstNumbers, attachment: &Attachment) -> u32
+    requires gateways { AreGateways n.now gateways.now }
+    requires listed { Contains n.now.attachments attachment.now }
+    ensures { result ≡ gateway_no n.now attachment.now.gateway }
+{
+    // An accepted network has few attachments.
+    let _ = n.description();
+    gateways.number(&attachment.gateway) as u32
 }
 
 // Adds an attachment where its VPC is described: no subnet is in another one.
@@ -29,7 +39,7 @@ fn add_attachment(
     ensures { OnOk result
         (entries.new.items ≡ entries.old.items ++ attachment_entry n.now number attachment.now) }
 {
-    let gateway = gateways.number(&attachment.gateway);
+    let gateway = gateway_of(n, gateways, attachment);
     match n.vpc(attachment.vpc.bytes()) {
         Some(vpc) => add(entries, key_of(gateway, vpc.0), AttNo(number)),
         None => Ok(()),
@@ -72,7 +82,8 @@ impl Drop for Gateways {
 impl Gateways {
     /// The gateways of a network. It takes time n log n in its attachments.
     pub fn of(alloc: Global, n: &Network) -> Result<Gateways, AllocError>
-        ensures { IfOk result (λ g. HasGatewaysOf n.now g.numbers g.attachments) }
+        ensures gateways { IfOk result (λ g. HasGatewaysOf n.now g.numbers g.attachments) }
+        ensures short { IfOk result (λ g. AreShort g.numbers) }
     {
         let d = n.description();
         let numbers = FirstNumbers::of(alloc, d.attachments.as_slice())?;
@@ -86,9 +97,10 @@ impl Gateways {
 
     /// The first attachment of a gateway to a VPC. It takes no memory.
     pub fn attachment(&self, gateway: &[u8], vpc: VpcNo) -> Option<AttNo>
+        requires short { AreShort self.now.numbers }
         ensures { result ≡ attachment_in self.now.numbers self.now.attachments gateway.now vpc }
     {
-        let gateway = self.numbers.get(gateway)?;
+        let gateway = self.numbers.get(gateway)? as u32;
         self.attachments.get(key_of(gateway, vpc.0))
     }
 }

@@ -50,6 +50,7 @@ impl Drop for TransitIndex {
 }
 
 impl Model for TransitIndex {
+    ghost use Rattle.transit_gateway.specs.Gateways.{AreShort};
     ghost use Rattle.transit_gateway.specs.Lists.{TransitLists};
 
     ghost Value = { TransitLists };
@@ -63,6 +64,8 @@ impl Model for TransitIndex {
       tables = x.tables.items;
       routes = x.routes.items;
     } };
+
+    ghost invariant = { λ x. AreShort x.gateways.numbers };
 }
 
 impl TransitIndex {

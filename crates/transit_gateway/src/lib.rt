@@ -3,7 +3,6 @@
 #![tactic(auto)]
 
 mod associations;
-mod first_numbers;
 mod gateways;
 mod index;
 mod routes;

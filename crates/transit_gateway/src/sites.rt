@@ -2,8 +2,7 @@
 ghost use Rattle.std.specs.Prelude.{◌≡◌, Contains, IfOk, map};
 ghost use Rattle.transit_gateway.specs.Sites.{AreZones, site_of, zone_no};
 
-use crate::first_numbers::FirstNumbers;
-use reference_check::Network;
+use reference_check::{FirstNumbers, Network};
 use std::alloc::{AllocError, Global};
 use vpc_model::{Subnet, VpcNo};
 
@@ -20,9 +19,9 @@ pub fn zone_of(n: &Network, zones: &FirstNumbers, subnet: &Subnet) -> u32
     requires listed { Contains n.now.subnets subnet.now }
     ensures { result ≡ zone_no n.now subnet.now.zone }
 {
-    // The clauses alone speak of the network.
-    let _ = n;
-    zones.number(&subnet.zone)
+    // An accepted network has few subnets.
+    let _ = n.description();
+    zones.number(&subnet.zone) as u32
 }
 
 fn site_of(n: &Network, zones: &FirstNumbers, subnet: &Subnet) -> Site

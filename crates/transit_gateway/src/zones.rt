@@ -5,10 +5,9 @@ ghost use Rattle.vpc_model.specs.Lookup.{has_subnet};
 ghost use Rattle.transit_gateway.specs.Sites.{AreZones};
 ghost use Rattle.transit_gateway.specs.Zones.{HasZonesOf, first_of, inner_subnets, leaving, zone_entries, zone_entry, zone_subnet_in};
 
-use crate::first_numbers::FirstNumbers;
 use crate::sites::{Site, sites_of, zone_of};
 use number_tables::{Entry, NumberTable, key_of};
-use reference_check::Network;
+use reference_check::{FirstNumbers, Network};
 use std::alloc::{AllocError, Global};
 use vpc_model::{AttNo, Attachment, Id, SubnetNo};
 

@@ -2,7 +2,8 @@ use Rattle.std.proofs.Common.{ℕ, List, ap, subst, ◌∙◌}
 use Rattle.serde_json.specs.View.{view}
 use Rattle.json_fields.specs.FieldFault.{Reads}
 use Rattle.json_fields.specs.Paths.{at_row}
-use Rattle.read_filters.specs.GroupRules.{number_in, rule_if}
+use Rattle.reference_check.specs.FirstNumbers.{number_in}
+use Rattle.read_filters.specs.GroupRules.{rule_if}
 use Rattle.read_filters.proofs.group_rules.row_if.Goals as goal
 
 pub returns-clause-rule : goal.returns-clause-rule

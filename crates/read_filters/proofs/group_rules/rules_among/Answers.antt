@@ -1,6 +1,6 @@
 use Rattle.std.proofs.Common.{◌∙◌}
 use Rattle.serde_json.specs.View.{view}
-use Rattle.read_filters.specs.GroupRules.{number_in}
+use Rattle.reference_check.specs.FirstNumbers.{number_in}
 use Rattle.read_filters.proofs.RuleLemmas.{rules_from-fault, rules_from-next}
 use Rattle.read_filters.proofs.group_rules.rules_among.Goals as goal
 

@@ -1,7 +1,8 @@
 use Rattle.std.proofs.Common.{◌≡◌, ◌++◌, [], drop, map, Ok}
 use Rattle.serde_json.specs.View.{view}
 use Rattle.json_fields.specs.FieldFault.{and_then}
-use Rattle.read_filters.specs.GroupRules.{number_in, rules_from}
+use Rattle.reference_check.specs.FirstNumbers.{number_in}
+use Rattle.read_filters.specs.GroupRules.{rules_from}
 use Rattle.read_filters.proofs.group_rules.rules_among.Given as goal
 
 -- the rules so far and those of the remaining rows, or the first fault there, are the whole answer

@@ -1,11 +1,7 @@
 use Rattle.std.proofs.Common.{◌∙◌, ap, bytes_eq, position}
 use Rattle.vpc_laws.specs.Types.{Description, Subnet}
-use Rattle.transit_gateway.proofs.ByNumber.{short-subnets}
 use Rattle.transit_gateway.proofs.InZones.{has_zones_of}
 use Rattle.transit_gateway.proofs.zones.Zones.of.Goals as goal
-
-pub of-requires : goal.of-requires
-of-requires c = short-subnets c.args.n.now c.description-d.result.now c.as_slice.result.now c.description-d.ensures.accepted c.description-d.ensures.value c.as_slice.ensures
 
 pub sites_of-requires : goal.sites_of-requires
 sites_of-requires c = λ zone.

@@ -1,6 +1,6 @@
 use Rattle.std.proofs.Common.{◌∙◌}
-use Rattle.transit_gateway.proofs.NumberLemmas.{first-all, first-none, first-step}
-use Rattle.transit_gateway.proofs.first_numbers.FirstNumbers.of.Goals as goal
+use Rattle.reference_check.proofs.NumberLemmas.{first-all, first-none, first-step}
+use Rattle.reference_check.proofs.first_numbers.FirstNumbers.of.Goals as goal
 
 pub loop-number-init : goal.loop-number-init
 loop-number-init g c = λ id. rw c.new-numbers.ensures (first-none g.R.Naming.name_of c.args.rows.now id)

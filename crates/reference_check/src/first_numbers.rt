@@ -1,13 +1,14 @@
 // Rows, found by the ids that they name.
-ghost use Rattle.std.specs.Prelude.{◌≡◌, ◌<◌, ◌^◌, ℕ, IfOk, List, bytes_eq, length, map, position};
-ghost use Rattle.transit_gateway.specs.FirstNumbers.{number_in};
+ghost use Rattle.std.specs.Prelude.{◌≡◌, ℕ, IfOk, List, bytes_eq, map, position};
+ghost use Rattle.reference_check.specs.FirstNumbers.{number_in};
 
 use indexmap::IndexMap;
 use std::alloc::{AllocError, Global};
 use std::marker::Model;
-use vpc_model::{Association, Attachment, Id, Subnet};
+use vpc_model::{Association, Attachment, Group, Id, Subnet};
 
-/// A row that names something by its id.
+/// A row that names something by its id: an association its attachment, an attachment its gateway, a subnet
+/// its zone, a group itself.
 pub trait Naming {
     ghost name_of: { Self → List ℕ };
 
@@ -39,9 +40,17 @@ impl Naming for Subnet {
     }
 }
 
+impl Naming for Group {
+    ghost name_of = { λ r. r.id };
+
+    fn name(&self) -> &Id {
+        &self.id
+    }
+}
+
 /// The number of the first row that names each id. Contracts see the ids, each with its number.
 pub struct FirstNumbers {
-    numbers: IndexMap<Vec<u8>, u32>,
+    numbers: IndexMap<Vec<u8>, usize>,
 }
 
 impl Drop for FirstNumbers {
@@ -71,14 +80,14 @@ impl FirstNumbers {
     }
 
     /// The number of the first row that names an id. It takes no memory.
-    pub fn get(&self, id: &[u8]) -> Option<u32>
+    pub fn get(&self, id: &[u8]) -> Option<usize>
         ensures { result ≡ number_in self.now id.now }
     {
         self.numbers.get(id).copied()
     }
 
     /// The number of an id that a row names.
-    pub fn number(&self, id: &Id) -> u32
+    pub fn number(&self, id: &Id) -> usize
         requires { IsTrue (is_some (number_in self.now id.now)) }
         ensures { number_in self.now id.now ≡ Some result }
     {
@@ -88,7 +97,7 @@ impl FirstNumbers {
         }
     }
 
-    fn append(&mut self, id: Vec<u8>, number: u32) -> Result<(), AllocError>
+    fn append(&mut self, id: Vec<u8>, number: usize) -> Result<(), AllocError>
         requires { number_in self.old id.items ≡ None }
         ensures { OnOk result (self.new ≡ self.old ++ (id.items, number) ∷ []) }
     {
@@ -97,7 +106,7 @@ impl FirstNumbers {
     }
 
     // An id that is there keeps its number.
-    fn add(&mut self, alloc: Global, id: &Id, number: u32) -> Result<(), AllocError>
+    fn add(&mut self, alloc: Global, id: &Id, number: usize) -> Result<(), AllocError>
         ensures { OnOk result (self.new ≡ (if is_some (number_in self.old id.now) then self.old
             else self.old ++ (id.now, number) ∷ [])) }
     {
@@ -109,13 +118,12 @@ impl FirstNumbers {
 
     /// The numbers of the rows, from 0. Of those that name one id the first counts.
     pub fn of<R: Naming>(alloc: Global, rows: &[R]) -> Result<FirstNumbers, AllocError>
-        requires { length rows.now < 2 ^ 32 }
         ensures { IfOk result (λ n. (id : List ℕ) → number_in n id
             ≡ position (λ r. bytes_eq (R.name_of r) id) rows.now) }
     {
         let mut numbers = FirstNumbers::new(alloc);
         for (number, row) in rows.iter().enumerate() {
-            numbers.add(alloc, row.name(), number as u32)?;
+            numbers.add(alloc, row.name(), number)?;
         }
         Ok(numbers)
     }

@@ -1,8 +1,8 @@
 use Rattle.std.proofs.Common.{◌≡◌, List, ℕ, bytes_eq, drop, position}
 use Rattle.std.specs.List.{position_from}
-use Rattle.transit_gateway.specs.FirstNumbers.{number_in}
+use Rattle.reference_check.specs.FirstNumbers.{number_in}
 use Rattle.vpc_model.specs.Choice.{or_else}
-use Rattle.transit_gateway.proofs.first_numbers.FirstNumbers.of.Given as goal
+use Rattle.reference_check.proofs.first_numbers.FirstNumbers.of.Given as goal
 
 -- what is numbered so far, or else among the remaining rows, is the number of an id
 abbrev pub invariant-loop-number : goal.invariant-loop-number

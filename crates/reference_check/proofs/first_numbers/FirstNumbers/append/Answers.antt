@@ -3,9 +3,9 @@ use Rattle.std.specs.Map.{lookup}
 use Rattle.std.specs.Prelude.{bytes_eq}
 use Rattle.std.proofs.lemmas.List.{map-append}
 use Rattle.indexmap.proofs.CallerLemmas.{insert_entry-new}
-use Rattle.transit_gateway.specs.FirstNumbers.{number_in}
-use Rattle.transit_gateway.proofs.NumberLemmas.{number_in-map}
-use Rattle.transit_gateway.proofs.first_numbers.FirstNumbers.append.Goals as goal
+use Rattle.reference_check.specs.FirstNumbers.{number_in}
+use Rattle.reference_check.proofs.NumberLemmas.{number_in-map}
+use Rattle.reference_check.proofs.first_numbers.FirstNumbers.append.Goals as goal
 
 pub returns : goal.returns
 returns c =

@@ -1,6 +1,0 @@
-use Rattle.std.proofs.Common.{◌∙◌, sym}
-use Rattle.read_filters.proofs.NumberLemmas.{number_in-map}
-use Rattle.read_filters.proofs.group_numbers.GroupNumbers.get.Goals as goal
-
-pub returns : goal.returns
-returns c = rw (← c.self.view_is) (c.copied.ensures ∙ c.get.ensures.value ∙ sym (number_in-map (λ k. k.items) _ c.args.id.now))
