@@ -1,6 +1,6 @@
 -- Groups asked of images.
 use Rattle.std.proofs.Common.{◌≡◌, ◌∙◌, ◌||◌, ◌<◌, ◌∷◌, [], ℕ, Bool, List, None, Option, Some, ap, false, get_or, is_some, length, refl, slice_index_or, subst, sym, true}
-use Rattle.std.specs.Prelude.{if◌then◌else◌, nat_lt}
+use Rattle.std.specs.Prelude.{IfSome, if◌then◌else◌, nat_lt}
 use Rattle.std.specs.List.{Contains, list_any}
 use Rattle.std.proofs.lemmas.List.{get_or_default}
 use Rattle.std.proofs.lemmas.List.Elements.{All-contains}
@@ -21,7 +21,7 @@ use Rattle.security_groups.specs.Asking.{first_in_group, first_of, least, lesser
 use Rattle.vpc_model.specs.declared.numbers.EniNo.{EniNo}
 use Rattle.security_groups.specs.Index.{GroupLists, allowed}
 use Rattle.security_groups.specs.Dividing.{DivideAt, DivideGroups, IsAllowedOn, any_group_allows, rule_at, rules_in}
-use Rattle.security_groups.specs.Rules.{DivideRules, allows, any_allows}
+use Rattle.security_groups.specs.Rules.{DivideRule, DivideRules, allows, any_allows}
 use Rattle.security_groups.specs.declared.groups.GroupRules.{GroupRules}
 use Rattle.security_groups.specs.declared.rules.Rule.{Rule}
 
@@ -43,6 +43,17 @@ pub rules-found : (groups : List GroupRules) (dir : Dir) (n : ℕ) (g : GroupRul
 rules-found groups dir n g rules below is same = same ∙ ap (rules_of dir) (is ∙ get_or_default groups n g no_rules below)
 
 -- ---- a rule that allows is one of the rules
+
+-- it is asked with the cuts of all
+pub one-of-all : (lists : List (List Run)) (members : List ℕ) (dir : Dir) (rules : List Rule) (number : ℕ) (i : Image) (r : Rule) (answer : Option (Part Bool)) → number < length rules → r ≡ rule_at rules number
+    → IfSome answer (Answers (DivideRule lists members r) (λ h. allows lists members dir (header_at i h) r) i.part)
+    → IfSome answer (Answers (DivideRules lists members rules) (λ h. allows lists members dir (header_at i h) (rule_at rules number)) i.part)
+one-of-all lists members dir rules number i r None below is k = k
+one-of-all lists members dir rules number i r (Some x) below is k =
+    let one : Rule = rule_at rules number in
+    answers_more (DivideRule lists members one) (DivideRules lists members rules) (λ h. allows lists members dir (header_at i h) one) i.part x
+    (λ cuts all. All-contains (λ m. DivideRule lists members m cuts) rules one all (number, below, get_or_default rules number one _ below))
+    (subst (λ (y : Rule). Answers (DivideRule lists members y) (λ h. allows lists members dir (header_at i h) y) i.part x) is k)
 
 pub one-allows : (lists : List (List Run)) (members : List ℕ) (dir : Dir) (rules : List Rule) (number : ℕ) (i : Image) (x : Part Bool) → number < length rules → x.told ≡ true
     → Answers (DivideRules lists members rules) (λ h. allows lists members dir (header_at i h) (rule_at rules number)) i.part x

@@ -1,5 +1,5 @@
 -- Rules that are asked of images run by run.
-use Rattle.std.proofs.Common.{◌≡◌, ◌∙◌, ◌&&◌, ◌||◌, ◌*◌, ◌+◌, ◌-◌, ◌<◌, ◌≤◌, ◌∷◌, ⊎_elim, [], ℕ, Bool, List, ap, arith, drop, false, get_or, length, nat_le, refl, subst, sym, take, true}
+use Rattle.std.proofs.Common.{suc, zero, ◌≡◌, ◌∙◌, ◌&&◌, ◌||◌, ◌*◌, ◌+◌, ◌-◌, ◌<◌, ◌≤◌, ◌∷◌, ⊎_elim, [], ℕ, Bool, List, ap, arith, drop, false, get_or, length, nat_le, refl, subst, sym, take, true}
 use Rattle.std.proofs.Math.Bool.{or-false}
 use Rattle.std.proofs.Math.Seq.{drop-drop}
 use Rattle.std.specs.List.{All, AllWithin, list_any}
@@ -35,7 +35,7 @@ use Rattle.vpc_model.specs.Filter.{far_address, matches_proto}
 use Rattle.security_groups.proofs.Runs.{starts-later}
 use Rattle.security_groups.specs.Dividing.{AllowsNone, IsLeftWith}
 use Rattle.security_groups.specs.Rules.{DivideRule, DivideRules, allows, any_allows, names}
-use Rattle.security_groups.specs.Tables.{AreBegun, BeginAfter, EndBy, run_of}
+use Rattle.security_groups.specs.Tables.{AreBegun, AreEnded, AreLasts, BeginAfter, EndBy, run_of}
 
 -- ---- one of some rules
 
@@ -52,11 +52,11 @@ pub first-decide : (p : Rule → Bool) (rules : List Rule) (n : ℕ) → list_an
 first-decide p rules n none = any-parts p rules n ∙ ap (λ b. list_any p (take n rules) || b) none ∙ or-false (list_any p (take n rules))
 
 -- a run, and the runs after it
-pub run-parts : (p : Rule → Bool) (rules : List Rule) (k : ℕ) → list_any p (drop (64 * k) rules) ≡ (list_any p (run_of k rules) || list_any p (drop (64 * (k + 1)) rules))
+pub run-parts : (p : Rule → Bool) (rules : List Rule) (k : ℕ) → list_any p (drop (16 * k) rules) ≡ (list_any p (run_of k rules) || list_any p (drop (16 * (k + 1)) rules))
 run-parts p rules k =
-    let next : 64 * k + 64 ≡ 64 * (k + 1) = omega arith in
-    any-parts p (drop (64 * k) rules) 64
-    ∙ ap (λ rs. list_any p (run_of k rules) || list_any p rs) (drop-drop 64 (64 * k) rules ∙ ap (λ n. drop n rules) next)
+    let next : 16 * k + 16 ≡ 16 * (k + 1) = omega arith in
+    any-parts p (drop (16 * k) rules) 16
+    ∙ ap (λ rs. list_any p (run_of k rules) || list_any p rs) (drop-drop 16 (16 * k) rules ∙ ap (λ n. drop n rules) next)
 
 -- ---- rules that can't allow a header
 
@@ -186,7 +186,7 @@ pub record IsInRuns (lists : List (List Run)) (members : List ℕ) (dir : Dir) (
   pub image : rest ≡ record i { part = rest.part }
   pub valid : IsValidImage rest
   pub walk : IsImageOfWalk rest
-  pub left : IsLeftWith lists members dir rules (drop (64 * k) rules) i rest.part
+  pub left : IsLeftWith lists members dir rules (drop (16 * k) rules) i rest.part
 
 pub runs_first : (lists : List (List Run)) (members : List ℕ) (dir : Dir) (rules : List Rule) (i : Image) → IsValidImage i → IsImageOfWalk i → IsInRuns lists members dir rules i 0 i
 runs_first lists members dir rules i v w =
@@ -198,7 +198,7 @@ run_asked : (lists : List (List Run)) (members : List ℕ) (dir : Dir) (rules : 
     → Answers (DivideRules lists members rules) (λ h. any_allows lists members dir (run_of k rules) (header_at i h)) rest.part x
 run_asked lists members dir rules i rest k x e a =
     answers_more (DivideRules lists members (run_of k rules)) (DivideRules lists members rules) (λ h. any_allows lists members dir (run_of k rules) (header_at i h)) rest.part x
-    (λ cuts all. All-take (λ r. DivideRule lists members r cuts) 64 (drop (64 * k) rules) (All-drop (λ r. DivideRule lists members r cuts) (64 * k) rules all))
+    (λ cuts all. All-take (λ r. DivideRule lists members r cuts) 16 (drop (16 * k) rules) (All-drop (λ r. DivideRule lists members r cuts) (16 * k) rules all))
     (answers_same (DivideRules lists members (run_of k rules)) (λ h. any_allows lists members dir (run_of k rules) (header_at rest h))
     (λ h. any_allows lists members dir (run_of k rules) (header_at i h)) rest.part x
     (λ h. ap (any_allows lists members dir (run_of k rules)) (header_of_rest i rest h e)) a)
@@ -212,11 +212,11 @@ runs_next lists members dir rules i rest next k x fails image valid keeps r a = 
   image = subst (λ (j : Image). j ≡ record i { part = j.part }) (sym image) (ap (λ (j : Image). record j { part = x.body }) r.image);
   valid = valid;
   walk = walk_within rest next r.walk keeps;
-  left = subst (λ (j : Image). IsLeftWith lists members dir rules (drop (64 * (k + 1)) rules) i j.part) (sym image)
+  left = subst (λ (j : Image). IsLeftWith lists members dir rules (drop (16 * (k + 1)) rules) i j.part) (sym image)
       (reduced_by (DivideRules lists members rules) (λ h. any_allows lists members dir rules (header_at i h))
-      (λ h. any_allows lists members dir (drop (64 * k) rules) (header_at i h)) (λ h. any_allows lists members dir (drop (64 * (k + 1)) rules) (header_at i h))
+      (λ h. any_allows lists members dir (drop (16 * k) rules) (header_at i h)) (λ h. any_allows lists members dir (drop (16 * (k + 1)) rules) (header_at i h))
       i.part rest.part (λ h. any_allows lists members dir (run_of k rules) (header_at i h)) x false fails
-      (λ h e. run-parts (allows lists members dir (header_at i h)) rules k ∙ ap (λ b. b || any_allows lists members dir (drop (64 * (k + 1)) rules) (header_at i h)) e)
+      (λ h e. run-parts (allows lists members dir (header_at i h)) rules k ∙ ap (λ b. b || any_allows lists members dir (drop (16 * (k + 1)) rules) (header_at i h)) e)
       r.left (run_asked lists members dir rules i rest k x r.image a));
 }
 
@@ -229,13 +229,24 @@ runs_passed lists members dir rules i rest k q last above before ends r = record
   valid = r.valid;
   walk = r.walk;
   left = reduced_same (DivideRules lists members rules) (λ h. any_allows lists members dir rules (header_at i h))
-      (λ h. any_allows lists members dir (drop (64 * k) rules) (header_at i h)) (λ h. any_allows lists members dir (drop (64 * (k + 1)) rules) (header_at i h)) i.part rest.part
+      (λ h. any_allows lists members dir (drop (16 * k) rules) (header_at i h)) (λ h. any_allows lists members dir (drop (16 * (k + 1)) rules) (header_at i h)) i.part rest.part
       (λ h t.
       let port = above h (within_holds rest.part i.part h r.left.inside.within t) in
       run-parts (allows lists members dir (header_at i h)) rules k
-      ∙ ap (λ b. b || any_allows lists members dir (drop (64 * (k + 1)) rules) (header_at i h)) (none-ended lists members dir (header_at i h) last (run_of k rules) ends (omega arith)))
+      ∙ ap (λ b. b || any_allows lists members dir (drop (16 * (k + 1)) rules) (header_at i h)) (none-ended lists members dir (header_at i h) last (run_of k rules) ends (omega arith)))
       r.left;
 }
+
+-- the first runs of a number, which end before the ports of all headers, are left behind
+pub runs_ended : (lists : List (List Run)) (members : List ℕ) (dir : Dir) (rules : List Rule) (lasts : List ℕ) (i : Image) (q n : ℕ) → IsValidImage i → IsImageOfWalk i
+    → ((h : Header) → holds h i.part ≡ true → q ≤ (header_at i h).q) → AreLasts rules lasts → AreEnded lasts q n → (m : ℕ) → m ≤ n → IsInRuns lists members dir rules i m i
+runs_ended lists members dir rules lasts i q n v w above are ended zero below = runs_first lists members dir rules i v w
+runs_ended lists members dir rules lasts i q n v w above are ended (suc m) below =
+    let few = ended.few in
+    let next : m + 1 ≡ suc m = omega arith in
+    subst (λ k. IsInRuns lists members dir rules i k i) next
+    (runs_passed lists members dir rules i i m q (get_or lasts m 0) above (ended.before m (omega arith)) (are.ends m (omega arith))
+    (runs_ended lists members dir rules lasts i q n v w above are ended m (omega arith)))
 
 pub runs_allow : (lists : List (List Run)) (members : List ℕ) (dir : Dir) (rules : List Rule) (i rest : Image) (k : ℕ) (x : Part Bool)
     → x.told ≡ true → IsInRuns lists members dir rules i k rest
@@ -245,17 +256,17 @@ runs_allow lists members dir rules i rest k x passes r a =
     let whole : Header → Bool = λ h. any_allows lists members dir rules (header_at i h) in
     let all : Header → Bool = λ h. true in
     reduced_all (DivideRules lists members rules) whole all i.part x.body true (λ h t. refl)
-    (reduced_by (DivideRules lists members rules) whole (λ h. any_allows lists members dir (drop (64 * k) rules) (header_at i h)) all i.part rest.part
+    (reduced_by (DivideRules lists members rules) whole (λ h. any_allows lists members dir (drop (16 * k) rules) (header_at i h)) all i.part rest.part
     (λ h. any_allows lists members dir (run_of k rules) (header_at i h)) x true passes
-    (λ h e. run-parts (allows lists members dir (header_at i h)) rules k ∙ ap (λ b. b || any_allows lists members dir (drop (64 * (k + 1)) rules) (header_at i h)) e)
+    (λ h e. run-parts (allows lists members dir (header_at i h)) rules k ∙ ap (λ b. b || any_allows lists members dir (drop (16 * (k + 1)) rules) (header_at i h)) e)
     r.left (run_asked lists members dir rules i rest k x r.image a))
 
-pub runs_none : (lists : List (List Run)) (members : List ℕ) (dir : Dir) (rules : List Rule) (i rest : Image) (k : ℕ) → length rules ≤ 64 * k
+pub runs_none : (lists : List (List Run)) (members : List ℕ) (dir : Dir) (rules : List Rule) (i rest : Image) (k : ℕ) → length rules ≤ 16 * k
     → IsInRuns lists members dir rules i k rest
     → Answers (DivideRules lists members rules) (λ h. any_allows lists members dir rules (header_at i h)) i.part (record { body = rest.part; told = false })
 runs_none lists members dir rules i rest k ended r =
-    reduced_all (DivideRules lists members rules) (λ h. any_allows lists members dir rules (header_at i h)) (λ h. any_allows lists members dir (drop (64 * k) rules) (header_at i h))
-    i.part rest.part false (λ h t. ap (list_any (allows lists members dir (header_at i h))) (drop_all (64 * k) rules ended)) r.left
+    reduced_all (DivideRules lists members rules) (λ h. any_allows lists members dir rules (header_at i h)) (λ h. any_allows lists members dir (drop (16 * k) rules) (header_at i h))
+    i.part rest.part false (λ h t. ap (list_any (allows lists members dir (header_at i h))) (drop_all (16 * k) rules ended)) r.left
 
 -- ---- the rules of a table
 

@@ -8,6 +8,7 @@ use Rattle.std.proofs.Math.Bool.{or-false}
 use Rattle.address_sets.specs.Runs.{IsStretch, is_in}
 use Rattle.address_sets.specs.declared.sets.Run.{Run}
 use Rattle.box_images.specs.Answers.{Answers}
+use Rattle.box_images.specs.Bodies.{IsBody}
 use Rattle.box_images.specs.Fields.{greatest_of, number_of}
 use Rattle.box_images.specs.Images.{field_of, header_at}
 use Rattle.box_images.specs.declared.fields.Side.{Side}
@@ -130,6 +131,11 @@ stretch-answers enough test i s low last told b is stretch ends = record {
   body = ends.body;
   aligned = λ cuts divide. ends.aligned cuts (λ below. stretch.cut cuts divide below);
 }
+
+-- a body has the lowest address of its part
+pub low-of-rest : (i rest : Image) (b : Box5) (s : Side) → IsBody b i.part → rest ≡ record i { part = b } → low_on i s ≡ low_on rest s
+low-of-rest i rest b s body image =
+    ap (λ (h : Header). number_of (header_at i h) s) (sym body.low) ∙ sym (ap (λ (j : Image). low_on j s) image)
 
 pub not-named : (lists : List (List Run)) (members : List ℕ) (dir : Dir) (h : Header) (r : Rule) → names lists members (far_address dir h) r ≡ false → allows lists members dir h r ≡ false
 not-named lists members dir h r fails =

@@ -1,5 +1,5 @@
 // Whether a rule allows the headers of an image.
-ghost use Rattle.std.specs.Prelude.{◌≡◌, ◌≤◌, ◌↔◌, All, IsTrue, false, true};
+ghost use Rattle.std.specs.Prelude.{◌≡◌, ◌≤◌, ◌↔◌, All, IfNone, IfSome, IsTrue, false, true};
 ghost use Rattle.std.specs.List.{list_any};
 ghost use Rattle.box_images.specs.Answers.{Answers};
 ghost use Rattle.box_images.specs.Fields.{number_of};
@@ -93,28 +93,6 @@ fn named_from(lists: &[AddressSet], members: &NumberSet, rule: &Rule, address: u
     (block.0.min(listed.0), false)
 }
 
-fn names_on(
-    lists: &[AddressSet],
-    members: &NumberSet,
-    rule: &Rule,
-    side: Side,
-    i: &Image,
-) -> Part<bool>
-    requires valid { IsValidImage i.now }
-    requires walk { IsImageOfWalk i.now }
-    requires address { IsAddressSide side }
-    ensures { Answers (DivideRule lists.now members.now rule.now)
-        (λ h. names lists.now members.now (number_of (header_at i.now h) side) rule.now)
-        i.now.part result }
-{
-    let low = low_on(i, side);
-    let (last, told) = named_from(lists, members, rule, low);
-    Part {
-        body: up_to(i, side, low, last),
-        told,
-    }
-}
-
 // Whether a rule could name a far address of an image.
 fn could_name(lists: &[AddressSet], members: &NumberSet, rule: &Rule, dir: Dir, i: &Image) -> bool
     requires { IsValidImage i.now }
@@ -133,26 +111,6 @@ fn none_passes(answer: &Part<bool>, i: &Image) -> bool
     ensures { IsTrue result ↔ ((answer.now.told ≡ false) × (answer.now.body ≡ i.now.part)) }
 {
     !answer.told && answer.body == i.part
-}
-
-/// Whether a rule that has begun at a port which no header is below could allow a header of an image, its protocol
-/// aside. It couldn't where it ends before that port, or names none of the far addresses.
-pub fn could_still_allow(
-    lists: &[AddressSet],
-    members: &NumberSet,
-    rule: &Rule,
-    dir: Dir,
-    q: u16,
-    i: &Image,
-) -> bool
-    requires valid { IsValidImage i.now }
-    requires above { (h : Header) → holds h i.now.part ≡ true → q ≤ (header_at i.now h).q }
-    ensures { result ≡ false → AllowsNone lists.now members.now dir i.now rule.now }
-{
-    if rule.q_to < q {
-        return false;
-    }
-    could_name(lists, members, rule, dir, i)
 }
 
 /// Whether a rule could allow a header of an image, its ports aside. It couldn't where it names none of the far
@@ -174,28 +132,45 @@ pub fn could_allow(
     !none_passes(&proto_on(i, rule.proto), i)
 }
 
-/// Whether a rule allows the headers of an image. One that doesn't name the address is told so of all
-/// protocols and ports.
+/// Whether a rule allows the headers of an image, none of which has a port below this one. None says that it allows no
+/// header: it ends before that port, or names none of the far addresses. A rule whose ports fit, but that doesn't name
+/// the lowest address, is told so of all protocols and ports.
 pub fn allows_on(
     lists: &[AddressSet],
     members: &NumberSet,
     rule: &Rule,
     dir: Dir,
+    q: u16,
     i: &Image,
-) -> Part<bool>
+) -> Option<Part<bool>>
     requires valid { IsValidImage i.now }
     requires walk { IsImageOfWalk i.now }
-    ensures { Answers (DivideRule lists.now members.now rule.now)
-        (λ h. allows lists.now members.now dir (header_at i.now h) rule.now) i.now.part result }
+    requires above { (h : Header) → holds h i.now.part ≡ true → q ≤ (header_at i.now h).q }
+    ensures told { IfSome result (Answers (DivideRule lists.now members.now rule.now)
+        (λ h. allows lists.now members.now dir (header_at i.now h) rule.now) i.now.part) }
+    ensures none { IfNone result (AllowsNone lists.now members.now dir i.now rule.now) }
 {
-    let fits = rule_on(i, rule.proto, rule.q_from, rule.q_to);
-    if !fits.told {
-        return fits;
+    if rule.q_to < q {
+        return None;
     }
     let side = far_side(dir);
-    let named = names_on(lists, members, rule, side, i);
-    if !named.told {
-        return named;
+    let low = low_on(i, side);
+    let (last, named) = named_from(lists, members, rule, low);
+    if !named && i.greatest(side) <= last {
+        return None;
     }
-    names_on(lists, members, rule, side, &i.within(&fits.body))
+    let fits = rule_on(i, rule.proto, rule.q_from, rule.q_to);
+    if !fits.told {
+        return Some(fits);
+    }
+    if !named {
+        return Some(Part {
+            body: up_to(i, side, low, last),
+            told: false,
+        });
+    }
+    Some(Part {
+        body: up_to(&i.within(&fits.body), side, low, last),
+        told: true,
+    })
 }

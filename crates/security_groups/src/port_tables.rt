@@ -3,7 +3,7 @@ ghost use Rattle.std.specs.Prelude.{◌≡◌, ◌*◌, ◌<◌, ◌≤◌, IfOk
 ghost use Rattle.std.specs.List.Sorted.{IsNonDecreasingBy};
 ghost use Rattle.security_groups.specs.Asking.{least, lesser};
 ghost use Rattle.security_groups.specs.Rules.{allows};
-ghost use Rattle.security_groups.specs.Tables.{AreBegun, AreLasts, EndBy, run_of};
+ghost use Rattle.security_groups.specs.Tables.{AreBegun, AreEnded, AreLasts, AreTops, EndBy, run_of};
 
 use crate::asking::allows;
 use crate::on_images::allows_on;
@@ -24,13 +24,13 @@ fn sort(rules: &mut Vec<Rule>)
     rules.sort_unstable_by_key(|rule| rule.q_from);
 }
 
-// 64 rules, or those that are left.
+// 16 rules, or those that are left.
 pub fn run_of(rules: &[Rule], k: usize) -> &[Rule]
-    requires { 64 * k ≤ length rules.now }
+    requires { 16 * k ≤ length rules.now }
     ensures { result.now ≡ run_of k rules.now }
 {
-    let rest = &rules[64 * k..];
-    if rest.len() < 64 { rest } else { &rest[..64] }
+    let rest = &rules[16 * k..];
+    if rest.len() < 16 { rest } else { &rest[..16] }
 }
 
 // The greatest last port.
@@ -51,10 +51,25 @@ fn lasts_of(alloc: Global, rules: &[Rule]) -> Result<Vec<u16>, AllocError>
     ensures { IfOk result (λ v. AreLasts rules.now v.items) }
 {
     let mut lasts = Vec::new(alloc);
-    for k in 0..rules.len().div_ceil(64) {
+    for k in 0..rules.len().div_ceil(16) {
         lasts.push(last_of(run_of(rules, k)))?;
     }
     Ok(lasts)
+}
+
+// For each run the greatest last port of it and those before it.
+fn tops_of(alloc: Global, lasts: &[u16]) -> Result<Vec<u16>, AllocError>
+    ensures { IfOk result (λ v. AreTops lasts.now v.items) }
+{
+    let mut tops = Vec::new(alloc);
+    let mut top = 0;
+    for last in lasts {
+        if top < *last {
+            top = *last;
+        }
+        tops.push(top)?;
+    }
+    Ok(tops)
 }
 
 fn lesser(one: Option<u32>, other: Option<u32>) -> Option<u32>
@@ -88,38 +103,43 @@ fn least_in(
     least
 }
 
-// The same among the runs that don't end before the port.
+// The same among the runs that don't end before the port, of which the first ones do.
 fn least_in_runs(
     lists: &[AddressSet],
     members: &NumberSet,
     rules: &[Rule],
     lasts: &[u16],
+    ended: usize,
     dir: Dir,
     h: &Header,
 ) -> Option<u32>
-    requires { AreLasts rules.now lasts.now }
+    requires runs { AreLasts rules.now lasts.now }
+    requires ended { AreEnded lasts.now h.now.q ended }
     ensures { result ≡ least (allows lists.now members.now dir h.now) rules.now }
 {
     let mut least = None;
-    for (k, last) in lasts.iter().enumerate() {
-        if h.q <= *last {
+    for k in ended..lasts.len() {
+        if h.q <= lasts[k] {
             least = lesser(least, least_in(lists, members, run_of(rules, k), dir, h));
         }
     }
     least
 }
 
-/// Rules, with the greatest last port of each run of 64. Contracts see them in ascending order of their first ports.
+/// Rules, with the greatest last port of each run of 16, and of all runs up to it. Contracts see the rules, in ascending
+/// order of their first ports.
 pub struct PortTable {
     rules: Vec<Rule>,
     lasts: Vec<u16>,
+    tops: Vec<u16>,
 }
 
 impl Drop for PortTable {
     fn drop(self) {
-        let PortTable { rules, lasts } = self;
+        let PortTable { rules, lasts, tops } = self;
         drop(rules);
         drop(lasts);
+        drop(tops);
     }
 }
 
@@ -132,13 +152,15 @@ impl Model for PortTable {
 
     ghost view = { λ t. t.rules.items };
 
-    ghost invariant = { λ t. IsTable t.rules.items t.lasts.items };
+    ghost invariant = { λ t. IsTable t.rules.items t.lasts.items t.tops.items };
 }
 
 impl PortTable {
-    ghost use Rattle.std.specs.Prelude.{IfSome};
+    ghost use Rattle.std.specs.Prelude.{IfSome, true};
     ghost use Rattle.box_images.specs.Answers.{Answers};
     ghost use Rattle.box_images.specs.Images.{IsImageOfWalk, IsValidImage, header_at};
+    ghost use Rattle.header_boxes.specs.Boxes.{holds};
+    ghost use Rattle.vpc_base.specs.declared.headers.Header.{Header};
     ghost use Rattle.security_groups.specs.Dividing.{FindsOne, IsAllowedOn, rule_at};
     ghost use Rattle.security_groups.specs.Rules.{DivideRules, any_allows};
 
@@ -155,17 +177,21 @@ impl PortTable {
     {
         sort(&mut rules);
         let lasts = lasts_of(alloc, rules.as_slice())?;
-        Ok(PortTable { rules, lasts })
+        let tops = tops_of(alloc, lasts.as_slice())?;
+        Ok(PortTable { rules, lasts, tops })
     }
 
-    // The rules that begin at or before a port, and the greatest last port of each of their runs.
-    fn begun(&self, q: u16) -> (&[Rule], &[u16])
+    // The rules that begin at or before a port, the greatest last port of each of their runs, and how many of the first
+    // runs end before the port.
+    fn begun(&self, q: u16) -> (&[Rule], &[u16], usize)
         ensures rules { AreBegun self.now q result.0.now }
         ensures lasts { AreLasts result.0.now result.1.now }
+        ensures ended { AreEnded result.1.now q result.2 }
     {
         let begun = self.rules.partition_point(|rule| rule.q_from <= q);
-        let runs = begun.div_ceil(64);
-        (&self.rules[..begun], &self.lasts[..runs])
+        let runs = begun.div_ceil(16);
+        let ended = self.tops[..runs].partition_point(|top| *top < q);
+        (&self.rules[..begun], &self.lasts[..runs], ended)
     }
 
     /// The least number of a rule that allows the packet. It asks the rules that begin at or before its
@@ -179,8 +205,8 @@ impl PortTable {
     ) -> Option<u32>
         ensures { result ≡ least (allows lists.now members.now dir h.now) self.now }
     {
-        let (rules, lasts) = self.begun(h.q);
-        least_in_runs(lists, members, rules, lasts, dir, h)
+        let (rules, lasts, ended) = self.begun(h.q);
+        least_in_runs(lists, members, rules, lasts, ended, dir, h)
     }
 
     // The number of a rule in this order that allows the packet, if one does. It asks as `least_allowing`
@@ -194,27 +220,28 @@ impl PortTable {
     ) -> Option<usize>
         ensures { FindsOne (allows lists.now members.now dir h.now) self.now result }
     {
-        let (rules, lasts) = self.begun(h.q);
-        allowing_in_runs(lists, members, rules, lasts, dir, h)
+        let (rules, lasts, ended) = self.begun(h.q);
+        allowing_in_runs(lists, members, rules, lasts, ended, dir, h)
     }
 
-    // Whether the rule of this number allows the headers of an image.
+    // Whether the rule of this number allows the headers of an image, none of which has a port below this one.
     fn one_allows_on(
         &self,
         number: usize,
         lists: &[AddressSet],
         members: &NumberSet,
         dir: Dir,
+        q: u16,
         i: &Image,
-    ) -> Part<bool>
+    ) -> Option<Part<bool>>
         requires valid { IsValidImage i.now }
         requires walk { IsImageOfWalk i.now }
         requires within { number < length self.now }
-        ensures { Answers (DivideRules lists.now members.now self.now)
-            (λ h. allows lists.now members.now dir (header_at i.now h) (rule_at self.now number))
-            i.now.part result }
+        requires above { (h : Header) → holds h i.now.part ≡ true → q ≤ (header_at i.now h).q }
+        ensures { IfSome result (Answers (DivideRules lists.now members.now self.now)
+            (λ h. allows lists.now members.now dir (header_at i.now h) (rule_at self.now number)) i.now.part) }
     {
-        allows_on(lists, members, &self.rules[number], dir, i)
+        allows_on(lists, members, &self.rules[number], dir, q, i)
     }
 
     /// The body on which one rule allows the headers of an image: one that allows the low corner, if there is such a rule.
@@ -231,7 +258,7 @@ impl PortTable {
     {
         let low = i.value(&i.part.low());
         let number = self.allowing(lists, members, dir, &low)?;
-        let allowed = self.one_allows_on(number, lists, members, dir, i);
+        let allowed = self.one_allows_on(number, lists, members, dir, low.q, i)?;
         if allowed.told {
             Some(allowed.body)
         } else {
@@ -256,7 +283,7 @@ impl PortTable {
             i.now.part result }
     {
         let q = i.value(&i.part.low()).q;
-        let (rules, lasts) = self.begun(q);
+        let (rules, lasts, ended) = self.begun(q);
         let rest = i.within(&before_next(
             lists,
             members,
@@ -265,6 +292,6 @@ impl PortTable {
             dir,
             i,
         ));
-        any_in_runs_on(lists, members, rules, lasts, dir, q, &rest)
+        any_in_runs_on(lists, members, rules, lasts, ended, dir, q, &rest)
     }
 }

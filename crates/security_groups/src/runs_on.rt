@@ -7,10 +7,10 @@ ghost use Rattle.header_boxes.specs.Boxes.{holds, low_of};
 ghost use Rattle.vpc_base.specs.declared.headers.Header.{Header};
 ghost use Rattle.security_groups.specs.Dividing.{FindsOne, IsLeftWith};
 ghost use Rattle.security_groups.specs.Rules.{DivideRules, allows, any_allows};
-ghost use Rattle.security_groups.specs.Tables.{AreLasts, BeginAfter};
+ghost use Rattle.security_groups.specs.Tables.{AreEnded, AreLasts, BeginAfter};
 
 use crate::asking::allows;
-use crate::on_images::{allows_on, could_allow, could_still_allow};
+use crate::on_images::{allows_on, could_allow};
 use crate::port_tables::run_of;
 use crate::rules::Rule;
 use address_sets::AddressSet;
@@ -37,8 +37,7 @@ fn any_in_on(
 {
     let mut rest = *i;
     for rule in rules {
-        if could_still_allow(lists, members, rule, dir, q, &rest) {
-            let allowed = allows_on(lists, members, rule, dir, &rest);
+        if let Some(allowed) = allows_on(lists, members, rule, dir, q, &rest) {
             if allowed.told {
                 return Part {
                     body: allowed.body,
@@ -54,12 +53,13 @@ fn any_in_on(
     }
 }
 
-/// The same by runs of rules. Those that end before a port that no header is below aren't asked.
+/// The same by runs of rules. Those that end before a port that no header is below, as the first ones do, aren't asked.
 pub fn any_in_runs_on(
     lists: &[AddressSet],
     members: &NumberSet,
     rules: &[Rule],
     lasts: &[u16],
+    ended: usize,
     dir: Dir,
     q: u16,
     i: &Image,
@@ -67,13 +67,14 @@ pub fn any_in_runs_on(
     requires valid { IsValidImage i.now }
     requires walk { IsImageOfWalk i.now }
     requires runs { AreLasts rules.now lasts.now }
+    requires ended { AreEnded lasts.now q ended }
     requires above { (h : Header) → holds h i.now.part ≡ true → q ≤ (header_at i.now h).q }
     ensures { Answers (DivideRules lists.now members.now rules.now)
         (λ h. any_allows lists.now members.now dir rules.now (header_at i.now h)) i.now.part result }
 {
     let mut rest = *i;
-    for (k, last) in lasts.iter().enumerate() {
-        if q <= *last {
+    for k in ended..lasts.len() {
+        if q <= lasts[k] {
             let allowed = any_in_on(lists, members, run_of(rules, k), dir, q, &rest);
             if allowed.told {
                 return Part {
@@ -152,23 +153,25 @@ fn allowing_in(
     None
 }
 
-/// The number of a rule that allows the packet, if one does, by runs.
+/// The number of a rule that allows the packet, if one does, by runs, of which the first ones end before its port.
 pub fn allowing_in_runs(
     lists: &[AddressSet],
     members: &NumberSet,
     rules: &[Rule],
     lasts: &[u16],
+    ended: usize,
     dir: Dir,
     h: &Header,
 ) -> Option<usize>
-    requires { AreLasts rules.now lasts.now }
+    requires runs { AreLasts rules.now lasts.now }
+    requires ended { AreEnded lasts.now h.now.q ended }
     ensures { FindsOne (allows lists.now members.now dir h.now) rules.now result }
 {
-    for (k, last) in lasts.iter().enumerate() {
-        if h.q <= *last {
+    for k in ended..lasts.len() {
+        if h.q <= lasts[k] {
             let allowing = allowing_in(lists, members, run_of(rules, k), dir, h);
             if let Some(number) = allowing {
-                return Some(64 * k + number);
+                return Some(16 * k + number);
             }
         }
     }

@@ -10,5 +10,5 @@ loop-k-preserved c =
 
 pub returns : goal.returns
 returns c =
-    let times = div_ceil_times (length c.args.rules.now) 64 (omega arith) in
+    let times = div_ceil_times (length c.args.rules.now) 16 (omega arith) in
     runs-all c.args.rules.now c.loop-k.lasts.items c.loop-k.k (omega arith) (omega arith) c.loop-k.invariant.0 c.loop-k.invariant.1

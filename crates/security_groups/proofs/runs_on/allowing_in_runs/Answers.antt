@@ -1,13 +1,17 @@
-use Rattle.std.proofs.Common.{◌∙◌, Some, ap, get_or, subst, sym, List}
+use Rattle.std.proofs.Common.{◌∙◌, arith, Some, ap, get_or, subst, sym, List}
 use Rattle.std.specs.List.{list_any}
 use Rattle.security_groups.specs.Rules.{allows}
 use Rattle.security_groups.specs.Dividing.{FindsOne}
 use Rattle.security_groups.specs.Tables.{run_of}
 use Rattle.security_groups.specs.declared.rules.Rule.{Rule}
-use Rattle.security_groups.proofs.Finding.{run-has, run-passed}
+use Rattle.security_groups.proofs.Finding.{ended-passed, run-has, run-passed}
 use Rattle.security_groups.proofs.RunsOn.{none-ended}
 use Rattle.security_groups.proofs.runs_on.allowing_in_runs.Goals as goal
-use Rattle.security_groups.proofs.runs_on.allowing_in_runs.Goals.{then-h-last+in_default, else-h-last}
+use Rattle.security_groups.proofs.runs_on.allowing_in_runs.Goals.{then-h-lasts+in_default, else-h-lasts}
+
+pub loop-k-init : goal.loop-k-init
+loop-k-init c =
+    ended-passed c.args.lists.now c.args.members.now c.args.dir c.args.h.now c.args.rules.now c.args.lasts.now c.args.ended c.requires.runs c.requires.ended c.args.ended (omega arith)
 
 pub returns-in-Some : goal.returns-in-Some
 returns-in-Some c =
@@ -20,11 +24,11 @@ pub loop-k-preserved : goal.loop-k-preserved
 loop-k-preserved c =
     let p = allows c.args.lists.now c.args.members.now c.args.dir c.args.h.now in
     let k = c.loop-k.k in
-    elim c.if-h-last.branch [
-      | then-h-last+in_default w ↦
+    elim c.if-h-lasts.branch [
+      | then-h-lasts+in_default w ↦
           run-passed p c.args.rules.now k (sym (ap (list_any p) w.run_of.ensures) ∙ subst (FindsOne p w.run_of.result.now) w.in_default.is w.allowing_in-allowing.ensures) c.loop-k.invariant
-      | else-h-last w ↦
+      | else-h-lasts w ↦
           run-passed p c.args.rules.now k
-          (none-ended c.args.lists.now c.args.members.now c.args.dir c.args.h.now (get_or c.args.lasts.now k 0) (run_of k c.args.rules.now) (c.requires.ends k c.loop-k-test.true) w.if-h-last.false)
+          (none-ended c.args.lists.now c.args.members.now c.args.dir c.args.h.now (get_or c.args.lasts.now k 0) (run_of k c.args.rules.now) (c.requires.runs.ends k c.loop-k-test.true) w.if-h-lasts.false)
           c.loop-k.invariant
     ]
