@@ -8,7 +8,9 @@ use std::alloc::{AllocError, Global};
 fn twelve_words(alloc: Global, line: &[u8]) -> Result<Vec<&[u8]>, AllocError>
     ensures { IfOk result (λ v. map (λ w. w.now) v.items ≡ take 12 (words_of line.now)) }
 {
-    line.split(|c| *c == b' ').take(12).collect(alloc)
+    let mut words = Vec::with_capacity(alloc, 12)?;
+    words.extend(line.split(|c| *c == b' ').take(12))?;
+    Ok(words)
 }
 
 /// The words of a line, with one blank between each two; none where they are more than eleven, which no
