@@ -1,5 +1,5 @@
 // The appliances of a network.
-ghost use Rattle.std.specs.Prelude.{◌≡◌, ◌<◌, ◌^◌, ◌++◌, ◌∷◌, [], Contains, IfOk, IsTrue, OnOk, length, map};
+ghost use Rattle.std.specs.Prelude.{◌≡◌, ◌<◌, ◌^◌, ◌++◌, ◌∷◌, [], Contains, IfOk, OnOk, length, map};
 ghost use Rattle.vpc_model.specs.Appliances.{appliances_of, boxes_of_kind};
 ghost use Rattle.vpc_model.specs.Lookup.{eni_no};
 ghost use Rattle.appliances.specs.Passing.{kind_passes_at};

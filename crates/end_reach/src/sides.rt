@@ -4,7 +4,6 @@ ghost use Rattle.header_boxes.specs.Boxes.{AreDisjoint, IsValid};
 ghost use Rattle.listing_text.specs.Sides.{AreEachAlone, alone, sides_between};
 ghost use Rattle.query_words.specs.Pairs.{IsSide};
 ghost use Rattle.query_words.specs.ReachQuery.{AreReachPairs};
-ghost use Rattle.vpc_model.specs.Lookup.{interface_at};
 ghost use Rattle.vpc_model.specs.Sound.{is_end};
 ghost use Rattle.end_reach.specs.Asked.{AreTargets, boxes_at, own_addresses, own_sources, sources_of};
 
