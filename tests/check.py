@@ -1,8 +1,11 @@
 """Proves one crate of this checkout over the libraries that a gate built, without proving what stands below it again.
 
     python3 tests/check.py GATE CRATE [FLAG..]
+    python3 tests/check.py sources CRATE --only PATH [FLAG..]
 
 GATE is another clone of this repository in which `rt ci` runs or ran; what it built of the crates below stands in its out/ folders.
+Where nothing is built yet, `sources` takes the crates below as they are written, unproved: what `--only` names is then proved over their
+statements, within a minute or two.
 Only what changed in CRATE since the last call is checked: a change costs seconds where `rt ci CRATE` takes minutes. A library that is
 proved is kept in bench/out/check, and the crates above take it from there in place of the gate's. FLAGs are those of `rattle check`:
 `--allow-holes` tells of every open goal, `--fix-imports` drops unused imports, `--test` checks the tests too. It gives no verdict for the gate.
@@ -35,21 +38,48 @@ def library(gate, name):
     return None
 
 
-def command(gate, name, flags):
-    all_crates = crates()
-    words = ["--extern", f"std={KIT}/rlibs/std.rlib", "-L", f"dependency={KIT}/rlibs"]
-    for below in all_crates[name]:
-        found = library(gate, below) if below in all_crates else f"{KIT}/rlibs/{below}.rlib"
+def below(all_crates, name):
+    """The crates below one, each after those that it uses."""
+    found = []
+    for it in all_crates[name]:
+        if it in all_crates:
+            found += [each for each in (*below(all_crates, it), it) if each not in found]
+    return found
+
+
+def over_sources(all_crates, name):
+    """The words that give the crates below as sources, each with what it uses."""
+    lower = below(all_crates, name)
+    of_kit = {it for each in (*lower, name) for it in all_crates[each] if it not in all_crates}
+    words = [word for it in sorted(of_kit | {"core"}) for word in ("--extern", f"{it}={KIT}/rlibs/{it}.rlib")]
+    for it in lower:
+        words += ["--lib", f"{it}:{','.join(['core', 'std', *all_crates[it]])}={TOP}/crates/{it}/src/lib.rt"]
+    return words
+
+
+def over_libraries(all_crates, gate, name):
+    """The words that give the crates below as libraries, of this checkout or of the gate."""
+    words = []
+    for it in all_crates[name]:
+        found = library(gate, it) if it in all_crates else f"{KIT}/rlibs/{it}.rlib"
         if found is None:
-            sys.exit(f"no library of {below} yet")
-        words += ["--extern", f"{below}={found}"]
+            sys.exit(f"no library of {it} yet")
+        words += ["--extern", f"{it}={found}"]
     for other in all_crates:
         found = library(gate, other) if other != name else None
         if found:
             words += ["-L", f"dependency={os.path.dirname(found)}"]
+    return words
+
+
+def command(gate, name, flags):
+    all_crates = crates()
+    is_over_sources = gate == "sources"
+    words = ["--extern", f"std={KIT}/rlibs/std.rlib", "-L", f"dependency={KIT}/rlibs"]
+    words += over_sources(all_crates, name) if is_over_sources else over_libraries(all_crates, os.path.abspath(gate), name)
     is_program = not os.path.exists(f"{TOP}/crates/{name}/src/lib.rt")
     checks = is_program or any(flag.split("=")[0] in CHECKS for flag in flags)
-    store = f"{KEPT}/{name}/{'tests' if '--test' in flags else 'checks'}"
+    store = f"{KEPT}/{name}/{'sources' if is_over_sources else 'tests' if '--test' in flags else 'checks'}"
     os.makedirs(store, exist_ok=True)
     built = [] if checks else ["-o", f"{KEPT}/{name}/{name}.rlib"]
     logic = ["--antt-project", f"{KIT}/rattle/logic/antt-project.json", "--logic-built", f"{KIT}/logic_built"]
@@ -61,7 +91,7 @@ def main():
     if len(sys.argv) < 3:
         sys.exit(__doc__)
     gate, name, *flags = sys.argv[1:]
-    words = command(os.path.abspath(gate), name, flags)
+    words = command(gate, name, flags)
     sys.exit(subprocess.call(words, cwd=os.path.join(TOP, "crates", name)))
 
 

@@ -36,16 +36,6 @@ def sources(crate):
     return told.hexdigest()
 
 
-def below(all_crates, crate):
-    """The crates below one, each after those that it uses."""
-    found = []
-    for name in all_crates[crate]:
-        for it in [*below(all_crates, name), name] if name in all_crates else []:
-            if it not in found:
-                found.append(it)
-    return found
-
-
 def has_tests(crate):
     source = os.path.join(check.TOP, "crates", crate, "src")
     return any("#[test]" in open(os.path.join(at, it), encoding="utf-8").read() for at, _, names in os.walk(source) for it in names)
@@ -88,15 +78,15 @@ def prove_all(names, at_once):
         sys.exit(f"crates.txt has no {unknown[0]}")
     wanted = []
     for name in names or all_crates:
-        wanted += [it for it in [*below(all_crates, name), name] if it not in wanted]
+        wanted += [it for it in [*check.below(all_crates, name), name] if it not in wanted]
     own = {it: sources(it) for it in wanted}
-    stamps = {it: " ".join([own[it], *[own[low] for low in below(all_crates, it)]]) for it in wanted}
+    stamps = {it: " ".join([own[it], *[own[low] for low in check.below(all_crates, it)]]) for it in wanted}
     given = {it: True for it in wanted if is_proved(it, stamps[it])}
     left, running = [it for it in wanted if it not in given], {}
     with ThreadPoolExecutor(at_once) as pool:
         while left or running:
             for crate in list(left):
-                lower = [given.get(it) for it in below(all_crates, crate)]
+                lower = [given.get(it) for it in check.below(all_crates, crate)]
                 if False in lower:
                     left.remove(crate)
                     given[crate] = False
