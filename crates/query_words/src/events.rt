@@ -1,5 +1,7 @@
 // Lists of packets, one a line.
-ghost use Rattle.std.specs.Prelude.{◌≡◌, ◌≢◌, All, IfOk, IfSome, map};
+ghost use Rattle.std.specs.Prelude.{◌≡◌, ◌≢◌, ◌∷◌, [], All, Err, IfOk, IfSome, codes, length, map};
+ghost use Rattle.std.specs.Result.{result_ok};
+ghost use Rattle.query_words.specs.Packet.{packet_of};
 ghost use Rattle.query_words.specs.Events.{AreRead, StartsWell, bad_line, event_of, events_in, events_of};
 ghost use Rattle.query_words.specs.declared.refusal.QueryRefusal.TheVariants as refusals;
 ghost use Rattle.query_words.specs.declared.events.EventFault.TheVariants.{Memory};
@@ -46,14 +48,30 @@ impl<T: Drop> From<AllocFailed<T>> for EventFault {
     }
 }
 
-// Want of memory is no answer; any other refusal says that the words are no packet.
-fn unless_memory(refusal: &QueryRefusal) -> Result<(), NoMemory>
-    ensures { IfOk result (λ u. refusal.now ≢ refusals.Memory) }
+// The packet that was read, if the words are one. Want of memory is no answer.
+fn unless_memory(read: Result<Event, QueryRefusal>) -> Result<Option<Event>, NoMemory>
+    ensures value { IfOk result (λ e. e ≡ result_ok read) }
+    ensures told { IfOk result (λ e. read ≢ Err refusals.Memory) }
 {
-    match refusal {
-        QueryRefusal::Memory => Err(NoMemory),
-        _ => Ok(()),
+    match read {
+        Ok(event) => Ok(Some(event)),
+        Err(QueryRefusal::Memory) => Err(NoMemory),
+        Err(_) => Ok(None),
     }
+}
+
+// The packet that eight words of a line give, if they are one.
+fn event_of_words(alloc: Global, n: &Network, words: &[&[u8]]) -> Result<Option<Event>, NoMemory>
+    requires { length words.now ≡ 8 }
+    ensures event { IfOk result (λ e. e
+        ≡ result_ok (packet_of n.now (codes "trace" ∷ [] ∷ map (λ w. w.now) words.now))) }
+    ensures start { IfOk result (λ e. IfSome e (StartsWell n.now)) }
+{
+    let numbered = LineWords {
+        name: b"trace",
+        words,
+    };
+    unless_memory(read_event(alloc, n, &numbered))
 }
 
 // The packet of a line, if it is one.
@@ -63,19 +81,10 @@ fn event_of(alloc: Global, n: &Network, line: &[u8]) -> Result<Option<Event>, No
 {
     // More than eight words are no packet, however many come after the ninth.
     let words = first_words(alloc, line, 9)?;
-    if words.len() != 8 {
-        return Ok(None);
-    }
-    let numbered = LineWords {
-        name: b"trace",
-        words: words.as_slice(),
-    };
-    match read_event(alloc, n, &numbered) {
-        Ok(event) => Ok(Some(event)),
-        Err(refusal) => {
-            unless_memory(&refusal)?;
-            Ok(None)
-        }
+    if words.len() == 8 {
+        event_of_words(alloc, n, words.as_slice())
+    } else {
+        Ok(None)
     }
 }
 
