@@ -6,8 +6,8 @@ ghost use Rattle.change_report.specs.Texts.{absent_text, barrier_text, change_te
 ghost use Rattle.journey_changes.specs.Telling.{CanBeTold, IsTellable};
 ghost use Rattle.vpc_model.specs.Sound.{has_text};
 
-use block_report::{name_text, stop_id};
-use change_report::{id_at, phase_text};
+use block_report::{name_text, phase_text, stop_id};
+use change_report::id_at;
 use journey_changes::{Barrier, Change};
 use reference_check::Network;
 use report_reader::is_rule;

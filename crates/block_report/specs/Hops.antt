@@ -1,6 +1,6 @@
 -- How hops are printed: a numbered line for each place that a packet comes to.
 use Rattle.std.specs.Prelude.{◌++◌, ◌∷◌, ◌+◌, ◌-◌, [], List, codes, decimal, slice_index_or, unwrap_or, ℕ}
-use Rattle.vpc_laws.specs.Types.{By, Description, Dir, Header, Hop, Place, RuleRef}
+use Rattle.vpc_laws.specs.Types.{By, Description, Dir, Header, Hop, Permission, Place, RuleRef}
 use Rattle.vpc_model.specs.declared.outcomes.By.TheVariants as bys
 use Rattle.vpc_base.specs.declared.headers.Dir.TheVariants as dirs
 use Rattle.vpc_model.specs.declared.places.Place.TheVariants as places
@@ -29,12 +29,13 @@ abbrev pub dir_text : Dir → List ℕ
 dir_text dirs.Inward = codes "in"
 dir_text dirs.Outward = codes "out"
 
+-- the rule that is told by a number, from 1
+abbrev pub rule_at : Description → RuleRef → Permission
+rule_at d r = let g = group_at d r.group in slice_index_or (permissions_of r.dir g) (r.number - 1) no_permission
+
 -- the id of a rule that was told with one, else its number
 abbrev pub rule_name : Description → RuleRef → List ℕ
-rule_name d r =
-    let g = group_at d r.group in
-    let p = slice_index_or (permissions_of r.dir g) (r.number - 1) no_permission in
-    unwrap_or p.id (decimal r.number)
+rule_name d r = let p = rule_at d r in unwrap_or p.id (decimal r.number)
 
 -- by a rule of a group, which the rule's name follows
 abbrev pub by_group : List ℕ → Dir → List ℕ
@@ -51,9 +52,13 @@ by_text d (bys.Rule r) = let g = group_at d r.group in by_group g.id r.dir ++ wo
 abbrev pub place_line : ℕ → List ℕ → List ℕ → Header → List ℕ
 place_line n kind id h = codes "hop" ++ word (decimal n) ++ word kind ++ word id ++ word (header_text h)
 
+-- the place of the hop with this number, and the header there
+abbrev pub hop_place : Description → ℕ → Hop → List ℕ
+hop_place d n h = place_line n (place_kind h.place) (place_id d h.place) h.header
+
 -- the line of the hop with this number
 abbrev pub hop_line : Description → ℕ → Hop → List ℕ
-hop_line d n h = place_line n (place_kind h.place) (place_id d h.place) h.header ++ by_text d h.by ++ line_end
+hop_line d n h = hop_place d n h ++ by_text d h.by ++ line_end
 
 -- the lines of hops, from a number on
 abbrev pub hop_lines_from : Description → ℕ → List Hop → List ℕ

@@ -7,7 +7,7 @@ use Rattle.prefix_text.specs.Range.{range_text}
 use Rattle.vpc_base.specs.Header.{reply_of}
 use Rattle.vpc_model.specs.Appliances.{Appliances}
 use Rattle.block_report.specs.Walks.{told_text, walk_text}
-use Rattle.block_report.specs.Words.{header_text, line_end, word}
+use Rattle.block_report.specs.Words.{header_line, line_end, number_line, word}
 use Rattle.vpc_model.specs.Id.{is_id}
 use Rattle.vpc_model.specs.Sound.{has_text}
 use Rattle.vpc_model.specs.Told.{end_id, told_stop}
@@ -34,7 +34,7 @@ reply_lines d appliances goal request (Some r) = lines_of_walk d (reply_walk d a
 abbrev pub walks_text : Description → Appliances → End → Header → Walk → List ℕ
 walks_text d appliances goal h request =
     codes "reachable" ++ line_end
-    ++ (codes "packet" ++ word (header_text h) ++ line_end)
+    ++ header_line (codes "packet") h
     ++ (codes "request" ++ line_end ++ lines_of_walk d request)
     ++ (codes "reply" ++ line_end ++ reply_lines d appliances goal request (option_and_then reply_of (arrived_header request.outcome)))
 
@@ -76,14 +76,14 @@ query_text from_id to_id whole rows = ends_line from_id to_id ++ box_line whole 
 -- a report, whose rows hold every header, by the ids of the two ends
 abbrev pub report_of : List ℕ → List ℕ → Box5 → List (Row StopText) → List ℕ
 report_of from_id to_id whole rows =
-    (codes "vpc-report 1" ++ line_end) ++ query_text from_id to_id whole rows ++ (codes "end" ++ word (decimal (length rows)) ++ line_end)
+    (codes "vpc-report 1" ++ line_end) ++ query_text from_id to_id whole rows ++ number_line (codes "end") (length rows)
 
 -- rows that leave headers out, with the first of these and the number of cells, by the ids of the two ends
 abbrev pub more_of : List ℕ → List ℕ → Box5 → List (Row StopText) → Header → ℕ → List ℕ
 more_of from_id to_id whole rows next cells =
     (codes "more boxes" ++ line_end) ++ query_text from_id to_id whole rows
-    ++ (codes "next" ++ word (header_text next) ++ line_end)
-    ++ (codes "cells" ++ word (decimal cells) ++ line_end)
+    ++ header_line (codes "next") next
+    ++ number_line (codes "cells") cells
 
 -- a report in a network
 abbrev pub report_text : Description → End → End → Box5 → List (Row StopText) → List ℕ

@@ -18,3 +18,11 @@ proto_text n = if n == 1 then codes "icmp" else (if n == 6 then codes "tcp" else
 -- PROTO SRC DST P Q
 abbrev pub header_text : Header → List ℕ
 header_text h = proto_text h.proto ++ word (addr_text h.src) ++ word (addr_text h.dst) ++ word (decimal h.p) ++ word (decimal h.q)
+
+-- a line of a name and a number
+abbrev pub number_line : List ℕ → ℕ → List ℕ
+number_line name n = name ++ word (decimal n) ++ line_end
+
+-- a line of a name and a header
+abbrev pub header_line : List ℕ → Header → List ℕ
+header_line name h = name ++ word (header_text h) ++ line_end

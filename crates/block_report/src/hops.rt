@@ -1,12 +1,10 @@
 // Hops: a numbered line for each place that a packet comes to.
-ghost use Rattle.std.specs.Prelude.{◌≡◌, ◌++◌, ◌-◌, All, IfOk, IsTrue, OnOk, slice_index_or};
-ghost use Rattle.block_report.specs.Hops.{by_group, by_text, dir_text, hop_line, hop_lines, place_kind, place_line, rule_name};
+ghost use Rattle.std.specs.Prelude.{◌≡◌, ◌++◌, All, IfOk, IsTrue, OnOk};
+ghost use Rattle.block_report.specs.Hops.{by_group, by_text, dir_text, hop_line, hop_lines, hop_place, place_kind, place_line, rule_at, rule_name};
 ghost use Rattle.block_report.specs.Words.{word};
 ghost use Rattle.vpc_laws.specs.Sound.{IsSoundHop};
-ghost use Rattle.vpc_model.specs.Groups.{no_permission, permissions_of};
-ghost use Rattle.vpc_model.specs.Lookup.{group_at};
+ghost use Rattle.vpc_model.specs.Groups.{permissions_of};
 ghost use Rattle.vpc_model.specs.Sound.{has_rule, is_rule};
-ghost use Rattle.vpc_model.specs.Told.{place_id};
 ghost use Rattle.vpc_model.specs.declared.outcomes.By.TheVariants as bys;
 
 use crate::places::{place_id, place_kind};
@@ -55,7 +53,7 @@ fn permissions_of(group: &Group, dir: Dir) -> &[Permission]
 // The rule that is told by a number, from 1.
 fn permission_at<'a>(n: &'a Network, r: &RuleRef) -> &'a Permission
     requires { IsTrue (is_rule n.now r.now) }
-    ensures { let g = group_at n.now r.now.group in result.now ≡ slice_index_or (permissions_of r.now.dir g) (r.now.number - 1) no_permission }
+    ensures { result.now ≡ rule_at n.now r.now }
 {
     let group = n.group_at(r.group);
     &permissions_of(group, r.dir)[r.number as usize - 1]
@@ -104,7 +102,7 @@ pub fn put_by(out: &mut Vec<u8>, n: &Network, by: &By) -> Result<(), NoMemory>
 
 fn put_hop_place(out: &mut Vec<u8>, n: &Network, number: u128, hop: &Hop) -> Result<(), NoMemory>
     requires { IsSoundHop n.now hop.now }
-    ensures { OnOk result (out.new.items ≡ out.old.items ++ place_line number (place_kind hop.now.place) (place_id n.now hop.now.place) hop.now.header) }
+    ensures { OnOk result (out.new.items ≡ out.old.items ++ hop_place n.now number hop.now) }
 {
     put_place(
         out,

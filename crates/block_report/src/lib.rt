@@ -20,9 +20,11 @@ pub use places::end_id;
 pub use queries::put_query_refusal;
 pub use refusals::put_cause;
 pub use replays::put_replay;
-pub use reports::{print_more, print_report, put_more, put_report, put_row, put_told};
+pub use reports::{print_more, print_report};
 pub use stops::{RuleWord, rule_of, stop_id, stop_text};
-pub use walks::{put_arrived, put_stop, put_stop_words, put_stopped, put_walk};
+pub use walks::{
+    phase_text, put_arrived, put_stop, put_stop_words, put_stopped, put_told, put_walk,
+};
 pub use words::{
     put, put_addr_word, put_end, put_header, put_header_line, put_header_word, put_line,
     put_number_line, put_number_word, put_word,

@@ -1,9 +1,8 @@
 // Prints why a bundle describes no network.
-ghost use Rattle.std.specs.Prelude.{◌≡◌, ◌++◌, OnOk, codes};
-ghost use Rattle.prefix_text.specs.Addr.{addr_text};
-ghost use Rattle.block_report.specs.Refusals.{list_text, refusal_text};
+ghost use Rattle.std.specs.Prelude.{◌≡◌, ◌++◌, OnOk};
+ghost use Rattle.block_report.specs.Refusals.{cause_text, list_text, refusal_text};
 ghost use Rattle.block_report.specs.Words.{word};
-ghost use Rattle.block_report.specs.Refusals.{cause_text};
+ghost use Rattle.vpc_model.specs.declared.refusals.Refusal.TheVariants as refusals;
 
 use crate::words::{put, put_addr_word, put_word};
 use bundle::BundleRefusal;
@@ -41,28 +40,31 @@ fn put_named(out: &mut Vec<u8>, name: &[u8], argument: &[u8]) -> Result<(), NoMe
 }
 
 fn put_missing(out: &mut Vec<u8>, from: &[u8], to: &[u8]) -> Result<(), NoMemory>
-    ensures { OnOk result (out.new.items ≡ out.old.items ++ (codes "MissingReference" ++ word from.now ++ word to.now)) }
+    ensures { let cause = refusals.MissingReference from.now to.now in
+        OnOk result (out.new.items ≡ out.old.items ++ refusal_text cause) }
 {
     put_named(out, b"MissingReference", from)?;
     put_word(out, to)
 }
 
 fn put_duplicate_address(out: &mut Vec<u8>, vpc: &[u8], address: u32) -> Result<(), NoMemory>
-    ensures { OnOk result (out.new.items ≡ out.old.items ++ (codes "DuplicateAddress" ++ word vpc.now ++ word (addr_text address))) }
+    ensures { let cause = refusals.DuplicateAddress vpc.now address in
+        OnOk result (out.new.items ≡ out.old.items ++ refusal_text cause) }
 {
     put_named(out, b"DuplicateAddress", vpc)?;
     put_addr_word(out, address)
 }
 
 fn put_duplicate_public(out: &mut Vec<u8>, address: u32) -> Result<(), NoMemory>
-    ensures { OnOk result (out.new.items ≡ out.old.items ++ (codes "DuplicatePublic" ++ word (addr_text address))) }
+    ensures { let cause = refusals.DuplicatePublic address in
+        OnOk result (out.new.items ≡ out.old.items ++ refusal_text cause) }
 {
     put(out, b"DuplicatePublic")?;
     put_addr_word(out, address)
 }
 
 fn put_too_many(out: &mut Vec<u8>, name: ListName) -> Result<(), NoMemory>
-    ensures { OnOk result (out.new.items ≡ out.old.items ++ (codes "TooManyRows" ++ word (list_text name))) }
+    ensures { OnOk result (out.new.items ≡ out.old.items ++ refusal_text (refusals.TooManyRows name)) }
 {
     put(out, b"TooManyRows ")?;
     put_list(out, name)

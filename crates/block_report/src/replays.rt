@@ -1,10 +1,10 @@
 // The packets of a replay, one line each.
-ghost use Rattle.std.specs.Prelude.{◌≡◌, ◌++◌, All, IsTrue, OnOk, codes};
+ghost use Rattle.std.specs.Prelude.{◌≡◌, ◌++◌, All, IsTrue, OnOk};
 ghost use Rattle.block_report.specs.Replays.{arrival_text, ending_text, event_line, event_text, replay_text};
-ghost use Rattle.block_report.specs.Walks.{stop_text};
 ghost use Rattle.block_report.specs.Words.{word};
 ghost use Rattle.vpc_laws.specs.Sound.{EndsWell};
 ghost use Rattle.vpc_model.specs.Sound.{has_text};
+ghost use Rattle.vpc_model.specs.declared.outcomes.Outcome.TheVariants as outcomes;
 
 use crate::places::end_id;
 use crate::walks::put_stop;
@@ -23,7 +23,7 @@ fn put_arrival(out: &mut Vec<u8>, id: &[u8], h: &Header) -> Result<(), NoMemory>
 
 fn put_stopping(out: &mut Vec<u8>, n: &Network, s: &Stop) -> Result<(), NoMemory>
     requires { IsTrue (has_text n.now s.now) }
-    ensures { OnOk result (out.new.items ≡ out.old.items ++ (codes "stopped" ++ word (stop_text n.now s.now))) }
+    ensures { OnOk result (out.new.items ≡ out.old.items ++ ending_text n.now (outcomes.Stopped s.now)) }
 {
     put(out, b"stopped ")?;
     put_stop(out, n, s)

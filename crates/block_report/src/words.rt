@@ -1,7 +1,7 @@
 // The words of printed lines.
 ghost use Rattle.std.specs.Prelude.{◌≡◌, ◌++◌, OnOk, decimal};
 ghost use Rattle.prefix_text.specs.Addr.{addr_text};
-ghost use Rattle.block_report.specs.Words.{header_text, line_end, proto_text, word};
+ghost use Rattle.block_report.specs.Words.{header_line, header_text, line_end, number_line, proto_text, word};
 
 use prefix_text::{put_addr, put_number};
 use vpc_base::{Header, NoMemory};
@@ -85,7 +85,7 @@ pub fn put_line(out: &mut Vec<u8>, text: &[u8]) -> Result<(), NoMemory>
 
 /// Appends a line of a name and a number.
 pub fn put_number_line(out: &mut Vec<u8>, name: &[u8], number: u128) -> Result<(), NoMemory>
-    ensures { OnOk result (out.new.items ≡ out.old.items ++ (name.now ++ word (decimal number) ++ line_end)) }
+    ensures { OnOk result (out.new.items ≡ out.old.items ++ number_line name.now number) }
 {
     put(out, name)?;
     put_number_word(out, number)?;
@@ -94,7 +94,7 @@ pub fn put_number_line(out: &mut Vec<u8>, name: &[u8], number: u128) -> Result<(
 
 /// Appends a line of a name and a header.
 pub fn put_header_line(out: &mut Vec<u8>, name: &[u8], h: &Header) -> Result<(), NoMemory>
-    ensures { OnOk result (out.new.items ≡ out.old.items ++ (name.now ++ word (header_text h.now) ++ line_end)) }
+    ensures { OnOk result (out.new.items ≡ out.old.items ++ header_line name.now h.now) }
 {
     put(out, name)?;
     put_header_word(out, h)?;

@@ -20,6 +20,6 @@ pub use command::DiffCommand;
 pub use compared::Compared;
 pub use gathered::{Asked, toward_after, toward_before};
 pub use hosts::{changed_id, id_at};
-pub use rows::{phase_text, put_barrier, put_change};
+pub use rows::{put_barrier, put_change};
 pub use starts::starts_of;
 pub use targets::targets_of;

@@ -1,41 +1,19 @@
 // The lines of rows.
-ghost use Rattle.std.specs.Prelude.{◌≡◌, ◌≤◌, ◌+◌, ◌++◌, All, IsTrue, OnOk, length};
-ghost use Rattle.block_report.specs.Walks.{phase_text, stop_text};
+ghost use Rattle.std.specs.Prelude.{◌≡◌, ◌≤◌, ◌+◌, ◌++◌, All, OnOk, length};
 ghost use Rattle.block_report.specs.Words.{word};
 ghost use Rattle.journey_changes.specs.Telling.{CanBeTold, IsTellable};
-ghost use Rattle.vpc_model.specs.Sound.{has_text};
 ghost use Rattle.vpc_model.specs.Told.{end_id};
 ghost use Rattle.change_report.specs.Texts.{absent_text, barrier_text, change_text, row_line, row_lines_from};
 
 use crate::hosts::id_at;
-use block_report::{put, put_box_word, put_end, put_number_word, put_stop, put_word};
+use block_report::{put, put_box_word, put_end, put_number_word, put_told, put_word};
 use header_boxes::Row;
 use journey_changes::{Barrier, Change};
 use reference_check::Network;
 use vpc_base::NoMemory;
-use vpc_model::{End, Phase, Stop};
+use vpc_model::End;
 
 // ---- what keeps a request from an end
-
-/// A phase, as it is printed.
-pub fn phase_text(phase: Phase) -> &'static [u8]
-    ensures { result.now ≡ phase_text phase }
-{
-    match phase {
-        Phase::Request => b"request",
-        Phase::Reply => b"reply",
-    }
-}
-
-fn put_stopped(out: &mut Vec<u8>, n: &Network, phase: Phase, stop: &Stop) -> Result<(), NoMemory>
-    requires { IsTrue (has_text n.now stop.now) }
-    ensures { OnOk result (out.new.items
-        ≡ out.old.items ++ (phase_text phase ++ word (stop_text n.now stop.now))) }
-{
-    put(out, phase_text(phase))?;
-    put(out, b" ")?;
-    put_stop(out, n, stop)
-}
 
 fn put_absent(out: &mut Vec<u8>, id: &[u8]) -> Result<(), NoMemory>
     ensures { OnOk result (out.new.items ≡ out.old.items ++ absent_text id.now) }
@@ -56,7 +34,7 @@ pub fn put_barrier(
     ensures { OnOk result (out.new.items ≡ out.old.items ++ barrier_text n.now id.now barrier.now) }
 {
     match barrier {
-        Barrier::Stopped(phase, stop) => put_stopped(out, n, *phase, stop),
+        Barrier::Stopped(phase, stop) => put_told(out, n, *phase, stop),
         Barrier::Absent => put_absent(out, id),
     }
 }
@@ -115,7 +93,7 @@ pub fn put_change(
 }
 
 // The id of the start, and what changes.
-fn put_told(
+fn put_change_of(
     out: &mut Vec<u8>,
     before: &Network,
     after: &Network,
@@ -145,7 +123,7 @@ fn put_row(
 {
     put(out, b"row")?;
     put_number_word(out, u128::from(number))?;
-    put_told(out, before, after, id, &row.word)?;
+    put_change_of(out, before, after, id, &row.word)?;
     put_box_word(out, &row.part)?;
     put_end(out)
 }

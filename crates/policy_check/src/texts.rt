@@ -1,24 +1,12 @@
 // Prints what is found of rules.
-ghost use Rattle.std.specs.Prelude.{◌≡◌, ◌++◌, IsTrue, OnOk};
-ghost use Rattle.block_report.specs.Walks.{told_text};
-ghost use Rattle.vpc_model.specs.Sound.{has_text};
-ghost use Rattle.vpc_model.specs.Told.{told_stop};
+ghost use Rattle.std.specs.Prelude.{◌≡◌, ◌++◌, OnOk};
 ghost use Rattle.policy_check.specs.Judged.{CanBeTold, failure_line, failure_text};
 ghost use Rattle.policy_check.specs.Policy.{tally_line};
 
 use crate::judging::Failure;
-use block_report::{put, put_end, put_header_word, put_number_word, put_told, stop_text};
+use block_report::{put, put_end, put_header_word, put_number_word, put_told};
 use reference_check::Network;
 use vpc_base::NoMemory;
-use vpc_model::{Phase, Stop};
-
-fn put_stop(out: &mut Vec<u8>, n: &Network, phase: Phase, stop: &Stop) -> Result<(), NoMemory>
-    requires { IsTrue (has_text n.now stop.now) }
-    ensures { OnOk result (out.new.items ≡ out.old.items ++ told_text (told_stop n.now phase stop.now)) }
-{
-    let told = stop_text(*out.allocator(), n, phase, stop)?;
-    put_told(out, &told)
-}
 
 fn put_failure(out: &mut Vec<u8>, n: &Network, failure: &Failure) -> Result<(), NoMemory>
     requires { CanBeTold n.now failure.now }
@@ -31,7 +19,7 @@ fn put_failure(out: &mut Vec<u8>, n: &Network, failure: &Failure) -> Result<(), 
             put_header_word(out, h)
         }
         Failure::Stopped(h, phase, stop) => {
-            put_stop(out, n, *phase, stop)?;
+            put_told(out, n, *phase, stop)?;
             put_header_word(out, h)
         }
     }

@@ -5,7 +5,7 @@ ghost use Rattle.report_check.specs.Texts.{CanBeTold, checked_line, checked_text
 ghost use Rattle.vpc_laws.specs.Sound.{IsTold};
 
 use crate::checked::Checked;
-use block_report::{put, put_end, put_header_word, put_number_word, put_told, put_word, stop_text};
+use block_report::{put, put_end, put_header_word, put_number_word, put_told, put_word};
 use reference_check::Network;
 use vpc_base::{Header, NoMemory};
 use vpc_model::Verdict;
@@ -17,9 +17,8 @@ fn put_verdict_word(out: &mut Vec<u8>, n: &Network, v: &Verdict) -> Result<(), N
     match v {
         Verdict::Through => put_word(out, b"through"),
         Verdict::Stopped(phase, stop) => {
-            let told = stop_text(*out.allocator(), n, *phase, stop)?;
             put(out, b" ")?;
-            put_told(out, &told)
+            put_told(out, n, *phase, stop)
         }
     }
 }

@@ -1,8 +1,8 @@
 // What no clause says: with memory there is an answer.
 use crate::networks::network_of;
 use block_report::{
-    print_hops, print_more, print_report, put_arrived, put_cause, put_header_word, put_more,
-    put_number_word, put_query_refusal, put_report, put_stopped, put_walk, stop_text,
+    print_hops, print_more, print_report, put_arrived, put_cause, put_header_word, put_number_word,
+    put_query_refusal, put_stopped, put_walk, stop_text,
 };
 use bundle::BundleRefusal;
 use header_boxes::{Box5, Row};
@@ -12,7 +12,7 @@ use std::alloc::Global;
 use std::process::Abort;
 use std::test::Fail;
 use vpc_base::{Header, NoMemory};
-use vpc_model::{By, End, Hop, Id, Outcome, Phase, Place, Stop, StopName, StopText};
+use vpc_model::{By, End, Hop, Outcome, Phase, Place, Stop, StopName};
 
 const HTTPS: Header = Header {
     proto: 6,
@@ -79,70 +79,6 @@ fn prints_ends_of_walks(rt: HostRuntime) -> Result<(), Fail> {
     Ok(())
 }
 
-fn id(alloc: Global, text: &[u8]) -> Result<Id, NoMemory> {
-    match Id::of(alloc, text)? {
-        Some(id) => Ok(id),
-        None => Err(NoMemory),
-    }
-}
-
-fn row(
-    alloc: Global,
-    name: StopName,
-    component: &[u8],
-    rule: &[u8],
-    q: (u16, u16),
-) -> Result<Row<StopText>, NoMemory> {
-    Ok(Row {
-        part: box_of(q),
-        word: StopText {
-            phase: Phase::Request,
-            name,
-            id: id(alloc, component)?,
-            rule: id(alloc, rule)?,
-        },
-    })
-}
-
-#[test]
-fn prints_a_report(rt: HostRuntime) -> Result<(), Fail> {
-    let rows = [row(rt.alloc(), StopName::GroupsIn, b"eni-b", b"-", (80, 80))?];
-    let mut out = Vec::new(rt.alloc());
-    put_report(&mut out, b"eni-a", b"eni-b", &box_of((80, 80)), &rows)?;
-    let text: &[u8] = b"vpc-report 1
-query from eni-a to eni-b
-box 6-6 10.0.1.10-10.0.1.10 10.0.2.20-10.0.2.20 5000-5000 80-80
-row 1 request GroupsIn eni-b - 6-6 10.0.1.10-10.0.1.10 10.0.2.20-10.0.2.20 5000-5000 80-80
-end 1
-";
-    assert_eq!(rt; out.as_slice(), text);
-    Ok(())
-}
-
-#[test]
-fn prints_more_boxes(rt: HostRuntime) -> Result<(), Fail> {
-    let rows = [row(rt.alloc(), StopName::AclIn, b"acl-1", b"80", (0, 442))?];
-    let mut out = Vec::new(rt.alloc());
-    put_more(
-        &mut out,
-        b"eni-a",
-        b"eni-b",
-        &box_of((0, 65535)),
-        &rows,
-        &HTTPS,
-        7,
-    )?;
-    let text: &[u8] = b"more boxes
-query from eni-a to eni-b
-box 6-6 10.0.1.10-10.0.1.10 10.0.2.20-10.0.2.20 5000-5000 0-65535
-row 1 request AclIn acl-1 80 6-6 10.0.1.10-10.0.1.10 10.0.2.20-10.0.2.20 5000-5000 0-442
-next tcp 10.0.1.10 10.0.2.20 5000 443
-cells 7
-";
-    assert_eq!(rt; out.as_slice(), text);
-    Ok(())
-}
-
 // ---- in a network
 
 const HOP: Hop = Hop {
@@ -183,8 +119,22 @@ fn prints_rows(rt: &impl Abort, alloc: Global, n: &Network) -> Result<(), NoMemo
     }];
     let (start, goal) = (End::Internet, End::Internet);
     let report = print_report(alloc, n, start, goal, &sides, &rows)?;
-    let more = print_more(alloc, n, start, goal, &sides, &rows, &HTTPS, 3)?;
-    assert!(rt; report.as_slice().len() < more.as_slice().len());
+    let text: &[u8] = b"vpc-report 1
+query from internet to internet
+box 6-6 10.0.1.10-10.0.1.10 10.0.2.20-10.0.2.20 5000-5000 0-65535
+row 1 request PrivateAddress internet - 6-6 10.0.1.10-10.0.1.10 10.0.2.20-10.0.2.20 5000-5000 0-442
+end 1
+";
+    assert_eq!(rt; report.as_slice(), text);
+    let more = print_more(alloc, n, start, goal, &sides, &rows, &HTTPS, 7)?;
+    let text: &[u8] = b"more boxes
+query from internet to internet
+box 6-6 10.0.1.10-10.0.1.10 10.0.2.20-10.0.2.20 5000-5000 0-65535
+row 1 request PrivateAddress internet - 6-6 10.0.1.10-10.0.1.10 10.0.2.20-10.0.2.20 5000-5000 0-442
+next tcp 10.0.1.10 10.0.2.20 5000 443
+cells 7
+";
+    assert_eq!(rt; more.as_slice(), text);
     Ok(())
 }
 

@@ -1,14 +1,18 @@
 // What no clause says: with memory there is an answer. Texts in the grammar, and texts outside it with the
 // number of their first bad line.
 use crate::networks::network_of;
-use block_report::{put, put_number_line, put_number_word, put_report, stop_text};
+use block_report::{
+    phase_text, put, put_box_word, put_end, put_number_line, put_number_word, put_stop_words,
+    put_word, stop_text,
+};
+use header_boxes::Row;
 use reference_check::Network;
 use report_reader::{Report, ReportFault, read_report, same_text};
 use std::alloc::Global;
 use std::process::Abort;
 use std::test::Fail;
 use vpc_base::NoMemory;
-use vpc_model::{End, Phase, Stop};
+use vpc_model::{End, Phase, Stop, StopText};
 
 const BUNDLE: &str = r#"{
     "Vpcs": [{"VpcId": "vpc-1", "CidrBlock": "10.0.0.0/16"}],
@@ -42,15 +46,35 @@ fn id_of(n: &Network, end: End) -> &[u8] {
     }
 }
 
+fn put_row(out: &mut Vec<u8>, number: u128, row: &Row<StopText>) -> Result<(), NoMemory> {
+    let told = &row.word;
+    put(out, b"row")?;
+    put_number_word(out, number)?;
+    put_word(out, phase_text(told.phase))?;
+    put(out, b" ")?;
+    put_stop_words(out, told.name, told.id.bytes(), told.rule.bytes())?;
+    put_box_word(out, &row.part)?;
+    put_end(out)
+}
+
+fn put_rows(out: &mut Vec<u8>, rows: &[Row<StopText>]) -> Result<(), NoMemory> {
+    for (k, row) in rows.iter().enumerate() {
+        put_row(out, k as u128 + 1, row)?;
+    }
+    put_number_line(out, b"end", rows.len() as u128)
+}
+
+// The text of a report, from what was read of it.
 fn printed(alloc: Global, n: &Network, report: &Report) -> Result<Vec<u8>, NoMemory> {
     let mut out = Vec::new(alloc);
-    put_report(
-        &mut out,
-        id_of(n, report.start),
-        id_of(n, report.goal),
-        &report.sides,
-        report.rows.as_slice(),
-    )?;
+    put(&mut out, b"vpc-report 1\nquery from")?;
+    put_word(&mut out, id_of(n, report.start))?;
+    put_word(&mut out, b"to")?;
+    put_word(&mut out, id_of(n, report.goal))?;
+    put(&mut out, b"\nbox")?;
+    put_box_word(&mut out, &report.sides)?;
+    put_end(&mut out)?;
+    put_rows(&mut out, report.rows.as_slice())?;
     Ok(out)
 }
 
