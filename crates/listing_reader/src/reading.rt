@@ -12,7 +12,7 @@ use crate::rows::read_rows;
 use header_boxes::Row;
 use prefix_text::decimal_digits;
 use report_reader::{ReportFault, are_two, few_words, pieces_of};
-use std::alloc::{AllocError, Global};
+use std::alloc::Global;
 use vpc_base::{NoMemory, OwnList};
 
 /// The lines of a text, each of which ends with a newline.
@@ -40,24 +40,24 @@ pub fn split_lines(alloc: Global, text: &[u8]) -> Result<Lines<'_>, NoMemory>
 
 // ---- the end
 
-fn is_end_line(alloc: Global, count: u64, line: &[u8]) -> Result<bool, AllocError>
-    ensures { IfOk result (λ is. is ≡ is_end_line count (words_of line.now)) }
+fn is_end_line(count: u64, line: &[u8]) -> bool
+    ensures { result ≡ is_end_line count (words_of line.now) }
 {
-    match few_words(alloc, line)? {
-        Some(words) => Ok(are_two(
+    match few_words(line) {
+        Some(words) => are_two(
             words.as_slice(),
             b"end".as_slice(),
             decimal_digits(u128::from(count)).as_slice(),
-        )),
-        None => Ok(false),
+        ),
+        None => false,
     }
 }
 
-fn read_end_line(alloc: Global, count: u64, last: bool, line: &[u8]) -> Result<(), ReportFault>
+fn read_end_line(count: u64, last: bool, line: &[u8]) -> Result<(), ReportFault>
     requires { count ≤ row_limit }
     ensures { IsRead (end_line_after count last (words_of line.now)) result }
 {
-    if !is_end_line(alloc, count, line)? {
+    if !is_end_line(count, line) {
         Err(ReportFault::BadLine(count + 3))
     } else if last {
         Ok(())
@@ -73,14 +73,14 @@ fn is_past(others: &[&[u8]], ended: bool) -> bool
     others.len() == 0 && ended
 }
 
-fn read_end(alloc: Global, count: usize, ended: bool, lines: &[&[u8]]) -> Result<(), ReportFault>
+fn read_end(count: usize, ended: bool, lines: &[&[u8]]) -> Result<(), ReportFault>
     requires { count ≤ row_limit }
     ensures { IsRead (end_after count ended (map (λ l. l.now) lines.now)) result }
 {
     match lines.split_first() {
         Some((line, others)) => {
             let last = is_past(others, ended);
-            read_end_line(alloc, count as u64, last, line)
+            read_end_line(count as u64, last, line)
         }
         None => Err(ReportFault::BadLine(count as u64 + 3)),
     }
@@ -88,7 +88,6 @@ fn read_end(alloc: Global, count: usize, ended: bool, lines: &[&[u8]]) -> Result
 
 // Lists of rows, where these lines are the end.
 fn before_end(
-    alloc: Global,
     lists: OwnList<OwnList<Row<OwnList<u8>>>>,
     count: usize,
     ended: bool,
@@ -98,7 +97,7 @@ fn before_end(
     ensures value { IsRead (lists_before lists (end_after count ended (map (λ l. l.now) lines.now))) result }
     ensures same { IfOk result (λ all. all ≡ lists) }
 {
-    read_end(alloc, count, ended, lines)?;
+    read_end(count, ended, lines)?;
     Ok(lists)
 }
 
@@ -141,5 +140,5 @@ pub fn read_lists(
         lists.push(rows)?;
     }
     let end = lines_from(lines, count);
-    before_end(alloc, OwnList::of(lists), count, ended, end)
+    before_end(OwnList::of(lists), count, ended, end)
 }

@@ -1,5 +1,6 @@
 pub mod AskedEnds
 pub mod Lengths
+pub mod NumberLemmas
 pub mod Printed
 pub mod Printing
 pub mod ReadEnds

@@ -1,7 +1,8 @@
 // Boxes from five words.
-ghost use Rattle.std.specs.Prelude.{◌≡◌, ◌≤◌, ◌<◌, ◌==◌, IfSome, length, position};
+ghost use Rattle.std.specs.Prelude.{◌≡◌, ◌≤◌, ◌<◌, ◌==◌, IfSome, Some, length, position};
 ghost use Rattle.std.specs.List.{after_first, before_first};
 ghost use Rattle.header_boxes.specs.Boxes.{IsValid};
+ghost use Rattle.prefix_text.specs.Addr.{addr_of};
 ghost use Rattle.report_reader.specs.Boxes.{addresses_of, box_of, is_inside, lies_in, ports_of, protos_of};
 
 use header_boxes::Box5;
@@ -25,13 +26,25 @@ fn parted(text: &[u8]) -> (&[u8], &[u8])
     }
 }
 
+// The address that a text writes, where that of another is known.
+fn read_after(known: &[u8], addr: u32, text: &[u8]) -> Option<u32>
+    requires { addr_of known.now ≡ Some addr }
+    ensures { result ≡ addr_of text.now }
+{
+    if text == known {
+        Some(addr)
+    } else {
+        read_addr(text)
+    }
+}
+
 fn read_addresses(text: &[u8]) -> Option<(u32, u32)>
     ensures value { result ≡ addresses_of text.now }
     ensures valid { IfSome result (λ r. r.0 ≤ r.1) }
 {
-    let (first, last) = parted(text);
-    let first = read_addr(first)?;
-    let last = read_addr(last)?;
+    let (before, after) = parted(text);
+    let first = read_addr(before)?;
+    let last = read_after(before, first, after)?;
     if first <= last {
         Some((first, last))
     } else {

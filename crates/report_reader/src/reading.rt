@@ -18,62 +18,62 @@ use vpc_model::{End, StopText};
 
 // ---- the lines before the rows
 
-fn version_in(alloc: Global, line: &[u8]) -> Result<Option<()>, AllocError>
-    ensures { IfOk result (λ o. o ≡ version_of (words_of line.now)) }
+fn version_in(line: &[u8]) -> Option<()>
+    ensures { result ≡ version_of (words_of line.now) }
 {
-    match few_words(alloc, line)? {
-        Some(words) => Ok(read_version(words.as_slice())),
-        None => Ok(None),
+    match few_words(line) {
+        Some(words) => read_version(words.as_slice()),
+        None => None,
     }
 }
 
-fn ends_in(alloc: Global, n: &Network, line: &[u8]) -> Result<Option<(End, End)>, AllocError>
-    ensures value { IfOk result (λ o. o ≡ query_of n.now (words_of line.now)) }
-    ensures start { IfOk result (λ o. IfSome o (λ e. IsTrue (is_end n.now e.0))) }
-    ensures goal { IfOk result (λ o. IfSome o (λ e. IsTrue (is_end n.now e.1))) }
+fn ends_in(n: &Network, line: &[u8]) -> Option<(End, End)>
+    ensures value { result ≡ query_of n.now (words_of line.now) }
+    ensures start { IfSome result (λ e. IsTrue (is_end n.now e.0)) }
+    ensures goal { IfSome result (λ e. IsTrue (is_end n.now e.1)) }
 {
-    match few_words(alloc, line)? {
-        Some(words) => Ok(read_query(n, words.as_slice())),
-        None => Ok(None),
+    match few_words(line) {
+        Some(words) => read_query(n, words.as_slice()),
+        None => None,
     }
 }
 
-fn sides_in(alloc: Global, line: &[u8]) -> Result<Option<Box5>, AllocError>
-    ensures value { IfOk result (λ o. o ≡ sides_of (words_of line.now)) }
-    ensures valid { IfOk result (λ o. IfSome o IsValid) }
+fn sides_in(line: &[u8]) -> Option<Box5>
+    ensures value { result ≡ sides_of (words_of line.now) }
+    ensures valid { IfSome result IsValid }
 {
-    match few_words(alloc, line)? {
-        Some(words) => Ok(read_sides(words.as_slice())),
-        None => Ok(None),
+    match few_words(line) {
+        Some(words) => read_sides(words.as_slice()),
+        None => None,
     }
 }
 
-fn expect_version(alloc: Global, lines: &[&[u8]]) -> Result<(), ReportFault>
+fn expect_version(lines: &[&[u8]]) -> Result<(), ReportFault>
     ensures { IsRead (line_as version_of (map (λ l. l.now) lines.now) 1) result }
 {
     match lines.get(0) {
-        Some(line) => version_in(alloc, line)?.ok_or(ReportFault::BadLine(1)),
+        Some(line) => version_in(line).ok_or(ReportFault::BadLine(1)),
         None => Err(ReportFault::BadLine(1)),
     }
 }
 
-fn read_ends(alloc: Global, n: &Network, lines: &[&[u8]]) -> Result<(End, End), ReportFault>
+fn read_ends(n: &Network, lines: &[&[u8]]) -> Result<(End, End), ReportFault>
     ensures value { IsRead (line_as (query_of n.now) (map (λ l. l.now) lines.now) 2) result }
     ensures start { IfOk result (λ e. IsTrue (is_end n.now e.0)) }
     ensures goal { IfOk result (λ e. IsTrue (is_end n.now e.1)) }
 {
     match lines.get(1) {
-        Some(line) => ends_in(alloc, n, line)?.ok_or(ReportFault::BadLine(2)),
+        Some(line) => ends_in(n, line).ok_or(ReportFault::BadLine(2)),
         None => Err(ReportFault::BadLine(2)),
     }
 }
 
-fn read_whole(alloc: Global, lines: &[&[u8]]) -> Result<Box5, ReportFault>
+fn read_whole(lines: &[&[u8]]) -> Result<Box5, ReportFault>
     ensures value { IsRead (line_as sides_of (map (λ l. l.now) lines.now) 3) result }
     ensures valid { IfOk result IsValid }
 {
     match lines.get(2) {
-        Some(line) => sides_in(alloc, line)?.ok_or(ReportFault::BadLine(3)),
+        Some(line) => sides_in(line).ok_or(ReportFault::BadLine(3)),
         None => Err(ReportFault::BadLine(3)),
     }
 }
@@ -109,9 +109,9 @@ fn report_in(
     ensures value { IsRead (report_in n.now (map (λ l. l.now) lines.now) ended) result }
     ensures sound { IfOk result (IsSoundReport n.now) }
 {
-    expect_version(alloc, lines)?;
-    let (start, goal) = read_ends(alloc, n, lines)?;
-    let sides = read_whole(alloc, lines)?;
+    expect_version(lines)?;
+    let (start, goal) = read_ends(n, lines)?;
+    let sides = read_whole(lines)?;
     let rows = rows_in(alloc, &sides, lines, ended)?;
     Ok(Report {
         start,

@@ -8,7 +8,7 @@ use crate::ReportFault;
 use crate::boxes::is_inside;
 use crate::lines::read_box_at;
 use crate::told::read_told;
-use crate::words::{are_two, few_words, word};
+use crate::words::{are_two, few_words, is_number, word};
 use header_boxes::{Box5, Row};
 use prefix_text::decimal_digits;
 use std::alloc::Global;
@@ -21,9 +21,7 @@ const ROW_LIMIT: u64 = 20_000;
 fn is_row(words: &[&[u8]], number: u64) -> bool
     ensures { result ≡ is_row number (map (λ w. w.now) words.now) }
 {
-    words.len() == 11
-        && (word(words, 0) == b"row".as_slice()
-            && word(words, 1) == decimal_digits(u128::from(number)).as_slice())
+    words.len() == 11 && (word(words, 0) == b"row".as_slice() && is_number(word(words, 1), number))
 }
 
 // A box inside that of the query.
@@ -146,7 +144,7 @@ pub fn read_next_row(
     ensures within { IfOk result (λ o. IfSome o (λ r. IsWithin r.part whole.now)) }
     ensures few { IfOk result (λ o. IfSome o (λ r. count < row_limit)) }
 {
-    match few_words(alloc, line)? {
+    match few_words(line) {
         Some(words) => read_row_or_end(alloc, whole, count, last, words.as_slice()),
         None => Err(ReportFault::BadLine(count + 4)),
     }

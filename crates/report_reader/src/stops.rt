@@ -1,11 +1,12 @@
 // What is told of a stop, compared with a text.
-ghost use Rattle.std.specs.Prelude.{◌≡◌, ◌↔◌, IsTrue, bytes_eq, codes, decimal};
+ghost use Rattle.std.specs.Prelude.{◌≡◌, ◌↔◌, IsTrue, bytes_eq, codes};
 ghost use Rattle.prefix_text.specs.Block.{block_text};
 ghost use Rattle.vpc_model.specs.Sound.{has_text};
 ghost use Rattle.vpc_model.specs.Told.{name_of, stop_id, stop_rule, told_stop};
 
+use crate::words::is_number;
 use block_report::{RuleWord, rule_of, stop_id};
-use prefix_text::{Prefix, cidr_notation, decimal_digits};
+use prefix_text::{Prefix, cidr_notation};
 use reference_check::Network;
 use vpc_model::{Phase, Stop, StopName, StopText};
 
@@ -13,12 +14,6 @@ fn is_name(a: StopName, b: StopName) -> bool
     ensures { IsTrue result ↔ (a ≡ b) }
 {
     a == b
-}
-
-fn is_number(text: &[u8], number: u16) -> bool
-    ensures { result ≡ bytes_eq text.now (decimal number) }
-{
-    text == decimal_digits(u128::from(number)).as_slice()
 }
 
 fn is_block(text: &[u8], block: &Prefix) -> bool
@@ -39,7 +34,7 @@ pub fn is_rule(n: &Network, text: &[u8], s: &Stop) -> bool
     ensures { result ≡ bytes_eq text.now (stop_rule n.now s.now) }
 {
     match rule_of(n, s) {
-        RuleWord::Row(number) => is_number(text, number),
+        RuleWord::Row(number) => is_number(text, u64::from(number)),
         RuleWord::Block(block) => is_block(text, block),
         RuleWord::List(id) => text == id.bytes(),
         RuleWord::None => is_dash(text),
