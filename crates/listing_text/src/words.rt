@@ -36,7 +36,8 @@ fn put_words(out: &mut Vec<u8>, words: &[String]) -> Result<(), NoMemory>
 pub fn put_query(out: &mut Vec<u8>, before: usize, words: &[String]) -> Result<(), NoMemory>
     requires some { 2 ≤ before }
     requires counted { before ≤ length words.now }
-    ensures { OnOk result (out.new.items ≡ out.old.items ++ query_line before (map string_bytes words.now)) }
+    ensures { OnOk result (out.new.items
+        ≡ out.old.items ++ query_line before (map string_bytes words.now)) }
 {
     put(out, b"query")?;
     put_words(out, given_words(before, words))?;

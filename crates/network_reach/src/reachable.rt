@@ -78,7 +78,8 @@ pub fn put_reachable(
     requires appliances { deciders.now.appliances ≡ appliances_of f.now }
     requires query { IsQueryIn f.now query.now }
     requires through { meaning_in f.now query.now h.now ≡ None }
-    ensures { OnOk result (out.new.items ≡ out.old.items ++ reachable_text f.now (appliances_of f.now) query.now.start query.now.goal h.now) }
+    ensures { OnOk result (out.new.items ≡ out.old.items
+        ++ reachable_text f.now (appliances_of f.now) query.now.start query.now.goal h.now) }
 {
     let n = f.network();
     let _ = n.description();

@@ -41,7 +41,8 @@ pub fn run<S: Shelf, O: Sink>(alloc: Global, words: &[String], shelf: &mut S, ou
         (λ n. Rose (S.faults shelf.old n) (S.faults shelf.new n)) }
     // Where no device and no memory was wanting, the status is decided by the network and the words.
     ensures complete { IsComplete (map string_bytes words.now) (S.told shelf.old) result }
-    ensures write_only_where_faults_rose { result ≡ Status.Write → Rose (O.faults out.old) (O.faults out.new) }
+    ensures write_only_where_faults_rose { result ≡ Status.Write
+        → Rose (O.faults out.old) (O.faults out.new) }
 {
     match answer_to(alloc, words, shelf) {
         Ok(answer) => put_answer(out, answer.status, answer.text.as_slice()),
