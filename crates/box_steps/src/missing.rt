@@ -4,8 +4,8 @@ ghost use Rattle.box_images.specs.Images.{IsImageOfWalk, IsValidImage, header_at
 ghost use Rattle.box_steps.specs.Cuts.{AtPlace, Standing};
 ghost use Rattle.box_steps.specs.Missing.{HoldsOver, is_away, is_elsewhere, misses, misses_at};
 ghost use Rattle.box_steps.specs.Moments.{IsBoxMoment, moment_at};
+ghost use Rattle.fabric.specs.Targets.{route_at};
 ghost use Rattle.vpc_base.specs.declared.headers.Label.TheVariants as labels;
-ghost use Rattle.vpc_laws.specs.Accepted.{HasTarget};
 ghost use Rattle.vpc_model.specs.Appliances.{appliances_of};
 ghost use Rattle.vpc_model.specs.Lookup.{host_of, table_at, table_of};
 ghost use Rattle.vpc_model.specs.Routes.{chosen_route};
@@ -22,7 +22,7 @@ use crate::moment::BoxMoment;
 use appliances::Deciders;
 use box_images::Image;
 use fabric::Fabric;
-use fabric::rows::{table_at, vpc_of};
+use fabric::rows::{route_at, vpc_of};
 use header_boxes::Box5;
 use vpc_model::{End, EniNo, Place, SubnetNo, TableNo, Target, VpcNo};
 
@@ -102,20 +102,19 @@ fn to_target_away(
     i: &Image,
     t: TableNo,
     k: u32,
-    target: &Target,
 ) -> Option<Box5>
     requires subnet { IsTrue (is_subnet f.now s) }
-    requires there { let table = table_at f.now t in HasTarget f.now table.vpc target.now }
+    requires route { IsTrue (is_route f.now t k) }
     requires valid { IsValidImage i.now }
     requires walk { IsImageOfWalk i.now }
-    ensures { HoldsOver (Standing f.now)
+    ensures { let r = route_at f.now t k in HoldsOver (Standing f.now)
         (λ h. misses deciders.now.appliances goal
-        (to_target f.now s (header_at i.now h) t k target.now)) i.now.part result }
+        (to_target f.now s (header_at i.now h) t k r.target)) i.now.part result }
 {
-    match target {
+    match &route_at(f, t, k).target {
         Target::Local => host_away_on(f, deciders, goal, vpc_of(f, s), i),
-        Target::Interface(id) => {
-            to_interface_away(f, deciders, goal, s, i, f.network().eni_named(id))
+        Target::Interface(_) => {
+            to_interface_away(f, deciders, goal, s, i, EniNo(f.target_number(t, k)))
         }
         _ => None,
     }
@@ -139,12 +138,11 @@ fn by_route_away(
         (λ h. misses deciders.now.appliances goal (by_route f.now s (header_at i.now h) t (Some k)))
         i.now.part result }
 {
-    let _ = f.network().description();
-    let route = &table_at(f, t).routes.as_slice()[k as usize];
-    if route.blackhole {
-        return None;
+    if route_at(f, t, k).blackhole {
+        None
+    } else {
+        to_target_away(f, deciders, goal, s, i, t, k)
     }
-    to_target_away(f, deciders, goal, s, i, t, k, &route.target)
 }
 
 // From the router of a subnet, by its table.

@@ -4,7 +4,7 @@ ghost use Rattle.box_images.specs.Images.{IsValidImage};
 ghost use Rattle.vpc_base.specs.declared.headers.Label.TheVariants as labels;
 ghost use Rattle.vpc_model.specs.Appliances.{appliances_of};
 ghost use Rattle.vpc_model.specs.Lookup.{nat_at, subnet_no};
-ghost use Rattle.vpc_model.specs.Sound.{is_live, is_nat};
+ghost use Rattle.vpc_model.specs.Sound.{is_nat};
 ghost use Rattle.vpc_model.specs.Step.Nat.{own_address, own_subnet};
 ghost use Rattle.vpc_model.specs.declared.places.Came.TheVariants as from;
 ghost use Rattle.vpc_model.specs.declared.places.Place.TheVariants as places;
@@ -32,20 +32,13 @@ fn own_address(f: &Fabric, n: NatNo) -> u32
     }
 }
 
-// The router of a live NAT gateway's subnet.
+// The router of a NAT gateway's subnet.
 fn router_of(f: &Fabric, n: NatNo) -> Place
-    requires nat { IsTrue (is_nat f.now n) }
-    requires live { let row = nat_at f.now n in IsTrue (is_live row.life) }
+    requires { IsTrue (is_nat f.now n) }
     ensures { let row = nat_at f.now n in
         result ≡ places.Router (subnet_no f.now (own_subnet row.life)) (from.Nat n) }
 {
-    let network = f.network();
-    let _ = network.description();
-    match &nat_at(f, n).life {
-        NatLife::Live { subnet, .. } => Place::Router(network.subnet_named(subnet), Came::Nat(n)),
-        NatLife::Gone => unreachable!(),
-        NatLife::Unmodelled => unreachable!(),
-    }
+    Place::Router(f.nat_subnet(n), Came::Nat(n))
 }
 
 // What a gateway has translated; at most one of them is its own.

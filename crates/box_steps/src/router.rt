@@ -4,6 +4,7 @@ ghost use Rattle.box_images.specs.Answers.{Answers};
 ghost use Rattle.box_images.specs.Images.{IsImageOfWalk, IsValidImage, header_at};
 ghost use Rattle.box_steps.specs.Cuts.{AtPlace, Standing};
 ghost use Rattle.box_steps.specs.Onward.{onward_of};
+ghost use Rattle.fabric.specs.Targets.{route_at};
 ghost use Rattle.vpc_laws.specs.Accepted.{HasTarget};
 ghost use Rattle.vpc_model.specs.Lookup.{host_of, nat_at, peering_at, table_at, table_of, vpc_of_subnet};
 ghost use Rattle.vpc_model.specs.Routes.{chosen_route};
@@ -20,7 +21,7 @@ use crate::onward::{Onward, stopped, unless_stopped_on};
 use crate::peering::other_side;
 use box_images::{Image, Part};
 use fabric::Fabric;
-use fabric::rows::{nat_at, peering_at, subnet_of, table_at, vpc_at, vpc_of};
+use fabric::rows::{nat_at, nat_subnet, peering_at, route_at, subnet_of, vpc_at, vpc_of};
 use transit_gateway::EnterStop;
 use vpc_model::{
     AttNo, EniNo, Foreign, Id, IgwNo, NatLife, NatNo, PeerNo, Place, Stop, SubnetNo, TableNo,
@@ -112,13 +113,11 @@ pub fn to_nat_on(f: &Fabric, s: SubnetNo, i: &Image, n: NatNo) -> Part<Onward>
     ensures { let row = nat_at f.now n in Answers (Standing f.now)
         (λ h. onward_of (model.to_nat f.now s (header_at i.now h) n row.life)) i.now.part result }
 {
-    let network = f.network();
-    let _ = network.description();
     match &nat_at(f, n).life {
         NatLife::Gone => stopped(i, Stop::NatNotAvailable(n)),
         NatLife::Unmodelled => stopped(i, Stop::Unmodelled(Foreign::Nat(n))),
-        NatLife::Live { subnet, .. } => {
-            let t = network.subnet_named(subnet);
+        NatLife::Live { .. } => {
+            let t = nat_subnet(f, n);
             unless_stopped_on(crossing_on(f, s, t, i), Onward::Go(Place::NatOut(n)))
         }
     }
@@ -184,31 +183,25 @@ fn to_local_on(f: &Fabric, s: SubnetNo, v: VpcNo, i: &Image) -> Part<Onward>
 }
 
 // By the target of the route.
-fn to_target_on(
-    f: &Fabric,
-    s: SubnetNo,
-    i: &Image,
-    t: TableNo,
-    k: u32,
-    target: &Target,
-) -> Part<Onward>
+fn to_target_on(f: &Fabric, s: SubnetNo, i: &Image, t: TableNo, k: u32) -> Part<Onward>
     requires subnet { IsTrue (is_subnet f.now s) }
-    requires there { let table = table_at f.now t in HasTarget f.now table.vpc target.now }
+    requires route { IsTrue (is_route f.now t k) }
+    requires there { let table = table_at f.now t in let r = route_at f.now t k in
+        HasTarget f.now table.vpc r.target }
     requires valid { IsValidImage i.now }
     requires walk { IsImageOfWalk i.now }
-    ensures { Answers (Standing f.now)
-        (λ h. onward_of (model.to_target f.now s (header_at i.now h) t k target.now))
+    ensures { let r = route_at f.now t k in Answers (Standing f.now)
+        (λ h. onward_of (model.to_target f.now s (header_at i.now h) t k r.target))
         i.now.part result }
 {
-    let n = f.network();
     let v = vpc_of(f, s);
-    match target {
+    match &route_at(f, t, k).target {
         Target::Local => to_local_on(f, s, v, i),
-        Target::Internet(id) => to_internet_on(f, s, v, i, n.igw_named(id)),
-        Target::Nat(id) => to_nat_on(f, s, i, n.nat_named(id)),
-        Target::Peer(id) => to_peer_on(f, s, v, i, n.peering_named(id)),
+        Target::Internet(_) => to_internet_on(f, s, v, i, IgwNo(f.target_number(t, k))),
+        Target::Nat(_) => to_nat_on(f, s, i, NatNo(f.target_number(t, k))),
+        Target::Peer(_) => to_peer_on(f, s, v, i, PeerNo(f.target_number(t, k))),
         Target::Transit(id) => to_transit_on(f, s, i, t, k, id),
-        Target::Interface(id) => to_interface_on(f, s, i, n.eni_named(id)),
+        Target::Interface(_) => to_interface_on(f, s, i, EniNo(f.target_number(t, k))),
         Target::Other(_) => stopped(i, Stop::Unmodelled(Foreign::Target(t, k))),
     }
 }
@@ -224,11 +217,11 @@ fn by_route_on(f: &Fabric, s: SubnetNo, i: &Image, t: TableNo, k: u32) -> Part<O
         i.now.part result }
 {
     let _ = f.network().description();
-    let route = &table_at(f, t).routes.as_slice()[k as usize];
-    if route.blackhole {
-        return stopped(i, Stop::Blackhole(t, k));
+    if route_at(f, t, k).blackhole {
+        stopped(i, Stop::Blackhole(t, k))
+    } else {
+        to_target_on(f, s, i, t, k)
     }
-    to_target_on(f, s, i, t, k, &route.target)
 }
 
 /// From the router of a subnet, by its route table (VPC User Guide, "Route tables"). The route's

@@ -3,6 +3,7 @@ pub mod NatRows
 pub mod HostRows
 pub mod RowFacts
 pub mod SiteRows
+pub mod TargetRows
 pub mod Routing
 pub mod Publics
 pub mod Owners

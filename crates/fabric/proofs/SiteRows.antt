@@ -1,13 +1,15 @@
--- Where interfaces and subnets lie, by their numbers.
-use Rattle.std.proofs.Common.{◌≡◌, ◌∙◌, ◌<◌, List, ap, get_or, length, subst, sym, true, ℕ}
+-- Where interfaces, subnets and NAT gateways lie, by their numbers.
+use Rattle.std.proofs.Common.{◌≡◌, ◌∙◌, ◌<◌, [], List, ap, get_or, length, subst, sym, true, ℕ}
 use Rattle.std.proofs.lemmas.Bool.{ltb-true}
 use Rattle.std.proofs.lemmas.List.{get_or-map, length-map}
 use Rattle.vpc_laws.proofs.Numbering.{accepted_numbers_are_in_range, no_subnet}
-use Rattle.vpc_laws.specs.Types.{Description, EniNo, Interface, Subnet, SubnetNo, VpcNo}
+use Rattle.vpc_laws.specs.Types.{Description, EniNo, Interface, NatGateway, NatNo, Subnet, SubnetNo, VpcNo}
 use Rattle.vpc_model.specs.Accepted.{IsAccepted}
-use Rattle.vpc_model.specs.Lookup.{no_interface, subnet_no, subnet_of, vpc_no, vpc_of_subnet}
-use Rattle.vpc_model.specs.Sound.{is_eni, is_subnet, is_vpc}
-use Rattle.fabric.specs.Sites.{subnets_in, vpcs_in}
+use Rattle.vpc_model.specs.Lookup.{nat_at, no_interface, subnet_no, subnet_of, vpc_no, vpc_of_subnet}
+use Rattle.vpc_model.specs.Sound.{is_eni, is_nat, is_subnet, is_vpc}
+use Rattle.vpc_model.specs.Step.Nat.{own_subnet}
+use Rattle.vpc_model.specs.declared.rows.NatLife.TheVariants as lives
+use Rattle.fabric.specs.Sites.{nat_subnets_in, subnets_in, vpcs_in}
 
 pub subnet-within : (d : Description) (i : EniNo) (subnets : List SubnetNo) → subnets ≡ subnets_in d → is_eni d i ≡ true → i.0 < length subnets
 subnet-within d i subnets are lies =
@@ -27,6 +29,17 @@ pub vpc-at : (d : Description) (s : SubnetNo) (vpcs : List VpcNo) (v : VpcNo) �
 vpc-at d s vpcs v are lies is =
     is (vpc_no d no_subnet.vpc)
     ∙ (ap (λ (xs : List VpcNo). get_or xs s.0 (vpc_no d no_subnet.vpc)) are ∙ get_or-map (λ (row : Subnet). vpc_no d row.vpc) d.subnets s.0 no_subnet (vpc_no d no_subnet.vpc) (ltb-true s.0 (length d.subnets) lies))
+
+pub nat-within : (d : Description) (n : NatNo) (subnets : List SubnetNo) → subnets ≡ nat_subnets_in d → is_nat d n ≡ true → n.0 < length subnets
+nat-within d n subnets are lies =
+    subst (λ (k : ℕ). n.0 < k) (sym (ap length are ∙ length-map d.nats (λ (row : NatGateway). subnet_no d (own_subnet row.life)))) (ltb-true n.0 (length d.nats) lies)
+
+pub nat-lies_in : (d : Description) (n : NatNo) (subnets : List SubnetNo) (s : SubnetNo) → subnets ≡ nat_subnets_in d → is_nat d n ≡ true → ((none : SubnetNo) → s ≡ get_or subnets n.0 none)
+    → let row = nat_at d n in s ≡ subnet_no d (own_subnet row.life)
+nat-lies_in d n subnets s are lies is =
+    let f : NatGateway → SubnetNo = λ row. subnet_no d (own_subnet row.life) in
+    let none : SubnetNo = subnet_no d [] in
+    is none ∙ (ap (λ (xs : List SubnetNo). get_or xs n.0 none) are ∙ get_or-map f d.nats n.0 (record { id = []; life = lives.Gone }) none (ltb-true n.0 (length d.nats) lies))
 
 -- the numbers are those of rows
 pub subnet-lies : (d n : Description) (i : EniNo) (s : SubnetNo) → n ≡ d → IsAccepted n → is_eni d i ≡ true → s ≡ subnet_of d i → is_subnet d s ≡ true

@@ -1,5 +1,5 @@
 -- What the indexes of a network's tables and ACLs are.
-use Rattle.std.specs.Prelude.{◌≡◌, List}
+use Rattle.std.specs.Prelude.{◌≡◌, List, ℕ}
 use Rattle.std.specs.List.{AllZip}
 use Rattle.cut_laws.specs.Dividing.{DivideFirsts}
 use Rattle.edge_gateways.specs.Edges.{AreEdgesOf, EdgeLists}
@@ -14,7 +14,8 @@ use Rattle.transit_gateway.specs.Lists.{TransitLists}
 use Rattle.vpc_laws.specs.Types.{Acl, Description, EniNo, NatNo, RouteTable, SubnetNo, VpcNo}
 use Rattle.fabric.specs.Hosts.{AreHosts}
 use Rattle.fabric.specs.Nats.{AreNats}
-use Rattle.fabric.specs.Sites.{subnets_in, vpcs_in}
+use Rattle.fabric.specs.Sites.{nat_subnets_in, subnets_in, vpcs_in}
+use Rattle.fabric.specs.Targets.{targets_in}
 use Rattle.vpc_model.specs.Cuts.{cuts_of_table}
 
 -- the pieces of a table: what each address chooses, how many there are, and where they begin
@@ -29,7 +30,7 @@ abbrev pub IsAclIndex : Acl → TriedRows → Type 0
 IsAclIndex a x = SortsRows a.rows x
 
 -- the indexes of all ACLs, groups and route tables, of the edges, of the transit gateways, NAT gateways by their interfaces, interfaces by
--- their addresses, and where interfaces and subnets lie
+-- their addresses, where interfaces, subnets and NAT gateways lie, and what routes lead to
 pub record IndexLists : Type 0 where
   pub acls : List TriedRows
   pub groups : GroupLists
@@ -40,6 +41,8 @@ pub record IndexLists : Type 0 where
   pub hosts : List (Entry EniNo)
   pub subnets : List SubnetNo
   pub vpcs : List VpcNo
+  pub nat_subnets : List SubnetNo
+  pub targets : List (List ℕ)
 
 -- they are those of the description
 pub record AreIndexesOf (d : Description) (x : IndexLists) : Type 0 where
@@ -53,3 +56,5 @@ pub record AreIndexesOf (d : Description) (x : IndexLists) : Type 0 where
   pub hosts : AreHosts d x.hosts
   pub subnets : x.subnets ≡ subnets_in d
   pub vpcs : x.vpcs ≡ vpcs_in d
+  pub nat_subnets : x.nat_subnets ≡ nat_subnets_in d
+  pub targets : x.targets ≡ targets_in d

@@ -2,3 +2,4 @@ pub mod Indexes
 pub mod Hosts
 pub mod Nats
 pub mod Sites
+pub mod Targets

@@ -8,5 +8,6 @@ mod network;
 mod routes;
 pub mod rows;
 mod sites;
+mod targets;
 
 pub use network::Fabric;

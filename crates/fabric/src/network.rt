@@ -11,7 +11,8 @@ use crate::acls::acl_indexes;
 use crate::hosts::hosts_by_address;
 use crate::nats::nats_by_interface;
 use crate::routes::route_indexes;
-use crate::sites::{subnets_by_interface, vpcs_by_subnet};
+use crate::sites::{subnets_by_interface, subnets_by_nat, vpcs_by_subnet};
+use crate::targets::targets_by_route;
 use edge_gateways::EdgeMaps;
 use network_acls::AclIndex;
 use number_tables::NumberTable;
@@ -21,7 +22,7 @@ use security_groups::GroupIndex;
 use std::alloc::Global;
 use std::marker::Model;
 use transit_gateway::TransitIndex;
-use vpc_base::NoMemory;
+use vpc_base::{NoMemory, OwnList};
 use vpc_model::{AclNo, EniNo, NatNo, SubnetNo, TableNo, VpcNo};
 
 // What lets packets pass, and what leads them on.
@@ -35,6 +36,8 @@ struct Indexes {
     hosts: NumberTable<EniNo>,
     subnets: Vec<SubnetNo>,
     vpcs: Vec<VpcNo>,
+    nat_subnets: Vec<SubnetNo>,
+    targets: Vec<OwnList<u32>>,
 }
 
 impl Drop for Indexes {
@@ -49,6 +52,8 @@ impl Drop for Indexes {
             hosts,
             subnets,
             vpcs,
+            nat_subnets,
+            targets,
         } = self;
         drop(acls);
         drop(groups);
@@ -59,6 +64,8 @@ impl Drop for Indexes {
         drop(hosts);
         drop(subnets);
         drop(vpcs);
+        drop(nat_subnets);
+        drop(targets);
     }
 }
 
@@ -77,6 +84,8 @@ impl Model for Indexes {
       hosts = x.hosts;
       subnets = x.subnets.items;
       vpcs = x.vpcs.items;
+      nat_subnets = x.nat_subnets.items;
+      targets = x.targets.items;
     } };
 }
 
@@ -92,6 +101,8 @@ fn indexes_of(alloc: Global, n: &Network) -> Result<Indexes, NoMemory>
     let hosts = hosts_by_address(alloc, n)?;
     let subnets = subnets_by_interface(alloc, n)?;
     let vpcs = vpcs_by_subnet(alloc, n)?;
+    let nat_subnets = subnets_by_nat(alloc, n)?;
+    let targets = targets_by_route(alloc, n)?;
     Ok(Indexes {
         acls,
         groups,
@@ -102,12 +113,14 @@ fn indexes_of(alloc: Global, n: &Network) -> Result<Indexes, NoMemory>
         hosts,
         subnets,
         vpcs,
+        nat_subnets,
+        targets,
     })
 }
 
 impl Indexes {
     ghost use Rattle.number_tables.specs.Entries.{value_at};
-    ghost use Rattle.std.specs.Prelude.{◌<◌, length, slice_index_or};
+    ghost use Rattle.std.specs.Prelude.{◌<◌, [], length, slice_index_or, ℕ};
     ghost use Rattle.network_acls.specs.Tried.{TriedRows};
     ghost use Rattle.piece_table.specs.Pieces.{PieceLists};
     ghost use Rattle.vpc_model.specs.declared.numbers.SubnetNo.{SubnetNo};
@@ -170,6 +183,22 @@ impl Indexes {
     {
         self.vpcs[s.0 as usize]
     }
+
+    fn nat_subnet(&self, n: NatNo) -> SubnetNo
+        requires { n.0 < length self.now.nat_subnets }
+        ensures { (none : SubnetNo) → result ≡ slice_index_or self.now.nat_subnets n.0 none }
+    {
+        self.nat_subnets[n.0 as usize]
+    }
+
+    fn target_number(&self, t: TableNo, k: u32) -> u32
+        requires table { t.0 < length self.now.targets }
+        requires route { k < length (slice_index_or self.now.targets t.0 []) }
+        ensures { (none : ℕ) →
+            result ≡ slice_index_or (slice_index_or self.now.targets t.0 []) k none }
+    {
+        self.targets[t.0 as usize].as_slice()[k as usize]
+    }
 }
 
 /// An accepted network with the indexes of everything that a walk asks. Contracts see its description.
@@ -199,9 +228,11 @@ impl Model for Fabric {
 
 impl Fabric {
     ghost use Rattle.std.specs.Prelude.{IsTrue};
-    ghost use Rattle.vpc_model.specs.Lookup.{acl_at, subnet_of, table_at, vpc_of_subnet};
-    ghost use Rattle.vpc_model.specs.Sound.{is_acl, is_eni, is_subnet, is_table};
+    ghost use Rattle.fabric.specs.Targets.{route_at, target_number};
+    ghost use Rattle.vpc_model.specs.Lookup.{acl_at, nat_at, subnet_no, subnet_of, table_at, vpc_of_subnet};
+    ghost use Rattle.vpc_model.specs.Sound.{is_acl, is_eni, is_nat, is_route, is_subnet, is_table};
     ghost use Rattle.vpc_model.specs.Step.Crossing.{nat_of};
+    ghost use Rattle.vpc_model.specs.Step.Nat.{own_subnet};
 
     /// The network with its indexes. It takes time n log n in the rows and in the pairs of a group and an
     /// address that interfaces have.
@@ -291,5 +322,22 @@ impl Fabric {
         ensures { result ≡ vpc_of_subnet self.now s }
     {
         self.indexes.vpc_of(s)
+    }
+
+    /// The subnet of a NAT gateway.
+    pub fn nat_subnet(&self, n: NatNo) -> SubnetNo
+        requires { IsTrue (is_nat self.now n) }
+        ensures { let row = nat_at self.now n in
+            result ≡ subnet_no self.now (own_subnet row.life) }
+    {
+        self.indexes.nat_subnet(n)
+    }
+
+    /// The number of the internet gateway, NAT gateway, peering or interface that a route leads to.
+    pub fn target_number(&self, t: TableNo, k: u32) -> u32
+        requires { IsTrue (is_route self.now t k) }
+        ensures { let r = route_at self.now t k in result ≡ target_number self.now r.target }
+    {
+        self.indexes.target_number(t, k)
     }
 }

@@ -1,13 +1,15 @@
-//! Rows of a network by their numbers, and where interfaces and subnets lie.
+//! Rows of a network by their numbers, and where interfaces, subnets and NAT gateways lie.
 
 ghost use Rattle.std.specs.Prelude.{◌≡◌, IsTrue};
+ghost use Rattle.fabric.specs.Targets.{route_at};
 ghost use Rattle.vpc_model.specs.Lookup as rows;
-ghost use Rattle.vpc_model.specs.Sound.{is_eni, is_nat, is_peering, is_subnet, is_table, is_vpc};
+ghost use Rattle.vpc_model.specs.Sound.{is_eni, is_live, is_nat, is_peering, is_route, is_subnet, is_table, is_vpc};
+ghost use Rattle.vpc_model.specs.Step.Nat.{own_subnet};
 
 use crate::Fabric;
 use vpc_model::{
-    EniNo, Interface, NatGateway, NatNo, PeerNo, Peering, RouteTable, Subnet, SubnetNo, TableNo,
-    Vpc, VpcNo,
+    EniNo, Interface, NatGateway, NatNo, PeerNo, Peering, Route, RouteTable, Subnet, SubnetNo,
+    TableNo, Vpc, VpcNo,
 };
 
 /// The row of an interface.
@@ -40,6 +42,14 @@ pub fn table_at<'a>(f: &'a Fabric, t: TableNo) -> &'a RouteTable
     ensures { result.now ≡ rows.table_at f.now t }
 {
     f.network().table_at(t)
+}
+
+/// A route of a table.
+pub fn route_at<'a>(f: &'a Fabric, t: TableNo, k: u32) -> &'a Route
+    requires { IsTrue (is_route f.now t k) }
+    ensures { result.now ≡ route_at f.now t k }
+{
+    &table_at(f, t).routes.as_slice()[k as usize]
 }
 
 /// The row of a NAT gateway.
@@ -77,4 +87,16 @@ pub fn vpc_of(f: &Fabric, s: SubnetNo) -> VpcNo
 {
     let _ = f.network().description();
     f.vpc_of(s)
+}
+
+/// The subnet of a live NAT gateway.
+pub fn nat_subnet(f: &Fabric, n: NatNo) -> SubnetNo
+    requires nat { IsTrue (is_nat f.now n) }
+    requires live { let row = rows.nat_at f.now n in IsTrue (is_live row.life) }
+    ensures number { let row = rows.nat_at f.now n in
+        result ≡ rows.subnet_no f.now (own_subnet row.life) }
+    ensures lies { IsTrue (is_subnet f.now result) }
+{
+    let _ = f.network().description();
+    f.nat_subnet(n)
 }

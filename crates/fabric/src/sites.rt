@@ -1,11 +1,12 @@
-// The subnets of interfaces and the VPCs of subnets, by their numbers.
+// The subnets of interfaces and NAT gateways and the VPCs of subnets, by their numbers.
 ghost use Rattle.std.specs.Prelude.{◌≡◌, Contains, IfOk};
 ghost use Rattle.vpc_model.specs.Lookup.{subnet_no, vpc_no};
-ghost use Rattle.fabric.specs.Sites.{subnets_in, vpcs_in};
+ghost use Rattle.vpc_model.specs.Step.Nat.{own_subnet};
+ghost use Rattle.fabric.specs.Sites.{nat_subnets_in, subnets_in, vpcs_in};
 
 use reference_check::Network;
 use std::alloc::{AllocError, Global};
-use vpc_model::{Interface, Subnet, SubnetNo, VpcNo};
+use vpc_model::{Interface, NatGateway, NatLife, Subnet, SubnetNo, VpcNo};
 
 fn subnet_of(n: &Network, interface: &Interface) -> SubnetNo
     requires { Contains n.now.interfaces interface.now }
@@ -21,6 +22,26 @@ fn vpc_of(n: &Network, subnet: &Subnet) -> VpcNo
 {
     let _ = n.description();
     n.vpc_named(&subnet.vpc)
+}
+
+// The id of a NAT gateway's subnet; one that isn't live has none.
+fn own_subnet(life: &NatLife) -> &[u8]
+    ensures { result.now ≡ own_subnet life.now }
+{
+    match life {
+        NatLife::Live { subnet, .. } => subnet.bytes(),
+        NatLife::Gone => &[],
+        NatLife::Unmodelled => &[],
+    }
+}
+
+fn subnet_of_nat(n: &Network, nat: &NatGateway) -> SubnetNo
+    ensures { result ≡ subnet_no n.now (own_subnet nat.now.life) }
+{
+    match n.subnet(own_subnet(&nat.life)) {
+        Some(s) => s,
+        None => SubnetNo(n.description().subnets.as_slice().len() as u32),
+    }
 }
 
 /// The subnet of each interface.
@@ -45,4 +66,16 @@ pub fn vpcs_by_subnet(alloc: Global, n: &Network) -> Result<Vec<VpcNo>, AllocErr
         vpcs.push(vpc_of(n, subnet))?;
     }
     Ok(vpcs)
+}
+
+/// The subnet of each NAT gateway.
+pub fn subnets_by_nat(alloc: Global, n: &Network) -> Result<Vec<SubnetNo>, AllocError>
+    ensures { IfOk result (λ v. v.items ≡ nat_subnets_in n.now) }
+{
+    let nats = n.description().nats.as_slice();
+    let mut subnets = Vec::with_capacity(alloc, nats.len())?;
+    for nat in nats {
+        subnets.push(subnet_of_nat(n, nat))?;
+    }
+    Ok(subnets)
 }

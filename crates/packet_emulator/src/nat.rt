@@ -3,7 +3,7 @@ ghost use Rattle.std.specs.Prelude.{◌≡◌, ◌≤◌, ◌<◌, ◌+◌, IsTr
 ghost use Rattle.vpc_model.specs.Connections.{Connection};
 ghost use Rattle.vpc_model.specs.Lookup.{nat_at};
 ghost use Rattle.vpc_model.specs.Sound.{is_live, is_nat};
-ghost use Rattle.vpc_model.specs.Step.Nat.{from_nat, own_address, own_subnet, step_nat_in, step_nat_out};
+ghost use Rattle.vpc_model.specs.Step.Nat.{from_nat, own_address, step_nat_in, step_nat_out};
 ghost use Rattle.vpc_model.specs.declared.places.Place.TheVariants as places;
 ghost use Rattle.packet_emulator.specs.Comes.{comes};
 ghost use Rattle.packet_emulator.specs.Moments.{at_place};
@@ -28,19 +28,10 @@ fn own_address(life: &NatLife) -> u32
 
 // On from a NAT gateway, by the router of its subnet.
 fn from_nat(f: &Fabric, n: NatNo, h: Header) -> Next
-    requires nat { IsTrue (is_nat f.now n) }
-    requires live { let row = nat_at f.now n in IsTrue (is_live row.life) }
+    requires { IsTrue (is_nat f.now n) }
     ensures { comes result ≡ from_nat f.now n h }
 {
-    let network = f.network();
-    let _ = network.description();
-    match &nat_at(f, n).life {
-        NatLife::Live { subnet, .. } => {
-            Next::Go(Place::Router(network.subnet_named(subnet), Came::Nat(n)), h)
-        }
-        NatLife::Gone => unreachable!(),
-        NatLife::Unmodelled => unreachable!(),
-    }
+    Next::Go(Place::Router(f.nat_subnet(n), Came::Nat(n)), h)
 }
 
 /// Out by a NAT gateway: first packets of TCP, UDP and ICMP alone (VPC User Guide, "NAT gateways").

@@ -1,5 +1,6 @@
 // The implicit router of a subnet: by the target of the chosen route.
 ghost use Rattle.std.specs.Prelude.{◌≡◌, IfSome, IsTrue, Some};
+ghost use Rattle.fabric.specs.Targets.{route_at};
 ghost use Rattle.packet_emulator.specs.Comes.{comes};
 ghost use Rattle.vpc_laws.specs.Accepted.{HasTarget};
 ghost use Rattle.vpc_model.specs.Lookup.{nat_at, peering_at, table_at, table_of, vpc_of_subnet};
@@ -13,7 +14,9 @@ use crate::crossing::{crossing, deliver, entering, is_gateway, leaving};
 use crate::next::{Next, unless_stopped};
 use crate::peering::other_side;
 use fabric::Fabric;
-use fabric::rows::{interface_at, nat_at, peering_at, subnet_of, table_at, vpc_at, vpc_of};
+use fabric::rows::{
+    interface_at, nat_at, nat_subnet, peering_at, route_at, subnet_of, vpc_at, vpc_of,
+};
 use transit_gateway::EnterStop;
 use vpc_base::Header;
 use vpc_model::{
@@ -93,13 +96,11 @@ fn to_nat(f: &Fabric, s: SubnetNo, h: &Header, n: NatNo) -> Next
     requires nat { IsTrue (is_nat f.now n) }
     ensures { let row = nat_at f.now n in comes result ≡ model.to_nat f.now s h.now n row.life }
 {
-    let network = f.network();
-    let _ = network.description();
     match &nat_at(f, n).life {
         NatLife::Gone => Next::Stop(Stop::NatNotAvailable(n)),
         NatLife::Unmodelled => Next::Stop(Stop::Unmodelled(Foreign::Nat(n))),
-        NatLife::Live { subnet, .. } => {
-            let t = network.subnet_named(subnet);
+        NatLife::Live { .. } => {
+            let t = nat_subnet(f, n);
             unless_stopped(crossing(f, s, t, h), Next::Go(Place::NatOut(n), *h))
         }
     }
@@ -137,20 +138,22 @@ fn to_transit(f: &Fabric, s: SubnetNo, h: &Header, t: TableNo, k: u32, gateway: 
 }
 
 // By the target of the route.
-fn to_target(f: &Fabric, s: SubnetNo, h: &Header, t: TableNo, k: u32, target: &Target) -> Next
+fn to_target(f: &Fabric, s: SubnetNo, h: &Header, t: TableNo, k: u32) -> Next
     requires subnet { IsTrue (is_subnet f.now s) }
-    requires there { let table = table_at f.now t in HasTarget f.now table.vpc target.now }
-    ensures { comes result ≡ model.to_target f.now s h.now t k target.now }
+    requires route { IsTrue (is_route f.now t k) }
+    requires there { let table = table_at f.now t in let r = route_at f.now t k in
+        HasTarget f.now table.vpc r.target }
+    ensures { let r = route_at f.now t k in
+        comes result ≡ model.to_target f.now s h.now t k r.target }
 {
-    let n = f.network();
     let v = vpc_of(f, s);
-    match target {
-        Target::Local => to_host(f, s, h, n.host(v, h.dst), v),
-        Target::Internet(id) => to_internet(f, s, v, h, n.igw_named(id)),
-        Target::Nat(id) => to_nat(f, s, h, n.nat_named(id)),
-        Target::Peer(id) => to_peer(f, s, v, h, n.peering_named(id)),
+    match &route_at(f, t, k).target {
+        Target::Local => to_host(f, s, h, f.network().host(v, h.dst), v),
+        Target::Internet(_) => to_internet(f, s, v, h, IgwNo(f.target_number(t, k))),
+        Target::Nat(_) => to_nat(f, s, h, NatNo(f.target_number(t, k))),
+        Target::Peer(_) => to_peer(f, s, v, h, PeerNo(f.target_number(t, k))),
         Target::Transit(id) => to_transit(f, s, h, t, k, id),
-        Target::Interface(id) => to_interface(f, s, h, n.eni_named(id)),
+        Target::Interface(_) => to_interface(f, s, h, EniNo(f.target_number(t, k))),
         Target::Other(_) => Next::Stop(Stop::Unmodelled(Foreign::Target(t, k))),
     }
 }
@@ -162,11 +165,11 @@ fn by_route(f: &Fabric, s: SubnetNo, h: &Header, t: TableNo, k: u32) -> Next
     ensures { comes result ≡ model.by_route f.now s h.now t (Some k) }
 {
     let _ = f.network().description();
-    let route = &table_at(f, t).routes.as_slice()[k as usize];
-    if route.blackhole {
-        return Next::Stop(Stop::Blackhole(t, k));
+    if route_at(f, t, k).blackhole {
+        Next::Stop(Stop::Blackhole(t, k))
+    } else {
+        to_target(f, s, h, t, k)
     }
-    to_target(f, s, h, t, k, &route.target)
 }
 
 /// From the router of a subnet, by its route table (VPC User Guide, "Route tables").
