@@ -1,6 +1,7 @@
 pub mod AskedEnds
 pub mod Lengths
 pub mod NumberLemmas
+pub mod PieceLemmas
 pub mod Printed
 pub mod Printing
 pub mod ReadEnds

@@ -43,7 +43,8 @@ pub fn print_readable(
     requires rows { HaveText n.now rows.now }
     requires within { All (λ row. IsWithin row.part sides.now) (told_rows n.now rows.now) }
     requires few { length rows.now ≤ row_limit }
-    ensures text { IfOk result (λ text. text.items ≡ report_text n.now start goal sides.now (told_rows n.now rows.now)) }
+    ensures text { IfOk result (λ text. text.items
+        ≡ report_text n.now start goal sides.now (told_rows n.now rows.now)) }
     ensures reads_back { IfOk result (λ text. report_of_text n.now text.items
         ≡ Ok (record { start = start; goal = goal; sides = sides.now; rows = told_rows n.now rows.now })) }
     ensures short { IfOk result (λ text. length text.items ≤ length_limit) }

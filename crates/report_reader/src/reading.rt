@@ -1,5 +1,5 @@
 // Whole reports.
-ghost use Rattle.std.specs.Prelude.{◌≡◌, ◌≤◌, All, IfOk, IfSome, IsTrue, drop, length, map};
+ghost use Rattle.std.specs.Prelude.{◌≡◌, ◌≤◌, ◌<◌, ◌∷◌, [], All, IfNone, IfOk, IfSome, IsTrue, drop, length, map};
 ghost use Rattle.header_boxes.specs.Boxes.{IsValid, IsWithin};
 ghost use Rattle.vpc_model.specs.Sound.{is_end};
 ghost use Rattle.query_words.specs.Events.{words_of};
@@ -11,6 +11,7 @@ use crate::row_lists::read_rows;
 use crate::words::few_words;
 use crate::{Report, ReportFault};
 use header_boxes::{Box5, Row};
+use memchr::memchr;
 use reference_check::Network;
 use std::alloc::{AllocError, Global};
 use vpc_base::OwnList;
@@ -123,11 +124,31 @@ fn report_in(
 
 // ---- the text
 
+// What stands before the first newline of a text, and what after it.
+#[tactic(auto, using(crate::proofs::PieceLemmas::piece_last))]
+fn cut(text: &[u8]) -> Option<(&[u8], &[u8])>
+    ensures first { IfSome result (λ c. pieces_of text.now ≡ c.0.now ∷ pieces_of c.1.now) }
+    ensures shorter { IfSome result (λ c. length c.1.now < length text.now) }
+    ensures whole { IfNone result (pieces_of text.now ≡ text.now ∷ []) }
+{
+    match memchr(b'\n', text) {
+        Some(at) => Some((&text[..at], &text[at + 1..])),
+        None => None,
+    }
+}
+
 /// What stands between newlines, before the first and after the last.
 pub fn pieces_of(alloc: Global, text: &[u8]) -> Result<Vec<&[u8]>, AllocError>
     ensures { IfOk result (λ v. map (λ l. l.now) v.items ≡ pieces_of text.now) }
 {
-    text.split(|c| *c == b'\n').collect(alloc)
+    let mut pieces = Vec::new(alloc);
+    let mut rest = text;
+    while let Some((piece, after)) = cut(rest) {
+        pieces.push(piece)?;
+        rest = after;
+    }
+    pieces.push(rest)?;
+    Ok(pieces)
 }
 
 fn report_of_pieces(alloc: Global, n: &Network, pieces: &[&[u8]]) -> Result<Report, ReportFault>
