@@ -1,6 +1,6 @@
 -- The rows of one start: the ends that they reach are described.
 use Rattle.std.proofs.Common.{◌≡◌, [], All, Bool, IfSome, List, None, Option, Some, cond, false, get_or, subst, sym, true, ℕ}
-use Rattle.box_gather.specs.Over.{AreRowsOver, IsGatheredOver, IsPartOf}
+use Rattle.box_gather.specs.Over.{AreRowsOver, IsPartOf}
 use Rattle.box_walk.specs.Journeys.{journey_after, journey_by, reached_end, reached_of}
 use Rattle.box_walk.specs.Open.{Starting}
 use Rattle.box_walk.specs.Asking.{Asking}
@@ -10,13 +10,12 @@ use Rattle.header_boxes.specs.declared.boxes.Box5.{Box5}
 use Rattle.header_boxes.specs.declared.rows.Row.{Row}
 use Rattle.ordered_cover.specs.declared.rows.Gathered.{Gathered}
 use Rattle.vpc_base.specs.Header.{reply_of}
-use Rattle.vpc_base.specs.declared.headers.Header.{Header}
 use Rattle.vpc_base.specs.declared.headers.Label.TheVariants as labels
 use Rattle.vpc_laws.proofs.Telling.{start-sound, walks_are_sound}
 use Rattle.vpc_laws.specs.Sound.{EndsWell}
-use Rattle.vpc_laws.specs.Types.{Description, End, Outcome, Verdict}
+use Rattle.vpc_laws.specs.Types.{Description, End, Header, Outcome, Verdict}
 use Rattle.vpc_model.specs.Accepted.{IsAccepted}
-use Rattle.vpc_model.specs.Appliances.{Appliances, appliances_of}
+use Rattle.vpc_model.specs.Appliances.{Appliances}
 use Rattle.vpc_model.specs.Cuts.{cuts_of}
 use Rattle.vpc_model.specs.Place.{start_of}
 use Rattle.vpc_model.specs.Sound.{is_end}
@@ -27,6 +26,7 @@ use Rattle.vpc_model.specs.declared.outcomes.Phase.TheVariants as phases
 use Rattle.vpc_model.specs.declared.outcomes.Verdict.TheVariants as verdicts
 use Rattle.vpc_model.specs.declared.stops.Stop.TheVariants as stops
 use Rattle.box_walk.specs.declared.journeys.Journey.TheVariants as journeys
+use Rattle.end_reach.specs.Walked.{IsGatheredIn}
 
 -- ---- one request
 
@@ -67,13 +67,13 @@ rows_reach_ends d a start goal boxes rows accepted there known are k x below =
 
 -- a probe from the same start in the same network
 pub gathered_by_start : (s t : Starting) (boxes : List Box5) (room : ℕ) (g : Gathered End) → s ≡ t
-    → IsGatheredOver (reached_of s.network (appliances_of s.network) s.start None) (cuts_of s.network) boxes room g
-    → IsGatheredOver (reached_of t.network (appliances_of t.network) t.start None) (cuts_of t.network) boxes room g
+    → IsGatheredIn s.network s.start None boxes room g
+    → IsGatheredIn t.network t.start None boxes room g
 gathered_by_start s t boxes room g same k =
-    subst (λ (x : Starting). IsGatheredOver (reached_of x.network (appliances_of x.network) x.start None) (cuts_of x.network) boxes room g) same k
+    subst (λ (x : Starting). IsGatheredIn x.network x.start None boxes room g) same k
 
 pub gathered_by_ends : (s t : Asking) (boxes : List Box5) (room : ℕ) (g : Gathered End) → s ≡ t
-    → IsGatheredOver (reached_of s.network (appliances_of s.network) s.start (Some s.goal)) (cuts_of s.network) boxes room g
-    → IsGatheredOver (reached_of t.network (appliances_of t.network) t.start (Some t.goal)) (cuts_of t.network) boxes room g
+    → IsGatheredIn s.network s.start (Some s.goal) boxes room g
+    → IsGatheredIn t.network t.start (Some t.goal) boxes room g
 gathered_by_ends s t boxes room g same k =
-    subst (λ (x : Asking). IsGatheredOver (reached_of x.network (appliances_of x.network) x.start (Some x.goal)) (cuts_of x.network) boxes room g) same k
+    subst (λ (x : Asking). IsGatheredIn x.network x.start (Some x.goal) boxes room g) same k

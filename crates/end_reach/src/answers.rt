@@ -4,7 +4,7 @@ ghost use Rattle.vpc_model.specs.Sound.{is_end};
 ghost use Rattle.end_reach.specs.Answered.{CanBeTold, IsPrinted, IsReachAnswered, IsToldUnlessTooMany, IsTooMany};
 
 use crate::bodies::{Body, body_of};
-use crate::sides::targets_of;
+use crate::sides::{Asked, targets_of};
 use crate::starts::starts_of;
 use appliances::Deciders;
 use block_report::end_id;
@@ -70,14 +70,11 @@ impl<'a> Job for Reaching<'a> {
         let n = f.network();
         let targets = targets_of(alloc, n, query.pairs.dst, query.goal)?;
         let starts = starts_of(alloc, n, query.start, query.goal)?;
-        let body = body_of(
-            alloc,
-            f,
-            deciders,
+        let asked = Asked {
             query,
-            targets.as_slice(),
-            starts.as_slice(),
-        )?;
+            targets: targets.as_slice(),
+        };
+        let body = body_of(alloc, f, deciders, &asked, starts.as_slice())?;
         answer_body(alloc, n, self.words, &body)
     }
 }
@@ -103,7 +100,8 @@ fn tell(
     words: &[String],
 ) -> Result<Answer, NoMemory>
     requires { CanBeTold network query.now words.now }
-    ensures { IfOk result (λ a. IsToldUnlessTooMany network query.now (map string_bytes words.now) a.status a.text.items) }
+    ensures { IfOk result (λ a.
+        IsToldUnlessTooMany network query.now (map string_bytes words.now) a.status a.text.items) }
 {
     if is_too_many(&network, query) {
         mem::forget(network);

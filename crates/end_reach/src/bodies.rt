@@ -1,6 +1,6 @@
 // The rows of all starts.
 ghost use Rattle.std.specs.Prelude.{◌≡◌, ◌≤◌, ◌+◌, ◌++◌, All, IfOk, IsTrue, OnOk, length};
-ghost use Rattle.listing_text.specs.Bodies.{IsAdded, IsBody, IsGatheredFrom};
+ghost use Rattle.listing_text.specs.Bodies.{IsAdded, IsBody};
 ghost use Rattle.query_words.specs.ReachQuery.{AreGivenEnds, AreReachPairs};
 ghost use Rattle.vpc_model.specs.Appliances.{appliances_of};
 ghost use Rattle.vpc_model.specs.Sound.{is_end};
@@ -9,13 +9,12 @@ ghost use Rattle.end_reach.specs.Texts.{row_lines_from};
 ghost use Rattle.end_reach.specs.Told.{wanted};
 ghost use Rattle.end_reach.specs.Walked.{AreOf};
 
-use crate::rows::{Walks, gather_from, put_rows};
-use crate::sides::boxes_at;
+use crate::rows::{Walks, gather_at, put_rows};
+use crate::sides::Asked;
 use appliances::Deciders;
 use box_gather::Gathered;
 use fabric::Fabric;
 use header_boxes::Row;
-use query_words::ReachQuery;
 use reference_check::Network;
 use std::alloc::Global;
 use vpc_base::{Header, NoMemory};
@@ -27,28 +26,6 @@ pub struct Body {
     pub text: Vec<u8>,
     pub count: u32,
     pub next: Option<(End, Header)>,
-}
-
-// What is gathered from a start.
-fn gather_at(
-    alloc: Global,
-    f: &Fabric,
-    walks: &mut Walks,
-    query: &ReachQuery,
-    targets: &[(u32, u32)],
-    start: End,
-    room: u32,
-) -> Result<Gathered<End>, NoMemory>
-    requires walks { AreOf f.now walks.old.toward.fabric.now walks.old.to_any.fabric.now }
-    requires ends { AreGivenEnds f.now query.now }
-    requires pairs { AreReachPairs query.now.pairs }
-    requires targets { AreTargets f.now query.now.pairs.dst query.now.goal targets.now }
-    requires start { IsTrue (is_end f.now start) }
-    ensures gathered { IfOk result (IsGatheredFrom (wanted f.now query.now targets.now) start room) }
-    ensures walks { AreOf f.now walks.new.toward.fabric.now walks.new.to_any.fabric.now }
-{
-    let boxes = boxes_at(alloc, f.network(), query, targets, start)?;
-    gather_from(alloc, f, walks, start, query.goal, boxes.as_slice(), room)
 }
 
 // Adds the lines of rows.
@@ -71,25 +48,26 @@ fn add_start(
     alloc: Global,
     f: &Fabric,
     walks: &mut Walks,
-    query: &ReachQuery,
-    targets: &[(u32, u32)],
+    asked: &Asked,
     start: End,
     body: &mut Body,
 ) -> Result<(), NoMemory>
     requires walks { AreOf f.now walks.old.toward.fabric.now walks.old.to_any.fabric.now }
-    requires ends { AreGivenEnds f.now query.now }
-    requires pairs { AreReachPairs query.now.pairs }
-    requires targets { AreTargets f.now query.now.pairs.dst query.now.goal targets.now }
+    requires ends { AreGivenEnds f.now asked.now.query.now }
+    requires pairs { AreReachPairs asked.now.query.now.pairs }
+    requires targets { AreTargets f.now
+        asked.now.query.now.pairs.dst asked.now.query.now.goal asked.now.targets.now }
     requires start { IsTrue (is_end f.now start) }
-    requires few { body.old.count ≤ query.now.pairs.max }
-    ensures added { OnOk result (IsAdded (wanted f.now query.now targets.now) (row_lines_from f.now) start
+    requires few { body.old.count ≤ asked.now.query.now.pairs.max }
+    ensures added { OnOk result (IsAdded
+        (wanted f.now asked.now.query.now asked.now.targets.now) (row_lines_from f.now) start
         body.old.text.items body.old.count body.old.next body.new.text.items body.new.count body.new.next) }
     ensures walks { AreOf f.now walks.new.toward.fabric.now walks.new.to_any.fabric.now }
 {
-    let room = query.pairs.max - body.count;
+    let room = asked.query.pairs.max - body.count;
     // That the network is accepted is a clause of this call.
     let _ = f.network().description();
-    match gather_at(alloc, f, walks, query, targets, start, room)? {
+    match gather_at(alloc, f, walks, asked, start, room)? {
         Gathered::All(rows) => add_rows(body, f.network(), start, rows.as_slice()),
         Gathered::More(rows, next) => {
             add_rows(body, f.network(), start, rows.as_slice())?;
@@ -104,16 +82,17 @@ pub fn body_of(
     alloc: Global,
     f: &Fabric,
     deciders: &Deciders,
-    query: &ReachQuery,
-    targets: &[(u32, u32)],
+    asked: &Asked,
     starts: &[End],
 ) -> Result<Body, NoMemory>
     requires appliances { deciders.now.appliances ≡ appliances_of f.now }
-    requires ends { AreGivenEnds f.now query.now }
-    requires pairs { AreReachPairs query.now.pairs }
-    requires targets { AreTargets f.now query.now.pairs.dst query.now.goal targets.now }
+    requires ends { AreGivenEnds f.now asked.now.query.now }
+    requires pairs { AreReachPairs asked.now.query.now.pairs }
+    requires targets { AreTargets f.now
+        asked.now.query.now.pairs.dst asked.now.query.now.goal asked.now.targets.now }
     requires starts { All (λ e. IsTrue (is_end f.now e)) starts.now }
-    ensures { IfOk result (λ b. IsBody (wanted f.now query.now targets.now) (row_lines_from f.now) starts.now
+    ensures { IfOk result (λ b. IsBody
+        (wanted f.now asked.now.query.now asked.now.targets.now) (row_lines_from f.now) starts.now
         b.text.items b.count b.next) }
 {
     let mut body = Body {
@@ -123,7 +102,7 @@ pub fn body_of(
     };
     let mut walks = Walks::of(f, deciders);
     for start in starts {
-        add_start(alloc, f, &mut walks, query, targets, *start, &mut body)?;
+        add_start(alloc, f, &mut walks, asked, *start, &mut body)?;
         if body.next.is_some() {
             return Ok(body);
         }

@@ -1,16 +1,18 @@
 // The rows of one start.
-ghost use Rattle.std.specs.Prelude.{◌≡◌, ◌≤◌, ◌+◌, ◌++◌, All, AllPairs, IfOk, IfSome, IsTrue, None, OnOk, Some, length};
+ghost use Rattle.std.specs.Prelude.{◌≡◌, ◌≤◌, ◌+◌, ◌++◌, All, AllPairs, IfOk, IsTrue, None, OnOk, Some, length};
 ghost use Rattle.block_report.specs.Words.{word};
-ghost use Rattle.box_gather.specs.Over.{IsGatheredOver};
-ghost use Rattle.box_walk.specs.Journeys.{reached_of};
 ghost use Rattle.header_boxes.specs.Boxes.{AreDisjoint, IsValid};
+ghost use Rattle.listing_text.specs.Bodies.{IsGatheredFrom};
+ghost use Rattle.query_words.specs.ReachQuery.{AreGivenEnds, AreReachPairs};
 ghost use Rattle.vpc_model.specs.Appliances.{appliances_of};
-ghost use Rattle.vpc_model.specs.Cuts.{cuts_of};
 ghost use Rattle.vpc_model.specs.Sound.{is_end};
 ghost use Rattle.vpc_model.specs.Told.{end_id};
+ghost use Rattle.end_reach.specs.Asked.{AreTargets};
 ghost use Rattle.end_reach.specs.Texts.{row_line, row_lines_from};
-ghost use Rattle.end_reach.specs.Walked.{AreOf};
+ghost use Rattle.end_reach.specs.Told.{wanted};
+ghost use Rattle.end_reach.specs.Walked.{AreOf, IsGatheredIn};
 
+use crate::sides::{Asked, boxes_at};
 use appliances::Deciders;
 use block_report::{end_id, put, put_box_word, put_end, put_number_word, put_word};
 use box_gather::{Gathered, gather_over};
@@ -48,19 +50,16 @@ impl<'a> Walks<'a> {
 // Toward whatever end a request arrives at.
 fn gather_to_any(
     alloc: Global,
-    f: &Fabric,
     probe: &mut OpenProbe,
     start: End,
     boxes: &[Box5],
     room: u32,
 ) -> Result<Gathered<End>, NoMemory>
-    requires network { probe.old.fabric.now ≡ f.now }
-    requires start { IsTrue (is_end f.now start) }
+    requires start { IsTrue (is_end probe.old.fabric.now start) }
     requires valid { All IsValid boxes.now }
     requires disjoint { AllPairs AreDisjoint boxes.now }
-    ensures gathered { IfOk result (IsGatheredOver
-        (reached_of f.now (appliances_of f.now) start None) (cuts_of f.now) boxes.now room) }
-    ensures network { probe.new.fabric.now ≡ f.now }
+    ensures gathered { IfOk result (IsGatheredIn probe.old.fabric.now start None boxes.now room) }
+    ensures network { probe.new.fabric.now ≡ probe.old.fabric.now }
 {
     probe.turn(start);
     gather_over(alloc, probe, boxes, room)
@@ -69,48 +68,47 @@ fn gather_to_any(
 // Toward a goal: requests are given up where they can't arrive there.
 fn gather_to(
     alloc: Global,
-    f: &Fabric,
     round: &mut RoundProbe,
     start: End,
     goal: End,
     boxes: &[Box5],
     room: u32,
 ) -> Result<Gathered<End>, NoMemory>
-    requires network { round.old.fabric.now ≡ f.now }
-    requires start { IsTrue (is_end f.now start) }
-    requires goal { IsTrue (is_end f.now goal) }
+    requires start { IsTrue (is_end round.old.fabric.now start) }
+    requires goal { IsTrue (is_end round.old.fabric.now goal) }
     requires valid { All IsValid boxes.now }
     requires disjoint { AllPairs AreDisjoint boxes.now }
-    ensures gathered { IfOk result (IsGatheredOver
-        (reached_of f.now (appliances_of f.now) start (Some goal)) (cuts_of f.now) boxes.now room) }
-    ensures network { round.new.fabric.now ≡ f.now }
+    ensures gathered { IfOk result (IsGatheredIn round.old.fabric.now start (Some goal) boxes.now room) }
+    ensures network { round.new.fabric.now ≡ round.old.fabric.now }
 {
     round.turn(start, goal);
     gather_over(alloc, &GoalProbe::of(round), boxes, room)
 }
 
-/// Which headers of the boxes reach an end from the start, the goal if there is one, in at most `room` rows.
-pub fn gather_from(
+/// Which of the requests reach an end from the start, the goal if there is one, in at most `room` rows.
+pub fn gather_at(
     alloc: Global,
     f: &Fabric,
     walks: &mut Walks,
+    asked: &Asked,
     start: End,
-    goal: Option<End>,
-    boxes: &[Box5],
     room: u32,
 ) -> Result<Gathered<End>, NoMemory>
     requires walks { AreOf f.now walks.old.toward.fabric.now walks.old.to_any.fabric.now }
+    requires ends { AreGivenEnds f.now asked.now.query.now }
+    requires pairs { AreReachPairs asked.now.query.now.pairs }
+    requires targets { AreTargets f.now
+        asked.now.query.now.pairs.dst asked.now.query.now.goal asked.now.targets.now }
     requires start { IsTrue (is_end f.now start) }
-    requires goal { IfSome goal (λ e. IsTrue (is_end f.now e)) }
-    requires valid { All IsValid boxes.now }
-    requires disjoint { AllPairs AreDisjoint boxes.now }
-    ensures gathered { IfOk result (IsGatheredOver
-        (reached_of f.now (appliances_of f.now) start goal) (cuts_of f.now) boxes.now room) }
+    ensures gathered { IfOk result
+        (IsGatheredFrom (wanted f.now asked.now.query.now asked.now.targets.now) start room) }
     ensures walks { AreOf f.now walks.new.toward.fabric.now walks.new.to_any.fabric.now }
 {
-    match goal {
-        Some(goal) => gather_to(alloc, f, &mut walks.toward, start, goal, boxes, room),
-        None => gather_to_any(alloc, f, &mut walks.to_any, start, boxes, room),
+    let boxes = boxes_at(alloc, f.network(), asked.query, asked.targets, start)?;
+    let boxes = boxes.as_slice();
+    match asked.query.goal {
+        Some(goal) => gather_to(alloc, &mut walks.toward, start, goal, boxes, room),
+        None => gather_to_any(alloc, &mut walks.to_any, start, boxes, room),
     }
 }
 

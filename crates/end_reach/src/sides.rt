@@ -15,6 +15,14 @@ use std::alloc::Global;
 use vpc_base::NoMemory;
 use vpc_model::{End, Interface};
 
+/// The requests of a query.
+#[derive(Drop)]
+pub struct Asked<'a> {
+    pub query: &'a ReachQuery,
+    /// Their destinations, as `targets_of` gives them.
+    pub targets: &'a [(u32, u32)],
+}
+
 // ---- sources
 
 fn alone(address: Option<u32>) -> Option<(u32, u32)>

@@ -1,6 +1,5 @@
 // What `unused` answers.
 ghost use Rattle.std.specs.Prelude.{◌≡◌, ◌≤◌, IfOk, OnOk, length, map, string_bytes};
-ghost use Rattle.box_walk.specs.Asking.{asked};
 ghost use Rattle.vpc_model.specs.Appliances.{appliances_of};
 ghost use Rattle.unused_rules.specs.Answered.{AreJudgedFor, IsUnusedAnswered, IsUnusedFor};
 ghost use Rattle.unused_rules.specs.Chunks.{IsIdle};
@@ -9,12 +8,11 @@ ghost use Rattle.unused_rules.specs.Needed.{IsAskedIn};
 ghost use Rattle.unused_rules.specs.Rules.{rules_of};
 
 use crate::chunks::Chunk;
-use crate::judging::{idle_at, needed_at};
+use crate::judging::{Baseline, idle_at, needed_at};
 use crate::lines::put_rule_line;
 use crate::rules::{RuleName, rules_of};
 use appliances::Deciders;
 use block_report::put_number_line;
-use box_walk::RoundProbe;
 use command_job::{Answer, Job, Status, answer_job, answer_line, refuse_query};
 use fabric::Fabric;
 use query_words::{Query, read_unbounded_query};
@@ -29,22 +27,16 @@ const MOST_RULES: usize = 2000;
 // Judges a rule, by a chunk that decides nothing, and appends its line.
 fn put_judged(
     out: &mut Vec<u8>,
-    f: &Fabric,
-    deciders: &Deciders,
-    before: &RoundProbe,
-    query: &Query,
+    base: &Baseline,
     rule: &RuleName,
     idle: &Option<Chunk>,
 ) -> Result<(), NoMemory>
-    requires appliances { deciders.now.appliances ≡ appliances_of f.now }
-    requires query { IsAskedIn f.now query.now }
-    requires before { asked before.now.fabric.now before.now.start before.now.goal
-        ≡ asked f.now query.now.start query.now.goal }
-    requires idle { IsIdle f.now query.now idle.now }
-    ensures { OnOk result (AddsLine f.now query.now rule.now out.old.items out.new.items) }
+    requires idle { IsIdle base.now.fabric.now base.now.query.now idle.now }
+    ensures { OnOk result (AddsLine
+        base.now.fabric.now base.now.query.now rule.now out.old.items out.new.items) }
 {
-    let need = needed_at(*out.allocator(), f, deciders, before, query, rule, idle)?;
-    put_rule_line(out, f.network().description(), rule, &need)
+    let need = needed_at(*out.allocator(), base, rule, idle)?;
+    put_rule_line(out, base.fabric.network().description(), rule, &need)
 }
 
 fn put_all_judged(
@@ -58,12 +50,11 @@ fn put_all_judged(
     requires query { IsAskedIn f.now query.now }
     ensures { OnOk result (AddsLines f.now query.now rules.now out.old.items out.new.items) }
 {
-    let mut before = RoundProbe::of(f, deciders, query.start, query.goal);
-    before.look_ahead(&query.sides);
+    let base = Baseline::of(f, deciders, query);
     let mut idle = None;
     for rule in rules {
-        idle = idle_at(*out.allocator(), f, deciders, &before, query, rule, idle)?;
-        put_judged(out, f, deciders, &before, query, rule, &idle)?;
+        idle = idle_at(*out.allocator(), &base, rule, idle)?;
+        put_judged(out, &base, rule, &idle)?;
     }
     Ok(())
 }

@@ -23,6 +23,39 @@ use reference_check::Network;
 use std::alloc::Global;
 use vpc_base::{Header, NoMemory};
 
+/// A network as it is, and a query of it: what becomes of the requests without a rule is compared with this.
+#[derive(Drop)]
+pub(crate) struct Baseline<'a> {
+    pub fabric: &'a Fabric,
+    deciders: &'a Deciders,
+    query: &'a Query,
+    /// The walks of the query's requests.
+    before: RoundProbe<'a>,
+    ghost described: { deciders.now.appliances ≡ appliances_of fabric.now },
+    ghost known: { IsAskedIn fabric.now query.now },
+    ghost same_way: { asked before.fabric.now before.start before.goal
+        ≡ asked fabric.now query.now.start query.now.goal },
+}
+
+impl<'a> Baseline<'a> {
+    /// It serves all rules.
+    pub fn of(f: &'a Fabric, deciders: &'a Deciders, query: &'a Query) -> Baseline<'a>
+        requires appliances { deciders.now.appliances ≡ appliances_of f.now }
+        requires query { IsAskedIn f.now query.now }
+        ensures network { result.fabric.now ≡ f.now }
+        ensures query { result.query.now ≡ query.now }
+    {
+        let mut before = RoundProbe::of(f, deciders, query.start, query.goal);
+        before.look_ahead(&query.sides);
+        Baseline {
+            fabric: f,
+            deciders,
+            query,
+            before,
+        }
+    }
+}
+
 fn fabric_without(alloc: Global, n: &Network, rule: &RuleName) -> Result<Fabric, NoMemory>
     ensures { IfOk result (λ f. f ≡ without n.now rule.now) }
 {
@@ -50,46 +83,31 @@ fn first_apart(
     first(alloc, &AgreementProbe::of(before, after), sides)
 }
 
-/// The same as `needed`, by a probe of the network for the query's ends: it serves all rules.
+/// The same as `needed`, by a baseline.
 pub(crate) fn needed_by(
     alloc: Global,
-    f: &Fabric,
-    deciders: &Deciders,
-    before: &RoundProbe,
-    query: &Query,
+    base: &Baseline,
     rule: &RuleName,
 ) -> Result<Option<Header>, NoMemory>
-    requires appliances { deciders.now.appliances ≡ appliances_of f.now }
-    requires query { IsAskedIn f.now query.now }
-    requires before { asked before.now.fabric.now before.now.start before.now.goal
-        ≡ asked f.now query.now.start query.now.goal }
-    ensures { IfOk result (IsNeed f.now rule.now query.now) }
+    ensures { IfOk result (IsNeed base.now.fabric.now rule.now base.now.query.now) }
 {
-    let fabric = fabric_without(alloc, f.network(), rule)?;
-    let mut after = RoundProbe::of(&fabric, deciders, query.start, query.goal);
+    let fabric = fabric_without(alloc, base.fabric.network(), rule)?;
+    let query = base.query;
+    let mut after = RoundProbe::of(&fabric, base.deciders, query.start, query.goal);
     after.look_ahead(&query.sides);
-    first_apart(alloc, before, &after, query.sides)
+    first_apart(alloc, &base.before, &after, query.sides)
 }
 
 // Whether no request of the query has another verdict without the chunk.
-fn decides_nothing(
-    alloc: Global,
-    f: &Fabric,
-    deciders: &Deciders,
-    before: &RoundProbe,
-    query: &Query,
-    c: &Chunk,
-) -> Result<bool, NoMemory>
-    requires appliances { deciders.now.appliances ≡ appliances_of f.now }
-    requires query { IsAskedIn f.now query.now }
-    requires before { asked before.now.fabric.now before.now.start before.now.goal
-        ≡ asked f.now query.now.start query.now.goal }
-    ensures { IfOk result (λ idle. IsTrue idle ↔ ChunkDecidesNothing f.now c.now query.now) }
+fn decides_nothing(alloc: Global, base: &Baseline, c: &Chunk) -> Result<bool, NoMemory>
+    ensures { IfOk result (λ idle.
+        IsTrue idle ↔ ChunkDecidesNothing base.now.fabric.now c.now base.now.query.now) }
 {
-    let fabric = fabric_without_chunk(alloc, f.network(), c)?;
-    let mut after = RoundProbe::of(&fabric, deciders, query.start, query.goal);
+    let fabric = fabric_without_chunk(alloc, base.fabric.network(), c)?;
+    let query = base.query;
+    let mut after = RoundProbe::of(&fabric, base.deciders, query.start, query.goal);
     after.look_ahead(&query.sides);
-    match first_apart(alloc, before, &after, query.sides)? {
+    match first_apart(alloc, &base.before, &after, query.sides)? {
         None => Ok(true),
         Some(_) => Ok(false),
     }
@@ -98,22 +116,15 @@ fn decides_nothing(
 // The chunk, if there is one and it decides nothing.
 fn idle_only(
     alloc: Global,
-    f: &Fabric,
-    deciders: &Deciders,
-    before: &RoundProbe,
-    query: &Query,
+    base: &Baseline,
     chunk: Option<Chunk>,
 ) -> Result<Option<Chunk>, NoMemory>
-    requires appliances { deciders.now.appliances ≡ appliances_of f.now }
-    requires query { IsAskedIn f.now query.now }
-    requires before { asked before.now.fabric.now before.now.start before.now.goal
-        ≡ asked f.now query.now.start query.now.goal }
-    ensures { IfOk result (IsIdle f.now query.now) }
+    ensures { IfOk result (IsIdle base.now.fabric.now base.now.query.now) }
 {
     match chunk {
         None => Ok(None),
         Some(c) => {
-            if decides_nothing(alloc, f, deciders, before, query, &c)? {
+            if decides_nothing(alloc, base, &c)? {
                 Ok(Some(c))
             } else {
                 Ok(None)
@@ -126,49 +137,35 @@ fn idle_only(
 /// else the one that the rule begins.
 pub(crate) fn idle_at(
     alloc: Global,
-    f: &Fabric,
-    deciders: &Deciders,
-    before: &RoundProbe,
-    query: &Query,
+    base: &Baseline,
     rule: &RuleName,
     idle: Option<Chunk>,
 ) -> Result<Option<Chunk>, NoMemory>
-    requires appliances { deciders.now.appliances ≡ appliances_of f.now }
-    requires query { IsAskedIn f.now query.now }
-    requires before { asked before.now.fabric.now before.now.start before.now.goal
-        ≡ asked f.now query.now.start query.now.goal }
-    requires idle { IsIdle f.now query.now idle }
-    ensures { IfOk result (IsIdle f.now query.now) }
+    requires idle { IsIdle base.now.fabric.now base.now.query.now idle }
+    ensures { IfOk result (IsIdle base.now.fabric.now base.now.query.now) }
 {
     if is_of(&idle, rule) {
         Ok(idle)
     } else {
-        let chunk = chunk_from(f.network().description(), rule);
-        idle_only(alloc, f, deciders, before, query, chunk)
+        let chunk = chunk_from(base.fabric.network().description(), rule);
+        idle_only(alloc, base, chunk)
     }
 }
 
 /// The same as `needed_by`, by a chunk that decides nothing: none of its rules does.
 pub(crate) fn needed_at(
     alloc: Global,
-    f: &Fabric,
-    deciders: &Deciders,
-    before: &RoundProbe,
-    query: &Query,
+    base: &Baseline,
     rule: &RuleName,
     idle: &Option<Chunk>,
 ) -> Result<Option<Header>, NoMemory>
-    requires appliances { deciders.now.appliances ≡ appliances_of f.now }
-    requires query { IsAskedIn f.now query.now }
-    requires before { asked before.now.fabric.now before.now.start before.now.goal
-        ≡ asked f.now query.now.start query.now.goal }
-    requires idle { IsIdle f.now query.now idle.now }
-    ensures { IfOk result (IsNeed f.now rule.now query.now) }
+    requires idle { IsIdle base.now.fabric.now base.now.query.now idle.now }
+    ensures { IfOk result (IsNeed base.now.fabric.now rule.now base.now.query.now) }
 {
     if is_of(idle, rule) {
         Ok(None)
     } else {
-        needed_by(alloc, f, deciders, before, query, rule)
+        needed_by(alloc, base, rule)
     }
 }
 
@@ -186,6 +183,5 @@ pub fn needed(
     requires query { IsAskedIn f.now query.now }
     ensures { IfOk result (IsNeed f.now rule.now query.now) }
 {
-    let before = RoundProbe::of(f, deciders, query.start, query.goal);
-    needed_by(alloc, f, deciders, &before, query, rule)
+    needed_by(alloc, &Baseline::of(f, deciders, query), rule)
 }

@@ -1,22 +1,17 @@
-use Rattle.std.proofs.Common.{None, ◌∙◌, ap}
+use Rattle.std.proofs.Common.{None, ap}
 use Rattle.vpc_base.proofs.Results.{if_ok}
-use Rattle.box_gather.specs.Over.{IsGatheredOver}
-use Rattle.box_walk.specs.Journeys.{reached_of}
 use Rattle.box_walk.specs.Open.{Starting, starting}
-use Rattle.vpc_laws.specs.Types.{Description}
-use Rattle.vpc_model.specs.Appliances.{appliances_of}
-use Rattle.vpc_model.specs.Cuts.{cuts_of}
 use Rattle.end_reach.proofs.RowLemmas.{gathered_by_start}
+use Rattle.end_reach.specs.Walked.{IsGatheredIn}
 use Rattle.end_reach.proofs.rows.gather_to_any.Goals as goal
 
 pub returns-clause-gathered : goal.returns-clause-gathered
 returns-clause-gathered g c =
     let p = c.turn.new.self in
-    let d = c.args.f.now in
-    if_ok (IsGatheredOver (reached_of p.fabric.now (appliances_of p.fabric.now) p.start None) (cuts_of p.fabric.now) c.args.boxes.now c.args.room)
-    (IsGatheredOver (reached_of d (appliances_of d) c.args.start None) (cuts_of d) c.args.boxes.now c.args.room) c.gather_over.result
-    (λ x. gathered_by_start (starting p.fabric.now p.start) (starting d c.args.start) c.args.boxes.now c.args.room x
-    (c.turn.ensures ∙ ap (λ (n : Description). starting n c.args.start) c.requires.network)) c.gather_over.ensures
+    let d = c.args.probe.now.fabric.now in
+    if_ok (IsGatheredIn p.fabric.now p.start None c.args.boxes.now c.args.room)
+    (IsGatheredIn d c.args.start None c.args.boxes.now c.args.room) c.gather_over.result
+    (λ x. gathered_by_start (starting p.fabric.now p.start) (starting d c.args.start) c.args.boxes.now c.args.room x c.turn.ensures) c.gather_over.ensures
 
 pub returns-clause-network : goal.returns-clause-network
-returns-clause-network g c = ap (λ (a : Starting). a.network) c.turn.ensures ∙ c.requires.network
+returns-clause-network g c = ap (λ (a : Starting). a.network) c.turn.ensures

@@ -3,4 +3,4 @@ use Rattle.unused_rules.proofs.Tallies.{AreUnderWay}
 use Rattle.unused_rules.proofs.answer.put_all_judged.Given as goal
 
 abbrev pub invariant-loop-rule : goal.invariant-loop-rule
-invariant-loop-rule g l = AreUnderWay l.f l.query (take l.rule-index l.rules) l.idle l.fn.out.items l.out.items
+invariant-loop-rule g l = AreUnderWay l.base.fabric.now l.base.query.now (take l.rule-index l.rules) l.idle l.fn.out.items l.out.items

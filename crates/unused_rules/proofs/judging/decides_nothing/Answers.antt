@@ -8,25 +8,25 @@ use Rattle.unused_rules.proofs.judging.decides_nothing.Goals as goal
 
 pub of-after-requires-clause-appliances : goal.of-after-requires-clause-appliances
 of-after-requires-clause-appliances g c =
-    let less : c.in_ok-fabric.fabric ≡ without_chunk c.args.f.now c.args.c.now =
+    let less : c.in_ok-fabric.fabric ≡ without_chunk c.args.base.now.fabric.now c.args.c.now =
     c.in_ok-fabric.ensures ∙ ap (λ (d : Description). without_chunk d c.args.c.now) c.network.ensures in
-    c.requires.appliances ∙ sym (ap appliances_of less ∙ appliances-kept c.args.f.now c.args.c.now)
+    c.args.base.now.described ∙ sym (ap appliances_of less ∙ appliances-kept c.args.base.now.fabric.now c.args.c.now)
 
 pub returns-in-None : goal.returns-in-None
 returns-in-None g c =
-    let less : c.in_ok-fabric.fabric ≡ without_chunk c.args.f.now c.args.c.now =
+    let less : c.in_ok-fabric.fabric ≡ without_chunk c.args.base.now.fabric.now c.args.c.now =
     c.in_ok-fabric.ensures ∙ ap (λ (d : Description). without_chunk d c.args.c.now) c.network.ensures in (
-      λ _. none_needs c.args.f.now c.in_ok-fabric.fabric c.args.c.now c.args.query.now _ _ c.in_ok-first_apart.field-0
-          less c.requires.before (c.look_ahead.ensures ∙ c.of-after.ensures) c.in_ok-first_apart.ensures c.in-None.is,
+      λ _. none_needs c.args.base.now.fabric.now c.in_ok-fabric.fabric c.args.c.now c.args.base.now.query.now _ _ c.in_ok-first_apart.field-0
+          less c.args.base.now.same_way (c.look_ahead.ensures ∙ c.of-after.ensures) c.in_ok-first_apart.ensures c.in-None.is,
       λ _. refl,
     )
 
 pub returns : goal.returns
 returns g c =
-    let less : c.in_ok-fabric.fabric ≡ without_chunk c.args.f.now c.args.c.now =
+    let less : c.in_ok-fabric.fabric ≡ without_chunk c.args.base.now.fabric.now c.args.c.now =
     c.in_ok-fabric.ensures ∙ ap (λ (d : Description). without_chunk d c.args.c.now) c.network.ensures in (
       λ e. absurd (false≢true e),
       λ idle. absurd
-          (one_needs c.args.f.now c.in_ok-fabric.fabric c.args.c.now c.args.query.now _ _ c.in_ok-first_apart.field-0 c.in-Some.field-0
-          less c.requires.before (c.look_ahead.ensures ∙ c.of-after.ensures) c.in_ok-first_apart.ensures c.in-Some.is idle),
+          (one_needs c.args.base.now.fabric.now c.in_ok-fabric.fabric c.args.c.now c.args.base.now.query.now _ _ c.in_ok-first_apart.field-0 c.in-Some.field-0
+          less c.args.base.now.same_way (c.look_ahead.ensures ∙ c.of-after.ensures) c.in_ok-first_apart.ensures c.in-Some.is idle),
     )

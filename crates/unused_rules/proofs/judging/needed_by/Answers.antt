@@ -8,20 +8,20 @@ use Rattle.unused_rules.proofs.judging.needed_by.Goals as goal
 
 pub of-after-requires-clause-appliances : goal.of-after-requires-clause-appliances
 of-after-requires-clause-appliances g c =
-    let less : c.in_ok-fabric.fabric ≡ without c.args.f.now c.args.rule.now = c.in_ok-fabric.ensures ∙ ap (λ (d : Description). without d c.args.rule.now) c.network.ensures in
-    c.requires.appliances ∙ sym (ap appliances_of less ∙ appliances-same c.args.f.now c.args.rule.now)
+    let less : c.in_ok-fabric.fabric ≡ without c.args.base.now.fabric.now c.args.rule.now = c.in_ok-fabric.ensures ∙ ap (λ (d : Description). without d c.args.rule.now) c.network.ensures in
+    c.args.base.now.described ∙ sym (ap appliances_of less ∙ appliances-same c.args.base.now.fabric.now c.args.rule.now)
 
 pub of-after-requires-clause-start : goal.of-after-requires-clause-start
 of-after-requires-clause-start g c =
-    let less : c.in_ok-fabric.fabric ≡ without c.args.f.now c.args.rule.now = c.in_ok-fabric.ensures ∙ ap (λ (d : Description). without d c.args.rule.now) c.network.ensures in
-    ap (λ (d : Description). is_end d c.args.query.now.start) less ∙ (is_end-same c.args.f.now c.args.rule.now c.args.query.now.start ∙ c.requires.query.start)
+    let less : c.in_ok-fabric.fabric ≡ without c.args.base.now.fabric.now c.args.rule.now = c.in_ok-fabric.ensures ∙ ap (λ (d : Description). without d c.args.rule.now) c.network.ensures in
+    ap (λ (d : Description). is_end d c.args.base.now.query.now.start) less ∙ (is_end-same c.args.base.now.fabric.now c.args.rule.now c.args.base.now.query.now.start ∙ c.args.base.now.known.start)
 
 pub of-after-requires-clause-goal : goal.of-after-requires-clause-goal
 of-after-requires-clause-goal g c =
-    let less : c.in_ok-fabric.fabric ≡ without c.args.f.now c.args.rule.now = c.in_ok-fabric.ensures ∙ ap (λ (d : Description). without d c.args.rule.now) c.network.ensures in
-    ap (λ (d : Description). is_end d c.args.query.now.goal) less ∙ (is_end-same c.args.f.now c.args.rule.now c.args.query.now.goal ∙ c.requires.query.goal)
+    let less : c.in_ok-fabric.fabric ≡ without c.args.base.now.fabric.now c.args.rule.now = c.in_ok-fabric.ensures ∙ ap (λ (d : Description). without d c.args.rule.now) c.network.ensures in
+    ap (λ (d : Description). is_end d c.args.base.now.query.now.goal) less ∙ (is_end-same c.args.base.now.fabric.now c.args.rule.now c.args.base.now.query.now.goal ∙ c.args.base.now.known.goal)
 
 pub returns : goal.returns
 returns g c =
-    let less : c.in_ok-fabric.fabric ≡ without c.args.f.now c.args.rule.now = c.in_ok-fabric.ensures ∙ ap (λ (d : Description). without d c.args.rule.now) c.network.ensures in
-    need_of c.args.f.now c.in_ok-fabric.fabric c.args.rule.now c.args.query.now _ _ c.first_apart.result less c.requires.before (c.look_ahead.ensures ∙ c.of-after.ensures) c.first_apart.ensures
+    let less : c.in_ok-fabric.fabric ≡ without c.args.base.now.fabric.now c.args.rule.now = c.in_ok-fabric.ensures ∙ ap (λ (d : Description). without d c.args.rule.now) c.network.ensures in
+    need_of c.args.base.now.fabric.now c.in_ok-fabric.fabric c.args.rule.now c.args.base.now.query.now _ _ c.first_apart.result less c.args.base.now.same_way (c.look_ahead.ensures ∙ c.of-after.ensures) c.first_apart.ensures
