@@ -21,7 +21,8 @@ pub trait OneFile {
     /// What is answered to the words in a network.
     fn answer(&self, alloc: Global, network: Network, words: &[String]) -> Result<Answer, NoMemory>
         requires count { counts self.now (length words.now) }
-        ensures { IfOk result (λ a. answers self.now (map string_bytes words.now) network a.status a.text.items) };
+        ensures { IfOk result (λ a.
+            answers self.now (map string_bytes words.now) network a.status a.text.items) };
 }
 
 /// A command with a second file, which is answered by that file's bytes in the network that the first one describes.

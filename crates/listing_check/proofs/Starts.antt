@@ -123,15 +123,15 @@ pub record IsStep (starts : List Listed) (k : ℕ) (p : Passed) (rows : List (Ro
   pub at : IsLookAt starts k rows look
   pub room : p.rows + length rows ≤ row_limit
 
-pub step_at : (asked : List Asked) (lists : List (List (Row (List ℕ)))) (k : ℕ) (p : Passed) (list rows : List (Row (List ℕ))) (look : Look)
+pub step_at : (asked : List Asked) (lists : List (List (Row (List ℕ)))) (k : ℕ) (p : Passed) (list rows : List (Row (List ℕ))) (seen look : Look)
     → length lists ≡ length asked → row_count lists ≤ row_limit → k < length lists → rows ≡ list → list ≡ get_or lists k list → ArePassed (listed_of asked lists) k p
-    → Sees asked p.starts rows look → IsStep (listed_of asked lists) k p rows look
-step_at asked lists k p list rows look count few below lent is passed found =
+    → Sees asked p.starts rows seen → seen ≡ look → IsStep (listed_of asked lists) k p rows look
+step_at asked lists k p list rows seen look count few below lent is passed found same =
     let item = item_is lists k list rows below lent is in
     let upto = rows-upto asked lists k rows count below item few in
     let before = passed.rows in
     record {
-      at = looked_at asked lists k p.starts rows look count below item passed.starts found;
+      at = looked_at asked lists k p.starts rows look count below item passed.starts (subst (Sees asked p.starts rows) same found);
       room = omega (arith, upto, before);
     }
 

@@ -70,7 +70,8 @@ pub fn answer_lines<Q: Question>(
 ) -> Result<Answer, NoMemory>
     requires origins { origins.now ≡ origins_of (Q.asked q.now) }
     requires starts { length origins.now < 2 ^ 32 }
-    ensures { IfOk result (λ a. IsListingChecked (Q.asked q.now) ended (map (λ l. l.now) lines.now) a.status a.text.items) }
+    ensures { IfOk result (λ a.
+        IsListingChecked (Q.asked q.now) ended (map (λ l. l.now) lines.now) a.status a.text.items) }
 {
     match read_lists(alloc, origins, ended, lines) {
         Ok(lists) => answer_lists(alloc, q, lists.as_slice()),

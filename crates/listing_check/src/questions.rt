@@ -23,7 +23,8 @@ pub trait Question {
         requires start { start < length (asked self.now) }
         requires rows { All (λ r. IsValid r.part) rows.now }
         requires few { length rows.now ≤ row_limit }
-        ensures { IfOk result (λ look. IfSome (slice_get (asked self.now) start) (λ a. IsLook (record { asked = a; rows = rows.now }) look)) };
+        ensures { IfOk result (λ look. IfSome (slice_get (asked self.now) start)
+            (λ a. IsLook (record { asked = a; rows = rows.now }) look)) };
 
     /// The id of a start.
     fn id(&self, start: u32) -> &[u8]
@@ -33,5 +34,6 @@ pub trait Question {
     /// Appends what becomes of a request from a start.
     fn put_outcome(&self, out: &mut Vec<u8>, start: u32, h: &Header) -> Result<(), NoMemory>
         requires start { start < length (asked self.now) }
-        ensures { OnOk result (out.new.items ≡ out.old.items ++ outcome_of (slice_get (asked self.now) start) h.now) };
+        ensures { OnOk result (out.new.items
+            ≡ out.old.items ++ outcome_of (slice_get (asked self.now) start) h.now) };
 }

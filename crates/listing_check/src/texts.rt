@@ -17,7 +17,8 @@ fn put_outcome_word<Q: Question>(
     h: &Header,
 ) -> Result<(), NoMemory>
     requires { start < length (Q.asked q.now) }
-    ensures { OnOk result (out.new.items ≡ out.old.items ++ word (outcome_of (slice_get (Q.asked q.now) start) h.now)) }
+    ensures { OnOk result (out.new.items
+        ≡ out.old.items ++ word (outcome_of (slice_get (Q.asked q.now) start) h.now)) }
 {
     put(out, b" ")?;
     q.put_outcome(out, start, h)
@@ -31,7 +32,8 @@ fn put_untrue<Q: Question>(
     h: &Header,
 ) -> Result<(), NoMemory>
     requires { start < length (Q.asked q.now) }
-    ensures { OnOk result (out.new.items ≡ out.old.items ++ word (decimal number) ++ word (header_text h.now)
+    ensures { OnOk result (out.new.items
+        ≡ out.old.items ++ word (decimal number) ++ word (header_text h.now)
         ++ word (outcome_of (slice_get (Q.asked q.now) start) h.now)) }
 {
     put_number_word(out, u128::from(number))?;
@@ -46,7 +48,8 @@ fn put_unlisted<Q: Question>(
     h: &Header,
 ) -> Result<(), NoMemory>
     requires { start < length (Q.asked q.now) }
-    ensures { OnOk result (out.new.items ≡ out.old.items ++ word (id_of (slice_get (Q.asked q.now) start)) ++ word (header_text h.now)
+    ensures { OnOk result (out.new.items
+        ≡ out.old.items ++ word (id_of (slice_get (Q.asked q.now) start)) ++ word (header_text h.now)
         ++ word (outcome_of (slice_get (Q.asked q.now) start) h.now)) }
 {
     put_word(out, q.id(start))?;

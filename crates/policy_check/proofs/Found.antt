@@ -7,11 +7,10 @@ use Rattle.network_reach.proofs.ReachableLemmas.{nothing-stops}
 use Rattle.query_words.specs.declared.queries.Query.{Query}
 use Rattle.vpc_laws.proofs.Telling.{verdicts_are_told}
 use Rattle.vpc_laws.specs.Sound.{IsTold}
-use Rattle.vpc_laws.specs.Types.{Description, Header, Phase, Stop}
+use Rattle.vpc_laws.specs.Types.{Description, Header, Phase, Stop, Verdict}
 use Rattle.vpc_model.specs.Accepted.{IsAccepted}
 use Rattle.vpc_model.specs.Appliances.{appliances_of}
 use Rattle.vpc_model.specs.Report.{ending_of}
-use Rattle.vpc_model.specs.declared.outcomes.Verdict.{Verdict}
 use Rattle.vpc_model.specs.declared.outcomes.Verdict.TheVariants as verdicts
 use Rattle.policy_check.specs.Judged as judged
 use Rattle.policy_check.specs.Judged.{AllThrough, CanBeTold, Fails, IsFirstStopped, SomeThrough, verdict_in}

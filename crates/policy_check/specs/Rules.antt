@@ -21,9 +21,9 @@ abbrev pub is_passed_over : List ℕ → Bool
 is_passed_over [] = true
 is_passed_over (c ∷ cs) = c == 35
 
--- the other lines of a text, each with its number, from 1, among all of them
-abbrev pub rule_lines : List ℕ → List (ℕ × List ℕ)
-rule_lines text = filter (λ l. not (is_passed_over l.1)) (enumerate_from 1 (lines_of text))
+-- the other lines, each with its number, from 1, among all of them
+abbrev pub rule_lines : List (List ℕ) → List (ℕ × List ℕ)
+rule_lines lines = filter (λ l. not (is_passed_over l.1)) (enumerate_from 1 lines)
 
 -- ---- rules
 
@@ -67,9 +67,13 @@ abbrev pub rules_in : Description → List (ℕ × List ℕ) → Option (ℕ × 
 rules_in d lines (Some l) = Err l.0
 rules_in d lines None = Ok (filter_map (rule_of d) lines)
 
--- the rules of a text, or the number of its first line that is neither passed over nor a rule
+-- the rules among lines, or the number of the first line that is neither passed over nor a rule
+abbrev pub rules_among : Description → List (List ℕ) → Result (List PolicyRule) ℕ
+rules_among d lines = let read = rule_lines lines in rules_in d read (bad_line d read)
+
+-- those of a text
 abbrev pub rules_of : Description → List ℕ → Result (List PolicyRule) ℕ
-rules_of d text = let lines = rule_lines text in rules_in d lines (bad_line d lines)
+rules_of d text = rules_among d (lines_of text)
 
 -- the rules that are meant, or the first bad line, or memory was wanting
 abbrev pub AreRead : {A : Type 0} → Result (List PolicyRule) ℕ → Result (Vec PolicyRule A) RulesFault → Type 0

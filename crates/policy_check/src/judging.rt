@@ -31,40 +31,6 @@ pub enum Failure {
     Stopped(Header, Phase, Stop),
 }
 
-// Whether one gets through.
-fn unless_one(
-    alloc: Global,
-    f: &Fabric,
-    deciders: &Deciders,
-    query: &Query,
-) -> Result<Option<Failure>, NoMemory>
-    requires appliances { deciders.now.appliances ≡ appliances_of f.now }
-    requires query { IsQueryIn f.now query.now }
-    ensures { IfOk result (IsFound f.now Wanted.Reachable query.now) }
-{
-    match first_through(alloc, f, deciders, query)? {
-        Some(_) => Ok(None),
-        None => Ok(Some(Failure::NoneThrough)),
-    }
-}
-
-// Whether none does.
-fn unless_none(
-    alloc: Global,
-    f: &Fabric,
-    deciders: &Deciders,
-    query: &Query,
-) -> Result<Option<Failure>, NoMemory>
-    requires appliances { deciders.now.appliances ≡ appliances_of f.now }
-    requires query { IsQueryIn f.now query.now }
-    ensures { IfOk result (IsFound f.now Wanted.Blocked query.now) }
-{
-    match first_through(alloc, f, deciders, query)? {
-        Some(h) => Ok(Some(Failure::Through(h))),
-        None => Ok(None),
-    }
-}
-
 // The first request of a query that doesn't get through, if one doesn't.
 fn first_stopped(
     alloc: Global,
@@ -85,29 +51,13 @@ fn first_stopped(
 fn failure_at(f: &Fabric, deciders: &Deciders, query: &Query, h: Header) -> Failure
     requires appliances { deciders.now.appliances ≡ appliances_of f.now }
     requires query { IsQueryIn f.now query.now }
-    requires first { IsFirstThrough (passing_of (asked f.now query.now.start query.now.goal)) query.now.sides h }
+    requires first { IsFirstThrough
+        (passing_of (asked f.now query.now.start query.now.goal)) query.now.sides h }
     ensures { Fails f.now Wanted.Open query.now result }
 {
     match round(f, deciders, query.start, query.goal, h) {
         Verdict::Stopped(phase, stop) => Failure::Stopped(h, phase, stop),
         Verdict::Through => unreachable!(),
-    }
-}
-
-// Whether all get through.
-fn unless_all(
-    alloc: Global,
-    f: &Fabric,
-    deciders: &Deciders,
-    query: &Query,
-) -> Result<Option<Failure>, NoMemory>
-    requires appliances { deciders.now.appliances ≡ appliances_of f.now }
-    requires query { IsQueryIn f.now query.now }
-    ensures { IfOk result (IsFound f.now Wanted.Open query.now) }
-{
-    match first_stopped(alloc, f, deciders, query)? {
-        Some(h) => Ok(Some(failure_at(f, deciders, query, h))),
-        None => Ok(None),
     }
 }
 
@@ -123,9 +73,19 @@ pub fn failure_of(
     requires query { IsQueryIn f.now rule.now.query }
     ensures { IfOk result (IsFound f.now rule.now.wanted rule.now.query) }
 {
+    let query = &rule.query;
     match rule.wanted {
-        Wanted::Reachable => unless_one(alloc, f, deciders, &rule.query),
-        Wanted::Blocked => unless_none(alloc, f, deciders, &rule.query),
-        Wanted::Open => unless_all(alloc, f, deciders, &rule.query),
+        Wanted::Reachable => match first_through(alloc, f, deciders, query)? {
+            Some(_) => Ok(None),
+            None => Ok(Some(Failure::NoneThrough)),
+        },
+        Wanted::Blocked => match first_through(alloc, f, deciders, query)? {
+            Some(h) => Ok(Some(Failure::Through(h))),
+            None => Ok(None),
+        },
+        Wanted::Open => match first_stopped(alloc, f, deciders, query)? {
+            Some(h) => Ok(Some(failure_at(f, deciders, query, h))),
+            None => Ok(None),
+        },
     }
 }

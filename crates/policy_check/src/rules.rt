@@ -1,8 +1,7 @@
 // The rules of a policy, one a line.
-ghost use Rattle.std.specs.Prelude.{◌≡◌, ◌≢◌, ◌≤◌, All, IfOk, IfSome, IsTrue, length, map, not};
-ghost use Rattle.std.specs.List.{enumerate_from, filter};
+ghost use Rattle.std.specs.Prelude.{◌≡◌, ◌≢◌, ◌≤◌, All, IfOk, IfSome, IsTrue, length, map};
 ghost use Rattle.network_reach.specs.Reached.{IsQueryIn};
-ghost use Rattle.policy_check.specs.Rules.{AreRead, are_query_words, bad_line, is_passed_over, names_max, query_in, rule_in, rule_of, rules_in, rules_of, wanted_of};
+ghost use Rattle.policy_check.specs.Rules.{AreRead, are_query_words, is_passed_over, names_max, query_in, rule_in, rule_of, rules_among, rules_of, wanted_of};
 ghost use Rattle.query_words.specs.declared.refusal.QueryRefusal.TheVariants as refusals;
 ghost use Rattle.policy_check.specs.declared.rules.RulesFault.TheVariants.{Memory};
 
@@ -175,8 +174,7 @@ fn rule_of(
 
 // The rules of the lines that aren't passed over.
 fn read_lines(alloc: Global, n: &Network, lines: &[&[u8]]) -> Result<Vec<PolicyRule>, RulesFault>
-    ensures rules { let rule_lines = filter (λ l. not (is_passed_over l.1)) (enumerate_from 1 (map (λ l. l.now) lines.now)) in
-        AreRead (rules_in n.now rule_lines (bad_line n.now rule_lines)) result }
+    ensures rules { AreRead (rules_among n.now (map (λ l. l.now) lines.now)) result }
     ensures known { IfOk result (λ v. All (λ rule. IsQueryIn n.now rule.query) v.items) }
 {
     let mut rules = Vec::new(alloc);

@@ -85,28 +85,8 @@ fn put_names(out: &mut Vec<u8>, f: &Fabric, from: EniNo, to: EniNo) -> Result<()
     put_word(out, interface_at(f, to).id.bytes())
 }
 
-fn put_pair(
-    out: &mut Vec<u8>,
-    f: &Fabric,
-    round: &mut RoundProbe,
-    ports: (u16, u16),
-    from: EniNo,
-    to: EniNo,
-) -> Result<(), NoMemory>
-    requires network { round.old.fabric.now ≡ f.now }
-    requires ports { ports.0 ≤ ports.1 }
-    requires from { IsTrue (is_eni f.now from) }
-    requires to { IsTrue (is_eni f.now to) }
-    ensures text { OnOk result (Adds (IsPairLine f.now ports (from, to)) out.old.items out.new.items) }
-    ensures network { round.new.fabric.now ≡ f.now }
-{
-    put_names(out, f, from, to)?;
-    put_told(out, f, round, ports, from, to)?;
-    put_end(out)
-}
-
 // The line of a pair, unless it is an interface with itself.
-fn put_unless_same(
+fn put_pair(
     out: &mut Vec<u8>,
     f: &Fabric,
     round: &mut RoundProbe,
@@ -125,7 +105,9 @@ fn put_unless_same(
     if to.0 == from.0 {
         return Ok(());
     }
-    put_pair(out, f, round, ports, from, to)
+    put_names(out, f, from, to)?;
+    put_told(out, f, round, ports, from, to)?;
+    put_end(out)
 }
 
 // The lines of an interface with each of the others.
@@ -146,7 +128,7 @@ fn put_row(
     ensures network { round.new.fabric.now ≡ f.now }
 {
     for to in hosts {
-        put_unless_same(out, f, round, ports, from, *to)?;
+        put_pair(out, f, round, ports, from, *to)?;
     }
     Ok(())
 }

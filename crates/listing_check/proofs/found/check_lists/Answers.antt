@@ -1,9 +1,9 @@
-use Rattle.std.proofs.Common.{◌<◌, List, arith, length, subst, sym, ℕ}
+use Rattle.std.proofs.Common.{List, arith, length, subst, sym, ℕ}
 use Rattle.std.specs.Prelude.{All}
 use Rattle.std.proofs.lemmas.List.{take_all}
 use Rattle.header_boxes.specs.Boxes.{IsValid}
 use Rattle.header_boxes.specs.declared.rows.Row.{Row}
-use Rattle.listing_check.proofs.Counted.{Sees, item_is, length-listed, rows-upto}
+use Rattle.listing_check.proofs.Counted.{item_is, length-listed, rows-upto}
 use Rattle.listing_check.proofs.Starts.{found_if_passed, none_passed, overlap_room, overlap_step, passed_step, step_at, untrue_room}
 use Rattle.listing_check.specs.Asked.{listed_of}
 use Rattle.listing_check.specs.Found.{IsFound}
@@ -24,41 +24,31 @@ look-requires-clause-rows g c =
     let lists = c.args.lists.now in
     let k = c.loop-list.list-index in
     let rows = c.as_slice-rows.result.now in
-    let below : k < length lists = omega arith in
-    let at = item_is lists k c.list-item.result rows below c.as_slice-rows.ensures c.list-item.is in
-    subst (λ (xs : List (Row (List ℕ))). All (λ (r : Row (List ℕ)). IsValid r.part) xs) (sym at) (c.requires.valid k rows below)
+    let at = item_is lists k c.list-item.result rows (omega arith) c.as_slice-rows.ensures c.list-item.is in
+    subst (λ (xs : List (Row (List ℕ))). All (λ (r : Row (List ℕ)). IsValid r.part) xs) (sym at) (c.requires.valid k rows (omega arith))
 
 pub look-requires-clause-few : goal.look-requires-clause-few
 look-requires-clause-few g c =
     let lists = c.args.lists.now in
     let k = c.loop-list.list-index in
     let rows = c.as_slice-rows.result.now in
-    let below : k < length lists = omega arith in
-    let at = item_is lists k c.list-item.result rows below c.as_slice-rows.ensures c.list-item.is in
-    let upto = rows-upto (g.Q.Question.asked c.args.q.now) lists k rows c.requires.count below at c.requires.few in
+    let at = item_is lists k c.list-item.result rows (omega arith) c.as_slice-rows.ensures c.list-item.is in
+    let upto = rows-upto (g.Q.Question.asked c.args.q.now) lists k rows c.requires.count (omega arith) at c.requires.few in
     omega (arith, upto)
 
 pub returns-in-Overlap : goal.returns-in-Overlap
 returns-in-Overlap g c =
     let asked = g.Q.Question.asked c.args.q.now in
     let lists = c.args.lists.now in
-    let k = c.loop-list.list-index in
-    let rows = c.as_slice-rows.result.now in
-    let p = c.loop-list.passed in
-    let sees = subst (Sees asked p.starts rows) c.in-Overlap.is c.in_ok-i.ensures in
-    let step = step_at asked lists k p c.list-item.result rows (looks.Overlap c.in-Overlap.i c.in-Overlap.j) c.requires.count c.requires.few (omega arith) c.as_slice-rows.ensures c.list-item.is c.loop-list.invariant sees in
-    overlap_step (listed_of asked lists) k p rows c.in-Overlap.i c.in-Overlap.j c.loop-list.invariant step
+    let step = step_at asked lists c.loop-list.list-index c.loop-list.passed c.list-item.result c.as_slice-rows.result.now _ (looks.Overlap c.in-Overlap.i c.in-Overlap.j) c.requires.count c.requires.few (omega arith) c.as_slice-rows.ensures c.list-item.is c.loop-list.invariant c.in_ok-i.ensures c.in-Overlap.is in
+    overlap_step (listed_of asked lists) c.loop-list.list-index c.loop-list.passed c.as_slice-rows.result.now c.in-Overlap.i c.in-Overlap.j c.loop-list.invariant step
 
 pub loop-list-preserved : goal.loop-list-preserved
 loop-list-preserved g c =
     let asked = g.Q.Question.asked c.args.q.now in
     let lists = c.args.lists.now in
-    let k = c.loop-list.list-index in
-    let rows = c.as_slice-rows.result.now in
-    let p = c.loop-list.passed in
-    let sees = subst (Sees asked p.starts rows) c.in-Apart.is c.in_ok-i.ensures in
-    let step = step_at asked lists k p c.list-item.result rows (looks.Apart c.in-Apart.untrue c.in-Apart.unlisted) c.requires.count c.requires.few (omega arith) c.as_slice-rows.ensures c.list-item.is c.loop-list.invariant sees in
-    passed_step (listed_of asked lists) k p c.with-passed.result rows c.in-Apart.untrue c.in-Apart.unlisted c.loop-list.invariant step
+    let step = step_at asked lists c.loop-list.list-index c.loop-list.passed c.list-item.result c.as_slice-rows.result.now _ (looks.Apart c.in-Apart.untrue c.in-Apart.unlisted) c.requires.count c.requires.few (omega arith) c.as_slice-rows.ensures c.list-item.is c.loop-list.invariant c.in_ok-i.ensures c.in-Apart.is in
+    passed_step (listed_of asked lists) c.loop-list.list-index c.loop-list.passed c.with-passed.result c.as_slice-rows.result.now c.in-Apart.untrue c.in-Apart.unlisted c.loop-list.invariant step
     c.with-passed.ensures.starts c.with-passed.ensures.rows c.with-passed.ensures.untrue c.with-passed.ensures.left_out
 
 pub returns : goal.returns
@@ -73,56 +63,36 @@ pub overflow_add-result-in-Overlap : goal.overflow_add-result-in-Overlap
 overflow_add-result-in-Overlap g c =
     let asked = g.Q.Question.asked c.args.q.now in
     let lists = c.args.lists.now in
-    let k = c.loop-list.list-index in
-    let rows = c.as_slice-rows.result.now in
-    let p = c.loop-list.passed in
-    let sees = subst (Sees asked p.starts rows) c.in-Overlap.is c.in_ok-i.ensures in
-    let step = step_at asked lists k p c.list-item.result rows (looks.Overlap c.in-Overlap.i c.in-Overlap.j) c.requires.count c.requires.few (omega arith) c.as_slice-rows.ensures c.list-item.is c.loop-list.invariant sees in
-    let room = overlap_room (listed_of asked lists) k p rows c.in-Overlap.i c.in-Overlap.j step in
+    let step = step_at asked lists c.loop-list.list-index c.loop-list.passed c.list-item.result c.as_slice-rows.result.now _ (looks.Overlap c.in-Overlap.i c.in-Overlap.j) c.requires.count c.requires.few (omega arith) c.as_slice-rows.ensures c.list-item.is c.loop-list.invariant c.in_ok-i.ensures c.in-Overlap.is in
+    let room = overlap_room (listed_of asked lists) c.loop-list.list-index c.loop-list.passed c.as_slice-rows.result.now c.in-Overlap.i c.in-Overlap.j step in
     omega (arith, room.0, room.1)
 
 pub overflow_add-result-in-Overlap-2 : goal.overflow_add-result-in-Overlap-2
 overflow_add-result-in-Overlap-2 g c =
     let asked = g.Q.Question.asked c.args.q.now in
     let lists = c.args.lists.now in
-    let k = c.loop-list.list-index in
-    let rows = c.as_slice-rows.result.now in
-    let p = c.loop-list.passed in
-    let sees = subst (Sees asked p.starts rows) c.in-Overlap.is c.in_ok-i.ensures in
-    let step = step_at asked lists k p c.list-item.result rows (looks.Overlap c.in-Overlap.i c.in-Overlap.j) c.requires.count c.requires.few (omega arith) c.as_slice-rows.ensures c.list-item.is c.loop-list.invariant sees in
-    let room = overlap_room (listed_of asked lists) k p rows c.in-Overlap.i c.in-Overlap.j step in
+    let step = step_at asked lists c.loop-list.list-index c.loop-list.passed c.list-item.result c.as_slice-rows.result.now _ (looks.Overlap c.in-Overlap.i c.in-Overlap.j) c.requires.count c.requires.few (omega arith) c.as_slice-rows.ensures c.list-item.is c.loop-list.invariant c.in_ok-i.ensures c.in-Overlap.is in
+    let room = overlap_room (listed_of asked lists) c.loop-list.list-index c.loop-list.passed c.as_slice-rows.result.now c.in-Overlap.i c.in-Overlap.j step in
     omega (arith, room.0, room.1)
 
 pub overflow_add-result-in-Overlap-3 : goal.overflow_add-result-in-Overlap-3
 overflow_add-result-in-Overlap-3 g c =
     let asked = g.Q.Question.asked c.args.q.now in
     let lists = c.args.lists.now in
-    let k = c.loop-list.list-index in
-    let rows = c.as_slice-rows.result.now in
-    let p = c.loop-list.passed in
-    let sees = subst (Sees asked p.starts rows) c.in-Overlap.is c.in_ok-i.ensures in
-    let step = step_at asked lists k p c.list-item.result rows (looks.Overlap c.in-Overlap.i c.in-Overlap.j) c.requires.count c.requires.few (omega arith) c.as_slice-rows.ensures c.list-item.is c.loop-list.invariant sees in
-    let room = overlap_room (listed_of asked lists) k p rows c.in-Overlap.i c.in-Overlap.j step in
+    let step = step_at asked lists c.loop-list.list-index c.loop-list.passed c.list-item.result c.as_slice-rows.result.now _ (looks.Overlap c.in-Overlap.i c.in-Overlap.j) c.requires.count c.requires.few (omega arith) c.as_slice-rows.ensures c.list-item.is c.loop-list.invariant c.in_ok-i.ensures c.in-Overlap.is in
+    let room = overlap_room (listed_of asked lists) c.loop-list.list-index c.loop-list.passed c.as_slice-rows.result.now c.in-Overlap.i c.in-Overlap.j step in
     omega (arith, room.0, room.1)
 
 pub with-passed-requires-clause-rows : goal.with-passed-requires-clause-rows
 with-passed-requires-clause-rows g c =
     let asked = g.Q.Question.asked c.args.q.now in
     let lists = c.args.lists.now in
-    let k = c.loop-list.list-index in
-    let rows = c.as_slice-rows.result.now in
-    let p = c.loop-list.passed in
-    let sees = subst (Sees asked p.starts rows) c.in-Apart.is c.in_ok-i.ensures in
-    let step = step_at asked lists k p c.list-item.result rows (looks.Apart c.in-Apart.untrue c.in-Apart.unlisted) c.requires.count c.requires.few (omega arith) c.as_slice-rows.ensures c.list-item.is c.loop-list.invariant sees in
+    let step = step_at asked lists c.loop-list.list-index c.loop-list.passed c.list-item.result c.as_slice-rows.result.now _ (looks.Apart c.in-Apart.untrue c.in-Apart.unlisted) c.requires.count c.requires.few (omega arith) c.as_slice-rows.ensures c.list-item.is c.loop-list.invariant c.in_ok-i.ensures c.in-Apart.is in
     step.room
 
 pub with-passed-requires-clause-untrue : goal.with-passed-requires-clause-untrue
 with-passed-requires-clause-untrue g c =
     let asked = g.Q.Question.asked c.args.q.now in
     let lists = c.args.lists.now in
-    let k = c.loop-list.list-index in
-    let rows = c.as_slice-rows.result.now in
-    let p = c.loop-list.passed in
-    let sees = subst (Sees asked p.starts rows) c.in-Apart.is c.in_ok-i.ensures in
-    let step = step_at asked lists k p c.list-item.result rows (looks.Apart c.in-Apart.untrue c.in-Apart.unlisted) c.requires.count c.requires.few (omega arith) c.as_slice-rows.ensures c.list-item.is c.loop-list.invariant sees in
-    untrue_room (listed_of asked lists) k p rows c.in-Apart.untrue c.in-Apart.unlisted step
+    let step = step_at asked lists c.loop-list.list-index c.loop-list.passed c.list-item.result c.as_slice-rows.result.now _ (looks.Apart c.in-Apart.untrue c.in-Apart.unlisted) c.requires.count c.requires.few (omega arith) c.as_slice-rows.ensures c.list-item.is c.loop-list.invariant c.in_ok-i.ensures c.in-Apart.is in
+    untrue_room (listed_of asked lists) c.loop-list.list-index c.loop-list.passed c.as_slice-rows.result.now c.in-Apart.untrue c.in-Apart.unlisted step

@@ -15,9 +15,9 @@ loop-to-preserved g c =
     let k = c.loop-to.to-index in
     let to = get_or hosts k (numbered 0) in
     record {
-      text = row_more (IsPairLine c.args.f.now c.args.ports) hosts c.args.from k to c.args.out.now.items c.loop-to.out.items c.put_unless_same.new.out.items
-          c.loop-to-test.true (get_or_default hosts k (numbered 0) to c.loop-to-test.true) c.loop-to.invariant.text c.in_ok-put_unless_same.ensures.text;
-      network = c.in_ok-put_unless_same.ensures.network;
+      text = row_more (IsPairLine c.args.f.now c.args.ports) hosts c.args.from k to c.args.out.now.items c.loop-to.out.items c.put_pair.new.out.items
+          c.loop-to-test.true (get_or_default hosts k (numbered 0) to c.loop-to-test.true) c.loop-to.invariant.text c.in_ok-put_pair.ensures.text;
+      network = c.in_ok-put_pair.ensures.network;
     }
 
 pub returns-clause-text : goal.returns-clause-text
