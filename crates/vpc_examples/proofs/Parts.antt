@@ -12,7 +12,7 @@ use Rattle.header_boxes.specs.Cells.{IsAligned}
 use Rattle.header_boxes.specs.Rows.{AreOrdered, AreTrueRows, HasWord, IsFirstOutside, IsTrueReport, NoneThrough}
 use Rattle.header_boxes.proofs.Held.{holds_from_in, in_from_holds, low_under}
 use Rattle.header_boxes.proofs.Order.{not_before_if_under}
-use Rattle.vpc_examples.specs.Types.{Box5, Header, Row, StopText}
+use Rattle.vpc_laws.specs.Types.{Box5, Header, Row, StopText}
 use Rattle.vpc_examples.specs.Networks.{v4}
 use Rattle.vpc_examples.specs.ReportRows.{detached, detached_means, from_a, row_to, to_b, to_port, to_ports}
 use Rattle.vpc_examples.proofs.Numbers.{among, ascending}

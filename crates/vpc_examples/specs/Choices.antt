@@ -1,6 +1,6 @@
 -- Choices among rows, and what a rule's far address is.
 use Rattle.std.specs.Prelude.{◌∷◌, ◌≡◌, [], List, None, Option, Some, codes, false, true}
-use Rattle.vpc_examples.specs.Types.{Block, Description, Header, Permission, RuleRef}
+use Rattle.vpc_laws.specs.Types.{Block, Description, Header, Permission, RuleRef}
 use Rattle.vpc_base.specs.declared.headers.Dir.TheVariants as dirs
 use Rattle.vpc_base.specs.declared.headers.Label.TheVariants as labels
 use Rattle.vpc_model.specs.declared.places.Place.TheVariants as places

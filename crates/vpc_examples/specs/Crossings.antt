@@ -1,6 +1,6 @@
 -- From VPC to VPC over a peering, and UDP and ICMP through a NAT gateway.
 use Rattle.std.specs.Prelude.{◌==◌, ◌++◌, ◌∷◌, ◌≡◌, ◌+◌, [], if◌then◌else◌, List, codes, false, length, map, ℕ}
-use Rattle.vpc_examples.specs.Types.{Description, Header}
+use Rattle.vpc_laws.specs.Types.{Description, Header}
 use Rattle.vpc_model.specs.declared.places.End.TheVariants as ends
 use Rattle.vpc_model.specs.declared.places.Came.TheVariants as from
 use Rattle.vpc_base.specs.declared.headers.Label.TheVariants as labels

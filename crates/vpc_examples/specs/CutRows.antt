@@ -1,7 +1,7 @@
 -- Where answers may change in a small network: the cuts of each kind of row, and of the rows that each place asks.
 use Rattle.std.specs.List.{list_all, list_any}
 use Rattle.std.specs.Prelude.{◌&&◌, ◌++◌, ◌∷◌, ◌≡◌, [], Bool, List, Some, codes, false, map, nat_eq, true, ℕ}
-use Rattle.vpc_examples.specs.Types.{AttNo, Description, Place, PrefixList, Route}
+use Rattle.vpc_laws.specs.Types.{AttNo, Description, Place, PrefixList, Route}
 use Rattle.vpc_model.specs.declared.rows.ApplianceKind.TheVariants as forwards
 use Rattle.vpc_model.specs.declared.places.Came.TheVariants as from
 use Rattle.vpc_model.specs.declared.places.Place.TheVariants as places

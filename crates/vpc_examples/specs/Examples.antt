@@ -1,6 +1,6 @@
 -- What packets do in small networks.
 use Rattle.std.specs.Prelude.{◌∷◌, ◌≡◌, [], Bool, List, None, Some, codes, false, map, true, ℕ}
-use Rattle.vpc_examples.specs.Types.{AttNo, By, Description, Dir, End, EniNo, Header, Hop, Label, NatNo, Outcome, Place, SubnetNo, Verdict, VpcNo}
+use Rattle.vpc_laws.specs.Types.{AttNo, By, Description, Dir, End, EniNo, Header, Hop, Label, NatNo, Outcome, Place, SubnetNo, Verdict, VpcNo}
 use Rattle.vpc_model.specs.declared.outcomes.By.TheVariants as bys
 use Rattle.vpc_base.specs.declared.headers.Dir.TheVariants as dirs
 use Rattle.vpc_model.specs.declared.places.End.TheVariants as ends

@@ -1,6 +1,6 @@
 -- Which of several is told, or gets the packet: groups that allow it, ACLs that refuse it, NAT gateways that it comes to.
 use Rattle.std.specs.Prelude.{◌∷◌, ◌≡◌, [], List, Some, codes, false, map, true, ℕ}
-use Rattle.vpc_examples.specs.Types.{AclRow, By, Description, NatGateway, Outcome, Permission}
+use Rattle.vpc_laws.specs.Types.{AclRow, By, Description, NatGateway, Outcome, Permission}
 use Rattle.vpc_model.specs.declared.outcomes.By.TheVariants as bys
 use Rattle.vpc_base.specs.declared.headers.Dir.TheVariants as dirs
 use Rattle.vpc_model.specs.declared.places.End.TheVariants as ends

@@ -1,4 +1,3 @@
-pub mod Types
 pub mod Networks
 pub mod Examples
 pub mod Stops

@@ -1,6 +1,6 @@
 -- An appliance between two subnets.
 use Rattle.std.specs.Prelude.{◌∷◌, ◌≡◌, [], List, codes, false, true, ℕ}
-use Rattle.vpc_examples.specs.Types.{ApplianceKind, Description, Outcome, RouteTable}
+use Rattle.vpc_laws.specs.Types.{ApplianceKind, Description, Outcome, RouteTable}
 use Rattle.vpc_model.specs.declared.places.End.TheVariants as ends
 use Rattle.vpc_model.specs.declared.rows.ApplianceKind.TheVariants as forwards
 use Rattle.vpc_base.specs.declared.headers.Label.TheVariants as labels

@@ -1,6 +1,6 @@
 -- The reply of a request, where it is walked, and the cuts on which the verdict depends: those of the places of the two walks.
 use Rattle.std.specs.Prelude.{◌++◌, ◌∷◌, ◌≡◌, [], List, Some, codes, false, map, true, ℕ}
-use Rattle.vpc_examples.specs.Types.{Description, End, Header, Hop, Place, RouteTable}
+use Rattle.vpc_laws.specs.Types.{Description, End, Header, Hop, Place, RouteTable}
 use Rattle.vpc_model.specs.declared.places.Came.TheVariants as from
 use Rattle.vpc_model.specs.declared.places.End.TheVariants as ends
 use Rattle.vpc_model.specs.declared.places.Place.TheVariants as places

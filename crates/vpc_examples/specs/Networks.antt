@@ -1,6 +1,6 @@
 -- Small networks, in which worked walks are told.
 use Rattle.std.specs.Prelude.{◌++◌, ◌∷◌, ◌+◌, ◌*◌, [], Bool, List, None, Option, Some, codes, false, length, true, ℕ}
-use Rattle.vpc_examples.specs.Types.{Acl, AclRow, Attachment, Block, Description, Group, Interface, Permission, Route, RouteTable, Subnet, Target, TgwRoute, Vpc}
+use Rattle.vpc_laws.specs.Types.{Acl, AclRow, Attachment, Block, Description, Group, Interface, Permission, Route, RouteTable, Subnet, Target, TgwRoute, Vpc}
 use Rattle.vpc_model.specs.declared.rows.InterfaceKind.TheVariants as kinds
 use Rattle.vpc_model.specs.declared.rows.NatLife.TheVariants as lives
 use Rattle.vpc_model.specs.declared.rows.Reach.TheVariants as reaches

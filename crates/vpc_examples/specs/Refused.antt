@@ -1,6 +1,6 @@
 -- Descriptions that make a network, and descriptions that don't, each with its first cause.
 use Rattle.std.specs.Prelude.{◌∷◌, ◌≡◌, [], List, None, Option, Some, codes, false, true, ℕ}
-use Rattle.vpc_examples.specs.Types.{Acl, AclRow, Appliance, Association, Attachment, Block, Description, Group, Interface, InternetGateway, ListName, NatGateway, NatLife, Peering, Permission, PrefixList, Refusal, Route, RouteTable, Subnet, Target, TgwRoute, TgwTable, Vpc}
+use Rattle.vpc_laws.specs.Types.{Acl, AclRow, Appliance, Association, Attachment, Block, Description, Group, Interface, InternetGateway, ListName, NatGateway, NatLife, Peering, Permission, PrefixList, Refusal, Route, RouteTable, Subnet, Target, TgwRoute, TgwTable, Vpc}
 use Rattle.vpc_model.specs.declared.rows.ApplianceKind.TheVariants as forwards
 use Rattle.vpc_model.specs.declared.rows.NatLife.TheVariants as lives
 use Rattle.vpc_model.specs.declared.refusals.ListName.TheVariants as named

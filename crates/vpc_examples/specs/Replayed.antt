@@ -1,6 +1,6 @@
 -- Lists of packets, each of which meets what the ones before it left.
 use Rattle.std.specs.Prelude.{◌∷◌, ◌≡◌, [], ℕ}
-use Rattle.vpc_examples.specs.Types.{Description, Event, Header, Outcome}
+use Rattle.vpc_laws.specs.Types.{Description, Event, Header, Outcome}
 use Rattle.vpc_model.specs.declared.places.End.TheVariants as ends
 use Rattle.vpc_base.specs.declared.headers.Label.TheVariants as labels
 use Rattle.vpc_model.specs.declared.outcomes.Outcome.TheVariants as outcomes

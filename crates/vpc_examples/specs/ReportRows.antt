@@ -1,7 +1,7 @@
 -- What rows lack to be a report where they don't ascend, and to be a part of one where a row begins after the first header that they
 -- leave out: nothing else.
 use Rattle.std.specs.Prelude.{◌∷◌, [], All, List, true, ℕ, codes, Option}
-use Rattle.vpc_examples.specs.Types.{Box5, Description, End, Header, Row, StopText}
+use Rattle.vpc_laws.specs.Types.{Box5, Description, End, Header, Row, StopText}
 use Rattle.vpc_model.specs.declared.places.End.TheVariants as ends
 use Rattle.vpc_model.specs.declared.outcomes.Phase.TheVariants as phases
 use Rattle.vpc_model.specs.declared.stops.StopName.TheVariants as names

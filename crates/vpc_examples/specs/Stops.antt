@@ -1,6 +1,6 @@
 -- Where packets are stopped in small networks: each stop at least once.
 use Rattle.std.specs.Prelude.{◌++◌, ◌∷◌, ◌≡◌, ◌+◌, [], Bool, List, None, Option, Some, codes, false, length, map, true, ℕ}
-use Rattle.vpc_examples.specs.Types.{Description, Header, Interface, NatLife, Outcome, Peering, Route, RuleRef, SubnetNo}
+use Rattle.vpc_laws.specs.Types.{Description, Header, Interface, NatLife, Outcome, Peering, Route, RuleRef, SubnetNo}
 use Rattle.vpc_model.specs.declared.outcomes.By.TheVariants as bys
 use Rattle.vpc_base.specs.declared.headers.Dir.TheVariants as dirs
 use Rattle.vpc_model.specs.declared.places.End.TheVariants as ends
