@@ -109,8 +109,10 @@ struct DiffQuestion<'a> {
     targets: &'a [(u32, u32)],
     starts: &'a [ChangedEnd],
     origins: &'a [Origin],
-    ghost ends: { AreChangedEnds both.now.compared.before both.now.compared.after both.now.compared.query } by { Prim.hlevel props },
-    ghost described: { All (IsChangedEnd both.now.compared.before both.now.compared.after) starts.now } by { Prim.hlevel props },
+    ghost ends: { AreChangedEnds
+        both.now.compared.before both.now.compared.after both.now.compared.query } by { Prim.hlevel props },
+    ghost described: { All
+        (IsChangedEnd both.now.compared.before both.now.compared.after) starts.now } by { Prim.hlevel props },
     ghost same: { origins.now ≡ map (origin_from both.now.compared targets.now) starts.now },
     ghost valid: { All (λ o. All IsValid o.boxes) origins.now },
 }
@@ -119,7 +121,8 @@ impl<'a> DiffQuestion<'a> {
     fn start_at(&self, start: u32) -> &ChangedEnd
         requires { start < length self.now.starts.now }
         ensures stands { slice_get self.now.starts.now start ≡ Some result.now }
-        ensures described { IsChangedEnd self.now.both.now.compared.before self.now.both.now.compared.after result.now }
+        ensures described { IsChangedEnd
+            self.now.both.now.compared.before self.now.both.now.compared.after result.now }
     {
         &self.starts[start as usize]
     }

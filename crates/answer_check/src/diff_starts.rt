@@ -157,7 +157,8 @@ fn agreed(
     change: Option<Change>,
 ) -> Option<()>
     requires { (told : Told) → change ≡ Some told → IsTellable before.now after.now told }
-    ensures { result ≡ agreed (option_map (λ w. w.now) wanted.entry) (change_told before.now after.now id.now change) }
+    ensures { result ≡ agreed (option_map (λ w. w.now) wanted.entry)
+        (change_told before.now after.now id.now change) }
 {
     match (wanted, change) {
         (None, None) => Some(()),

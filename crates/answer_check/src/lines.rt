@@ -56,7 +56,8 @@ fn is_question(words: &[&[u8]]) -> bool
 }
 
 fn query_words(alloc: Global, line: &[u8]) -> Result<Option<Vec<&[u8]>>, NoMemory>
-    ensures words { IfOk result (λ o. IfSome o (λ v. query_words line.now ≡ Some (map (λ w. w.now) v.items))) }
+    ensures words { IfOk result (λ o. IfSome o
+        (λ v. query_words line.now ≡ Some (map (λ w. w.now) v.items))) }
     ensures none { IfOk result (λ o. IfNone o (query_words line.now ≡ None)) }
 {
     let words = words_of(alloc, line)?;

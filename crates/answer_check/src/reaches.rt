@@ -207,7 +207,8 @@ fn check_lines(
     ended: bool,
     lines: &[&[u8]],
 ) -> Result<Answer, NoMemory>
-    ensures { (bytes : List ℕ) → map (λ l. l.now) lines.now ≡ all_lines bytes → ended ≡ is_ended (pieces_of bytes)
+    ensures { (bytes : List ℕ) → map (λ l. l.now) lines.now ≡ all_lines bytes
+        → ended ≡ is_ended (pieces_of bytes)
         → IfOk result (λ a. IsReachChecked network bytes a.status a.text.items) }
 {
     match read_question(alloc, &network, lines) {

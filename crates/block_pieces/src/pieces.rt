@@ -82,7 +82,8 @@ fn told_at_each(
 pub fn pieces_of(alloc: Global, rows: Vec<BlockRow>) -> Result<Pieces, NoMemory>
     ensures told { IfOk result (λ p. (a : ℕ) → a < 2 ^ 32 → told_at p a ≡ told_by rows.items a) }
     ensures few { IfOk result (λ p. length p.firsts ≤ 2 * length rows.items + 1) }
-    ensures firsts { IfOk result (λ p. (f : ℕ) → Contains p.firsts f → (f ≡ 0) ⊎ Contains (borders_of rows.items) f) }
+    ensures firsts { IfOk result (λ p. (f : ℕ) → Contains p.firsts f
+        → (f ≡ 0) ⊎ Contains (borders_of rows.items) f) }
 {
     let firsts = ascending(all_borders(alloc, &rows)?);
     let rows = in_order(rows);

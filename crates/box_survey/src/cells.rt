@@ -81,7 +81,8 @@ fn settle<G: Gaps>(
     requires valid { IsValid cell.now }
     requires numbers { AreMeeting boxes.now cell.now numbers.now }
     requires there { AreThere (G.matters gaps.now) boxes.now found.old }
-    ensures { IfOk result (λ c. MatchOption c (IsSurveyed (G.matters gaps.now) boxes.now cell.now found.old found.new)
+    ensures { IfOk result (λ c. MatchOption c
+        (IsSurveyed (G.matters gaps.now) boxes.now cell.now found.old found.new)
         (λ cut. IsCutOf cell.now cut × (found.new ≡ found.old))) }
 {
     let Some(first) = numbers.first() else {

@@ -59,7 +59,8 @@ fn fullest_side(
 ) -> Result<Ends, AllocError>
     requires { All (λ i. meets_at boxes.now cell.now i ≡ true) numbers.now }
     ensures cuts { IfOk result (λ e. All (Divides (range_on e.side cell.now)) e.at.items) }
-    ensures none { IfOk result (λ e. e.at.items ≡ [] → (s : Line) → All (HoldsRange boxes.now s (range_on s cell.now)) numbers.now) }
+    ensures none { IfOk result (λ e. e.at.items ≡ [] → (s : Line)
+        → All (HoldsRange boxes.now s (range_on s cell.now)) numbers.now) }
 {
     let mut fullest = Ends {
         side: Side::Proto,
@@ -122,7 +123,8 @@ pub fn cut_of(
 ) -> Result<Option<Cut>, AllocError>
     requires meet { All (λ i. meets_at boxes.now cell.now i ≡ true) numbers.now }
     requires some { 0 < length numbers.now }
-    ensures { IfOk result (λ c. MatchOption c (Any (HoldsCell boxes.now cell.now) numbers.now) (IsCutOf cell.now)) }
+    ensures { IfOk result (λ c. MatchOption c (Any (HoldsCell boxes.now cell.now) numbers.now)
+        (IsCutOf cell.now)) }
 {
     if any_holds(boxes, cell, numbers) {
         return Ok(None);

@@ -52,7 +52,8 @@ impl Findings {
 
     /// One more number of a box that shares a header with a later one.
     pub fn add_overlap(&mut self, number: u32)
-        ensures least { IsSomeAnd self.new.least (λ k. (k ≤ number) × ((k ≡ number) ⊎ (self.old.least ≡ Some k))) }
+        ensures least { IsSomeAnd self.new.least
+            (λ k. (k ≤ number) × ((k ≡ number) ⊎ (self.old.least ≡ Some k))) }
         ensures upto_found { IfSome self.old.least (λ i. IsSomeAnd self.new.least (λ k. k ≤ i)) }
         ensures outside { self.new.outside ≡ self.old.outside }
     {
@@ -65,7 +66,8 @@ impl Findings {
     /// One more header that matters and is in no box.
     pub fn add_uncovered(&mut self, h: Header)
         ensures least { self.new.least ≡ self.old.least }
-        ensures outside { IsSomeAnd self.new.outside (λ k. (¬ IsBefore h k) × ((k ≡ h) ⊎ (self.old.outside ≡ Some k))) }
+        ensures outside { IsSomeAnd self.new.outside
+            (λ k. (¬ IsBefore h k) × ((k ≡ h) ⊎ (self.old.outside ≡ Some k))) }
         ensures upto_found { IfSome self.old.outside (λ g. IsSomeAnd self.new.outside (λ k. ¬ IsBefore g k)) }
     {
         self.outside = Some(earlier(self.outside, h));

@@ -29,11 +29,18 @@ struct Screen {
 impl Probe for Screen {
     type Word = Why;
 
-    ghost meaning = { λ s h. if nat_lt h.p s.p then (if nat_lt h.q s.q then Some s.low else Some Target) else s.rest };
+    ghost meaning = { λ s h. if nat_lt h.p s.p then
+        (if nat_lt h.q s.q then Some s.low else Some Target) else s.rest };
 
     ghost cuts = { λ s. record { proto = []; addr = []; p = s.p ∷ []; q = s.q ∷ [] } };
 
-    ghost near = { λ s h. record { proto = []; addr = []; p = s.p ∷ []; q = (if nat_lt h.p s.p then s.q ∷ [] else []) } };
+    ghost near = { λ s h. record {
+      proto = [];
+      addr = [];
+      p = s.p ∷ [];
+      q =
+          (if nat_lt h.p s.p then s.q ∷ [] else []);
+    } };
 
     ghost near_among = { λ s h. record { proto = λ c k. k; addr = λ c k. k; p = λ c k. k; q = λ c. elim (nat_lt h.p s.p) as (λ b. Contains (if b then s.q ∷ [] else []) c → Contains (s.q ∷ []) c) [ true ↦ λ k. k | false ↦ λ k. absurd (Prim.omega (arith, k.1)) ] } };
 

@@ -49,13 +49,16 @@ impl<'a, 'b> Probe for GoalProbe<'a, 'b> {
 
     type Word = End;
 
-    ghost meaning = { λ p h. reached_of p.round.now.fabric.now (appliances_of p.round.now.fabric.now) p.round.now.start (Some p.round.now.goal) h };
+    ghost meaning = { λ p h. reached_of p.round.now.fabric.now
+        (appliances_of p.round.now.fabric.now) p.round.now.start (Some p.round.now.goal) h };
 
     ghost cuts = { λ p. cuts_of p.round.now.fabric.now };
 
-    ghost near = { λ p h. near_cuts p.round.now.fabric.now (appliances_of p.round.now.fabric.now) p.round.now.start p.round.now.goal h };
+    ghost near = { λ p h. near_cuts p.round.now.fabric.now
+        (appliances_of p.round.now.fabric.now) p.round.now.start p.round.now.goal h };
 
-    ghost near_among = { λ p h. near_cuts_are_among_all p.round.now.fabric.now (appliances_of p.round.now.fabric.now) p.round.now.start p.round.now.goal h };
+    ghost near_among = { λ p h. near_cuts_are_among_all p.round.now.fabric.now
+        (appliances_of p.round.now.fabric.now) p.round.now.start p.round.now.goal h };
 
     fn is_same(one: End, other: End) -> bool
         ensures { IsTrue result ↔ (one ≡ other) }

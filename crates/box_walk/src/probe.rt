@@ -233,7 +233,8 @@ impl<'a> Probe for RoundProbe<'a> {
 
     ghost near = { λ p h. near_cuts p.fabric.now (appliances_of p.fabric.now) p.start p.goal h };
 
-    ghost near_among = { λ p h. near_cuts_are_among_all p.fabric.now (appliances_of p.fabric.now) p.start p.goal h };
+    ghost near_among = { λ p h. near_cuts_are_among_all p.fabric.now
+        (appliances_of p.fabric.now) p.start p.goal h };
 
     fn is_same(one: (Phase, Stop), other: (Phase, Stop)) -> bool
         ensures { IsTrue result ↔ (one ≡ other) }

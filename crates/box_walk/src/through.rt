@@ -36,9 +36,11 @@ impl<'a, 'b> Probe for ThroughProbe<'a, 'b> {
 
     ghost cuts = { λ p. cuts_of p.round.now.fabric.now };
 
-    ghost near = { λ p h. near_cuts p.round.now.fabric.now (appliances_of p.round.now.fabric.now) p.round.now.start p.round.now.goal h };
+    ghost near = { λ p h. near_cuts p.round.now.fabric.now
+        (appliances_of p.round.now.fabric.now) p.round.now.start p.round.now.goal h };
 
-    ghost near_among = { λ p h. near_cuts_are_among_all p.round.now.fabric.now (appliances_of p.round.now.fabric.now) p.round.now.start p.round.now.goal h };
+    ghost near_among = { λ p h. near_cuts_are_among_all p.round.now.fabric.now
+        (appliances_of p.round.now.fabric.now) p.round.now.start p.round.now.goal h };
 
     fn is_same(one: (), other: ()) -> bool
         ensures { IsTrue result ↔ (one ≡ other) }

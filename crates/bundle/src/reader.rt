@@ -53,7 +53,8 @@ fn with_group_rules(
     gateways: GatewayRows,
     appliances: Vec<Appliance>,
 ) -> Result<Description, FieldFault>
-    ensures { Reads (λ d. d) (with_group_rules (view bundle.now) network filters gateways appliances.items) result }
+    ensures { Reads (λ d. d) (with_group_rules
+        (view bundle.now) network filters gateways appliances.items) result }
 {
     let groups = read_group_rules(alloc, bundle, filters.groups.into_vec())?;
     Ok(with_rows(network, filters.acls, groups, gateways, appliances))

@@ -1,6 +1,6 @@
 -- What is gathered: the cuts of each row, without the entries of the prefix lists that it names, since each
 -- list gives its own.
-use Rattle.std.specs.Prelude.{Option, ℕ}
+use Rattle.std.specs.Prelude.{◌-◌, List, Option, filter, map, nat_le, ℕ}
 use Rattle.cut_points.specs.Types.{ApplianceKind, Block, Description, Group, Permission, Reach, Route, RouteTable}
 use Rattle.vpc_model.specs.declared.rows.Reach.TheVariants as reaches
 use Rattle.vpc_base.specs.Cuts.{CutLists, joined_cuts, no_cuts}
@@ -10,6 +10,14 @@ use Rattle.vpc_model.specs.Cuts.{all_cuts, all_permissions, block_cuts, cuts_of_
 -- the gathered cuts and those of the others that lie on their sides
 unfoldable pub gathered_with : CutLists → CutLists → CutLists
 gathered_with gathered others = joined_cuts gathered (on_sides others)
+
+-- the numbers that are not past a side's last one
+abbrev pub up_to : ℕ → List ℕ → List ℕ
+up_to last numbers = filter (λ n. nat_le n last) numbers
+
+-- the source ports that a NAT gateway may have translated to these
+abbrev pub translated_to : List ℕ → List ℕ
+translated_to ports = map (λ e. e - 1024) (filter (nat_le 1024) ports)
 
 -- the cuts of one block
 abbrev pub cuts_of_block : Block → CutLists

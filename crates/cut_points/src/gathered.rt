@@ -3,7 +3,7 @@ ghost use Rattle.std.specs.Prelude.{◌≡◌, ◌+◌, ◌-◌, ◌∷◌, ◌+
 ghost use Rattle.vpc_base.specs.Cuts.{no_cuts};
 ghost use Rattle.vpc_model.specs.Cuts.{cuts_of_blocks, cuts_of_rule, edges, proto_cuts, shifted_edges};
 ghost use Rattle.cut_points.specs.Dividing.{divides, dividing};
-ghost use Rattle.cut_points.specs.Gathered.{gathered_with};
+ghost use Rattle.cut_points.specs.Gathered.{gathered_with, translated_to, up_to};
 
 use header_boxes::Box5;
 use std::alloc::{AllocError, Global};
@@ -41,7 +41,7 @@ impl Model for Gathered {
 
 // Adds a number unless it is past the side's last one.
 fn push_within(side: &mut Vec<u32>, n: u64, last: u32) -> Result<(), AllocError>
-    ensures { OnOk result (side.new.items ≡ side.old.items ++ filter (λ x. nat_le x last) (n ∷ [])) }
+    ensures { OnOk result (side.new.items ≡ side.old.items ++ up_to last (n ∷ [])) }
 {
     if n <= u64::from(last) {
         side.push(n as u32)?;
@@ -51,7 +51,7 @@ fn push_within(side: &mut Vec<u32>, n: u64, last: u32) -> Result<(), AllocError>
 
 // Adds two numbers, such as those at which a range begins and has ended.
 fn push_both(side: &mut Vec<u32>, first: u64, second: u64, last: u32) -> Result<(), AllocError>
-    ensures { OnOk result (side.new.items ≡ side.old.items ++ filter (λ x. nat_le x last) (first ∷ second ∷ [])) }
+    ensures { OnOk result (side.new.items ≡ side.old.items ++ up_to last (first ∷ second ∷ [])) }
 {
     push_within(side, first, last)?;
     push_within(side, second, last)
@@ -59,7 +59,7 @@ fn push_both(side: &mut Vec<u32>, first: u64, second: u64, last: u32) -> Result<
 
 // Adds the source port that a NAT gateway may have translated to this one.
 fn push_shifted(side: &mut Vec<u32>, port: u64, last: u32) -> Result<(), AllocError>
-    ensures { OnOk result (side.new.items ≡ side.old.items ++ filter (λ x. nat_le x last) (map (λ e. e - 1024) (filter (nat_le 1024) (port ∷ [])))) }
+    ensures { OnOk result (side.new.items ≡ side.old.items ++ up_to last (translated_to (port ∷ []))) }
 {
     if port >= NAT_SHIFT {
         push_within(side, port - NAT_SHIFT, last)?;
@@ -69,7 +69,7 @@ fn push_shifted(side: &mut Vec<u32>, port: u64, last: u32) -> Result<(), AllocEr
 
 // Adds a rule's edges, and the source ports that a NAT gateway may have translated to them.
 fn push_edges(side: &mut Vec<u32>, from: u64, past: u64, last: u32) -> Result<(), AllocError>
-    ensures { OnOk result (side.new.items ≡ side.old.items ++ filter (λ x. nat_le x last) (shifted_edges (from ∷ past ∷ []))) }
+    ensures { OnOk result (side.new.items ≡ side.old.items ++ up_to last (shifted_edges (from ∷ past ∷ []))) }
 {
     push_both(side, from, past, last)?;
     push_shifted(side, from, last)?;
@@ -78,7 +78,7 @@ fn push_edges(side: &mut Vec<u32>, from: u64, past: u64, last: u32) -> Result<()
 
 // Adds the edges of two ranges.
 fn push_ranges(side: &mut Vec<u32>, a: (u16, u16), b: (u16, u16)) -> Result<(), AllocError>
-    ensures { OnOk result (side.new.items ≡ side.old.items ++ filter (λ x. nat_le x 65535) (edges a.0 a.1 ++ edges b.0 b.1)) }
+    ensures { OnOk result (side.new.items ≡ side.old.items ++ up_to 65535 (edges a.0 a.1 ++ edges b.0 b.1)) }
 {
     push_both(side, u64::from(a.0), u64::from(a.1) + 1, LAST_PORT)?;
     push_both(side, u64::from(b.0), u64::from(b.1) + 1, LAST_PORT)
@@ -86,7 +86,8 @@ fn push_ranges(side: &mut Vec<u32>, a: (u16, u16), b: (u16, u16)) -> Result<(), 
 
 // Adds the source ports that a NAT gateway may have translated to the edges of a range.
 fn push_shifted_range(side: &mut Vec<u32>, range: (u16, u16)) -> Result<(), AllocError>
-    ensures { OnOk result (side.new.items ≡ side.old.items ++ filter (λ x. nat_le x 65535) (map (λ e. e - 1024) (filter (nat_le 1024) (edges range.0 range.1)))) }
+    ensures { OnOk result (side.new.items
+        ≡ side.old.items ++ up_to 65535 (translated_to (edges range.0 range.1))) }
 {
     push_shifted(side, u64::from(range.0), LAST_PORT)?;
     push_shifted(side, u64::from(range.1) + 1, LAST_PORT)
@@ -95,7 +96,8 @@ fn push_shifted_range(side: &mut Vec<u32>, range: (u16, u16)) -> Result<(), Allo
 // Adds the edges of two ranges, and the source ports that a NAT gateway may have translated to them.
 #[tactic(auto, using(crate::proofs::Additions::two_ranges))]
 fn push_shifted_ranges(side: &mut Vec<u32>, a: (u16, u16), b: (u16, u16)) -> Result<(), AllocError>
-    ensures { OnOk result (side.new.items ≡ side.old.items ++ filter (λ x. nat_le x 65535) (shifted_edges (edges a.0 a.1 ++ edges b.0 b.1))) }
+    ensures { OnOk result (side.new.items
+        ≡ side.old.items ++ up_to 65535 (shifted_edges (edges a.0 a.1 ++ edges b.0 b.1))) }
 {
     push_ranges(side, a, b)?;
     push_shifted_range(side, a)?;
@@ -161,7 +163,8 @@ impl Gathered {
     /// Cuts a protocol out on both sides.
     #[tactic(auto, using(crate::proofs::Additions::untouched_sides), unfolding(crate::specs::Gathered::gathered_with))]
     pub fn add_protocol(&mut self, n: u8) -> Result<(), AllocError>
-        ensures { OnOk result (self.new ≡ gathered_with self.old (record no_cuts { proto = n ∷ (n + 1) ∷ [] })) }
+        ensures { OnOk result (self.new ≡ gathered_with self.old
+            (record no_cuts { proto = n ∷ (n + 1) ∷ [] })) }
     {
         let first = u64::from(n);
         push_both(&mut self.proto, first, first + 1, LAST_PROTOCOL)
@@ -170,7 +173,8 @@ impl Gathered {
     /// Adds the edges of a range of protocols.
     #[tactic(auto, using(crate::proofs::Additions::untouched_sides), unfolding(crate::specs::Gathered::gathered_with))]
     pub fn add_protocols(&mut self, range: (u8, u8)) -> Result<(), AllocError>
-        ensures { OnOk result (self.new ≡ gathered_with self.old (record no_cuts { proto = edges range.0 range.1 })) }
+        ensures { OnOk result (self.new ≡ gathered_with self.old
+            (record no_cuts { proto = edges range.0 range.1 })) }
     {
         let first = u64::from(range.0);
         let past = u64::from(range.1) + 1;
@@ -188,7 +192,11 @@ impl Gathered {
     /// have translated.
     #[tactic(auto, using(crate::proofs::Additions::untouched_sides), unfolding(crate::specs::Gathered::gathered_with))]
     pub fn add_ranges(&mut self, p: (u16, u16), q: (u16, u16)) -> Result<(), AllocError>
-        ensures { OnOk result (self.new ≡ gathered_with self.old (record no_cuts { p = shifted_edges (edges p.0 p.1 ++ edges q.0 q.1); q = edges p.0 p.1 ++ edges q.0 q.1 })) }
+        ensures { OnOk result (self.new ≡ gathered_with self.old (record no_cuts {
+          p = shifted_edges
+              (edges p.0 p.1 ++ edges q.0 q.1);
+          q = edges p.0 p.1 ++ edges q.0 q.1;
+        })) }
     {
         push_shifted_ranges(&mut self.p, p, q)?;
         push_ranges(&mut self.q, p, q)
@@ -197,7 +205,8 @@ impl Gathered {
     /// Adds the edges of a rule's range of q, and those from which a NAT gateway may have translated.
     #[tactic(auto, using(crate::proofs::Additions::untouched_sides), unfolding(crate::specs::Gathered::gathered_with))]
     pub fn add_range(&mut self, from: u16, to: u16) -> Result<(), AllocError>
-        ensures { OnOk result (self.new ≡ gathered_with self.old (record no_cuts { p = shifted_edges (edges from to); q = edges from to })) }
+        ensures { OnOk result (self.new ≡ gathered_with self.old
+            (record no_cuts { p = shifted_edges (edges from to); q = edges from to })) }
     {
         let first = u64::from(from);
         let past = u64::from(to) + 1;
@@ -219,7 +228,8 @@ impl Gathered {
     /// Adds the cuts of every network's source ports and of the ICMP echo request.
     #[tactic(auto, using(crate::proofs::Additions::untouched_sides), unfolding(crate::specs::Gathered::gathered_with))]
     pub fn add_known_ports(&mut self) -> Result<(), AllocError>
-        ensures { OnOk result (self.new ≡ gathered_with self.old (record no_cuts { p = 1024 ∷ []; q = 2048 ∷ 2049 ∷ [] })) }
+        ensures { OnOk result (self.new ≡ gathered_with self.old
+            (record no_cuts { p = 1024 ∷ []; q = 2048 ∷ 2049 ∷ [] })) }
     {
         push_within(&mut self.p, FIRST_NAT_PORT, LAST_PORT)?;
         push_both(&mut self.q, ECHO_REQUEST, ECHO_REQUEST + 1, LAST_PORT)

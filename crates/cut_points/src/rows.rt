@@ -47,14 +47,16 @@ impl Cutting for Prefix {
 /// Adds the cuts of blocks.
 #[tactic(auto, using(crate::proofs::Additions::rows))]
 pub fn add_blocks(gathered: &mut Gathered, blocks: &[Prefix]) -> Result<(), AllocError>
-    ensures { OnOk result (gathered.new ≡ gathered_with gathered.old (cuts_of_blocks (flat_map block_cuts blocks.now))) }
+    ensures { OnOk result (gathered.new ≡ gathered_with gathered.old
+        (cuts_of_blocks (flat_map block_cuts blocks.now))) }
 {
     add_all(gathered, blocks)
 }
 
 // Cuts an address out on both sides.
 fn add_address(gathered: &mut Gathered, address: u32) -> Result<(), AllocError>
-    ensures { OnOk result (gathered.new ≡ gathered_with gathered.old (cuts_of_blocks (address_cuts address))) }
+    ensures { OnOk result (gathered.new ≡ gathered_with gathered.old
+        (cuts_of_blocks (address_cuts address))) }
 {
     gathered.add_addresses(address, u64::from(address) + 1)
 }

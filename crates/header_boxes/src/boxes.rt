@@ -134,7 +134,8 @@ impl Box5 {
     pub fn meet(&self, other: &Box5) -> Option<Box5>
         ensures ranges { IfSome result (λ m. m ≡ common_box self.now other.now) }
         ensures valid { IfSome result IsValid }
-        ensures holds { IfSome result (λ m. (h : Packet) → holds h m ≡ (holds h self.now && holds h other.now)) }
+        ensures holds { IfSome result (λ m. (h : Packet)
+            → holds h m ≡ (holds h self.now && holds h other.now)) }
         ensures within_first { IfSome result (λ m. IsWithin m self.now) }
         ensures within_second { IfSome result (λ m. IsWithin m other.now) }
         ensures none { IfNone result (AreDisjoint self.now other.now) }
@@ -154,15 +155,19 @@ impl Box5 {
         ensures valid { All IsValid result.items }
         ensures within { All (λ b. IsWithin b self.now) result.items }
         ensures disjoint { AllPairs AreDisjoint result.items }
-        ensures holds { (h : Packet) → list_any (holds h) result.items ≡ (holds h self.now && not (holds h part.now)) }
+        ensures holds { (h : Packet) → list_any (holds h) result.items
+            ≡ (holds h self.now && not (holds h part.now)) }
         ensures sides { All (HasSidesOf self.now part.now) result.items }
         ensures alone { AreDisjoint self.now part.now → result.items ≡ self.now ∷ [] }
         // the volumes of a part within the box and of what is left make up that of the box
-        ensures volume { IsWithin part.now self.now → sum_by volume_of result.items + volume_of part.now ≡ volume_of self.now }
+        ensures volume { IsWithin part.now self.now
+            → sum_by volume_of result.items + volume_of part.now ≡ volume_of self.now }
         // what is left comes after a part that begins with the box
-        ensures after { holds (low_of self.now) part.now ≡ true → All (λ b. IsBefore (low_of part.now) (low_of b)) result.items }
+        ensures after { holds (low_of self.now) part.now ≡ true
+            → All (λ b. IsBefore (low_of part.now) (low_of b)) result.items }
         // what an aligned part leaves is aligned
-        ensures aligned { (cuts : CutLists) → IsAligned cuts part.now self.now → All (λ b. IsAligned cuts b self.now) result.items }
+        ensures aligned { (cuts : CutLists) → IsAligned cuts part.now self.now
+            → All (λ b. IsAligned cuts b self.now) result.items }
     {
         match self.meet(part) {
             Some(shared) => rest_without(self, &shared),

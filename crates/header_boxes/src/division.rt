@@ -180,14 +180,16 @@ fn is_side_aligned16(cuts: &[u32], part: (u16, u16), whole: (u16, u16)) -> bool
 
 fn are_addresses_aligned(cuts: &[u32], part: &Box5, whole: &Box5) -> bool
     requires { IsStrictlyIncreasing cuts.now }
-    ensures { IsTrue result ↔ (IsSideAligned cuts.now part.now.src whole.now.src × IsSideAligned cuts.now part.now.dst whole.now.dst) }
+    ensures { IsTrue result ↔ (IsSideAligned cuts.now part.now.src whole.now.src
+        × IsSideAligned cuts.now part.now.dst whole.now.dst) }
 {
     is_side_aligned32(cuts, part.src, whole.src) && is_side_aligned32(cuts, part.dst, whole.dst)
 }
 
 fn are_ports_aligned(cuts: &Cuts, part: &Box5, whole: &Box5) -> bool
     requires { AreAscending cuts.now }
-    ensures { IsTrue result ↔ (IsSideAligned cuts.now.p part.now.p whole.now.p × IsSideAligned cuts.now.q part.now.q whole.now.q) }
+    ensures { IsTrue result ↔ (IsSideAligned cuts.now.p part.now.p whole.now.p
+        × IsSideAligned cuts.now.q part.now.q whole.now.q) }
 {
     is_side_aligned16(cuts.of_p(), part.p, whole.p)
         && is_side_aligned16(cuts.of_q(), part.q, whole.q)

@@ -94,8 +94,10 @@ impl<'a> ChangeProbe<'a> {
     pub fn turn(&mut self, before: Option<End>, after: Option<End>)
         requires before { AreSentWell (sent self.old.before.sent.network before self.old.before.sent.toward) }
         requires after { AreSentWell (sent self.old.after.sent.network after self.old.after.sent.toward) }
-        ensures before { self.new.before.sent ≡ sent self.old.before.sent.network before self.old.before.sent.toward }
-        ensures after { self.new.after.sent ≡ sent self.old.after.sent.network after self.old.after.sent.toward }
+        ensures before { self.new.before.sent
+            ≡ sent self.old.before.sent.network before self.old.before.sent.toward }
+        ensures after { self.new.after.sent
+            ≡ sent self.old.after.sent.network after self.old.after.sent.toward }
     {
         self.before.turn(before);
         self.after.turn(after);

@@ -173,7 +173,8 @@ impl<'a> FateProbe<'a> {
     fn reached_from(&self, start: End, sides: &Box5) -> Part<Option<End>>
         requires valid { IsValid sides.now }
         requires start { self.now.sent.start ≡ Some start }
-        ensures { Answers (AreAmong (near self.now.sent (low_of sides.now))) (reached self.now.sent) sides.now result }
+        ensures { Answers (AreAmong (near self.now.sent (low_of sides.now)))
+            (reached self.now.sent) sides.now result }
     {
         match self.sent.toward() {
             Toward::Missing => Part {
@@ -201,7 +202,8 @@ impl<'a> FateProbe<'a> {
     /// which that is told.
     pub fn reached_on(&self, sides: &Box5) -> Part<Option<End>>
         requires { IsValid sides.now }
-        ensures { Answers (AreAmong (near self.now.sent (low_of sides.now))) (reached self.now.sent) sides.now result }
+        ensures { Answers (AreAmong (near self.now.sent (low_of sides.now)))
+            (reached self.now.sent) sides.now result }
     {
         match self.sent.start() {
             Some(start) => self.reached_from(start, sides),
@@ -216,7 +218,8 @@ impl<'a> FateProbe<'a> {
     fn fate_from(&self, start: End, sides: &Box5) -> Part<Result<End, Barrier>>
         requires valid { IsValid sides.now }
         requires start { self.now.sent.start ≡ Some start }
-        ensures { Answers (AreAmong (near self.now.sent (low_of sides.now))) (fate self.now.sent) sides.now result }
+        ensures { Answers (AreAmong (near self.now.sent (low_of sides.now)))
+            (fate self.now.sent) sides.now result }
     {
         match self.sent.toward() {
             Toward::Any => {
@@ -246,7 +249,8 @@ impl<'a> FateProbe<'a> {
     /// What becomes of the requests of a part of the sides.
     pub fn fate_on(&self, sides: &Box5) -> Part<Result<End, Barrier>>
         requires { IsValid sides.now }
-        ensures { Answers (AreAmong (near self.now.sent (low_of sides.now))) (fate self.now.sent) sides.now result }
+        ensures { Answers (AreAmong (near self.now.sent (low_of sides.now)))
+            (fate self.now.sent) sides.now result }
     {
         match self.sent.start() {
             Some(start) => self.fate_from(start, sides),

@@ -14,7 +14,8 @@ use std::slice;
 
 /// The rows of one object's list of this name.
 fn own_list<'a>(alloc: Global, part: &'a Value, name: &str) -> Result<Vec<&'a Value>, FieldFault>
-    ensures { Reads (λ v. map (λ r. view r.now) v.items) (elements_if name.now (member_of (view part.now) name.now)) result }
+    ensures { Reads (λ v. map (λ r. view r.now) v.items)
+        (elements_if name.now (member_of (view part.now) name.now)) result }
 {
     let Some(value) = member(part, name) else {
         return Ok(Vec::new(alloc));

@@ -68,7 +68,8 @@ pub fn str_within<'a>(
     part: &str,
     field: &str,
 ) -> Result<&'a str, FieldFault>
-    ensures { Reads (λ s. s.now) (within_part (needed text_of) (view row.now) path.now part.now field.now) result }
+    ensures { Reads (λ s. s.now) (within_part (needed text_of)
+        (view row.now) path.now part.now field.now) result }
 {
     let path = path.member(part);
     match row.get(part) {
@@ -85,7 +86,8 @@ pub fn str_if_within<'a>(
     part: &str,
     field: &str,
 ) -> Result<Option<&'a str>, FieldFault>
-    ensures { Reads (option_map (λ s. s.now)) (within_part text_of (view row.now) path.now part.now field.now) result }
+    ensures { Reads (option_map (λ s. s.now))
+        (within_part text_of (view row.now) path.now part.now field.now) result }
 {
     match row.get(part) {
         Some(inner) => str_if(alloc, inner, &path.member(part), field),

@@ -25,7 +25,8 @@ pub trait NatBook {
     fn outward(&mut self, nat: NatNo, own: u32, h: &Header) -> Result<Header, NatStop>
         requires { 0 < spare self.old }
         ensures answer { let due = outward_of (entries self.old) nat own h.now in result ≡ due.answer }
-        ensures entries { let due = outward_of (entries self.old) nat own h.now in entries self.new ≡ due.entries }
+        ensures entries { let due = outward_of (entries self.old) nat own h.now in
+            entries self.new ≡ due.entries }
         ensures spare { spare self.old ≤ spare self.new + 1 }
         ensures in_order { IsBook (entries self.new) };
 
@@ -73,7 +74,8 @@ pub(crate) fn send<B: Entries>(
 ) -> Result<Header, NatStop>
     requires { 0 < B.spare book.old }
     ensures answer { let due = outward_of (B.entries book.old) nat own h.now in result ≡ due.answer }
-    ensures entries { let due = outward_of (B.entries book.old) nat own h.now in B.entries book.new ≡ due.entries }
+    ensures entries { let due = outward_of (B.entries book.old) nat own h.now in
+        B.entries book.new ≡ due.entries }
     ensures spare { B.spare book.old ≤ B.spare book.new + 1 }
     ensures in_order { IsBook (B.entries book.new) }
 {
@@ -98,7 +100,8 @@ fn send_unknown<B: Entries>(
     requires unknown { model.translation_of (B.entries book.old) nat h.now ≡ None }
     requires in_order { IsBook (B.entries book.old) }
     ensures answer { let due = sent_by (B.entries book.old) nat own h.now None in result ≡ due.answer }
-    ensures entries { let due = sent_by (B.entries book.old) nat own h.now None in B.entries book.new ≡ due.entries }
+    ensures entries { let due = sent_by (B.entries book.old) nat own h.now None in
+        B.entries book.new ≡ due.entries }
     ensures spare { B.spare book.old ≤ B.spare book.new + 1 }
     ensures in_order { IsBook (B.entries book.new) }
 {
@@ -118,9 +121,11 @@ fn known_port(p: u16)
 
 fn send_anew<B: Entries>(book: &mut B, nat: NatNo, own: u32, h: &Header) -> Header
     requires room { 0 < B.spare book.old }
-    requires in_order { let t = model.new_translation (B.entries book.old) nat own h.now in IsBook (B.entries book.old ++ t ∷ []) }
+    requires in_order { let t = model.new_translation (B.entries book.old) nat own h.now in
+        IsBook (B.entries book.old ++ t ∷ []) }
     ensures answer { let t = model.new_translation (B.entries book.old) nat own h.now in result ≡ t.after }
-    ensures entries { let t = model.new_translation (B.entries book.old) nat own h.now in B.entries book.new ≡ B.entries book.old ++ t ∷ [] }
+    ensures entries { let t = model.new_translation (B.entries book.old) nat own h.now in
+        B.entries book.new ≡ B.entries book.old ++ t ∷ [] }
     ensures spare { B.spare book.old ≤ B.spare book.new + 1 }
 {
     let p = book.free_port(nat, h);

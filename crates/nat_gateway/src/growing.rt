@@ -55,7 +55,8 @@ impl Model for GrowingNats {
 
     ghost view = { λ g. record { entries = g.list.items; spare = vec_capacity g.list - vec_len g.list } };
 
-    ghost invariant = { λ g. IsKept g.list.items g.afters.table g.afters.count g.befores.table g.befores.count g.ports.table g.ports.count g.counts.table g.counts.count };
+    ghost invariant = { λ g. IsKept g.list.items g.afters.table g.afters.count g.befores.table
+        g.befores.count g.ports.table g.ports.count g.counts.table g.counts.count };
 }
 
 impl GrowingNats {
@@ -120,7 +121,8 @@ impl GrowingNats {
     fn first_free(&mut self, nat: NatNo, h: &Header, from: u32, end: u32) -> Option<u16>
         requires from { from ≤ end }
         requires most { end ≤ 65536 }
-        ensures answer { result ≡ model.first_free (model.is_taken self.old.entries nat h.now) (end - from) from }
+        ensures answer { result ≡ model.first_free (model.is_taken self.old.entries nat h.now)
+            (end - from) from }
         ensures same { self.new ≡ self.old }
     {
         let (_, later) = self.list.as_slice().split_at(self.ports.count);
@@ -136,8 +138,10 @@ fn learn(
     counts: &mut First<Counts>,
     list: &[NatEntry],
 ) -> Result<(), AllocError>
-    requires { IsKept list.now afters.old.table afters.old.count befores.old.table befores.old.count ports.old.table ports.old.count counts.old.table counts.old.count }
-    ensures { IsKept list.now afters.new.table afters.new.count befores.new.table befores.new.count ports.new.table ports.new.count counts.new.table counts.new.count }
+    requires { IsKept list.now afters.old.table afters.old.count befores.old.table befores.old.count
+        ports.old.table ports.old.count counts.old.table counts.old.count }
+    ensures { IsKept list.now afters.new.table afters.new.count befores.new.table befores.new.count
+        ports.new.table ports.new.count counts.new.table counts.new.count }
 {
     afters.learn(list)?;
     befores.learn(list)?;
@@ -156,7 +160,8 @@ fn first_free(
 ) -> Option<u16>
     requires from { from ≤ end }
     requires most { end ≤ 65536 }
-    ensures answer { result ≡ model.first_free (is_taken_beside ports.old later.now nat h.now) (end - from) from }
+    ensures answer { result ≡ model.first_free (is_taken_beside ports.old later.now nat h.now)
+        (end - from) from }
     ensures same { SameUsed ports.new ports.old }
 {
     let flow = Sent::flow(nat, h);

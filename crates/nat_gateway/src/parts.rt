@@ -18,7 +18,8 @@ pub(crate) trait Part {
 
     /// Adds one more translation.
     fn add(&mut self, t: &NatEntry) -> Result<(), AllocError>
-        ensures added { OnOk result ((ts : List Translation) → is_of self.old ts → is_of self.new (ts ++ t.now ∷ [])) }
+        ensures added { OnOk result ((ts : List Translation) → is_of self.old ts
+            → is_of self.new (ts ++ t.now ∷ [])) }
         ensures err { OnErr result ((ts : List Translation) → is_of self.old ts → is_of self.new ts) };
 }
 

@@ -49,7 +49,8 @@ impl<V: Copy> Table<V> {
 
     /// Gives the key this value, in place of the one that it had. A key that has one takes no memory.
     pub fn put(&mut self, key: Sent, value: V) -> Result<(), AllocError>
-        ensures put { OnOk result ((k : Sent) → value_at self.new k ≡ (if same_sent key k then Some value else value_at self.old k)) }
+        ensures put { OnOk result ((k : Sent)
+            → value_at self.new k ≡ (if same_sent key k then Some value else value_at self.old k)) }
         ensures err { OnErr result (self.new ≡ self.old) }
     {
         self.map.insert(key, value)?;

@@ -77,7 +77,8 @@ impl NumberSet {
 
     // The numbers that are at least this one.
     fn from(&self, first: u64) -> &[u64]
-        ensures same { (k : ℕ) → first ≤ k → list_any (λ n. n == k) result.now ≡ list_any (λ n. n == k) self.now }
+        ensures same { (k : ℕ) → first ≤ k
+            → list_any (λ n. n == k) result.now ≡ list_any (λ n. n == k) self.now }
         ensures ascend { IsNonDecreasing result.now }
     {
         let below = self.numbers.partition_point(|n| *n < first);

@@ -22,7 +22,8 @@ fn ask<P: Probe>(
 ) -> Result<Option<(Box5, Option<P::Word>)>, AllocError>
     requires { All IsValid boxes.old }
     ensures none { IfOk result (λ a. IfNone a (boxes.old ≡ [])) }
-    ensures asked { IfOk result (λ a. IfSome a (λ s. IsAsked (P.meaning p.now) (P.cuts p.now) boxes.old boxes.new s.0 s.1)) }
+    ensures asked { IfOk result (λ a. IfSome a
+        (λ s. IsAsked (P.meaning p.now) (P.cuts p.now) boxes.old boxes.new s.0 s.1)) }
 {
     let Some(whole) = boxes.take_first() else {
         return Ok(None);

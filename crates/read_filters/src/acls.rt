@@ -36,7 +36,8 @@ fn rule_number_at(alloc: Global, row: &Value, path: &Path) -> Result<u16, FieldF
 }
 
 fn protocol_at(alloc: Global, row: &Value, path: &Path) -> Result<Option<u8>, FieldFault>
-    ensures { Reads (λ x. x) (needed (text_in numbered_protocol) (view row.now) path.now (codes "Protocol")) result }
+    ensures { Reads (λ x. x) (needed (text_in numbered_protocol) (view row.now) path.now
+        (codes "Protocol")) result }
 {
     match str_at(alloc, row, path, "Protocol") {
         Ok(text) => match numbered_protocol(text) {
@@ -60,7 +61,8 @@ fn action_of(text: &str) -> Option<bool>
 }
 
 fn action_at(alloc: Global, row: &Value, path: &Path) -> Result<bool, FieldFault>
-    ensures { Reads (λ x. x) (needed (text_in action_of) (view row.now) path.now (codes "RuleAction")) result }
+    ensures { Reads (λ x. x) (needed (text_in action_of) (view row.now) path.now
+        (codes "RuleAction")) result }
 {
     match str_at(alloc, row, path, "RuleAction") {
         Ok(text) => match action_of(text) {

@@ -158,7 +158,8 @@ fn kept_for(
     head: &RuleHead,
 ) -> Result<Option<usize>, NoMemory>
     ensures kept { IfOk result (λ n. n ≡ kept_for (number_in numbers.now) seen.old (view row.now) head.now) }
-    ensures seen { IfOk result (λ n. seen.new ≡ (if is_some n then seen.old ++ head.now.id ∷ [] else seen.old)) }
+    ensures seen { IfOk result (λ n. seen.new
+        ≡ (if is_some n then seen.old ++ head.now.id ∷ [] else seen.old)) }
 {
     if !has_target(row) {
         return Ok(None);
@@ -209,7 +210,8 @@ fn row_if(
     row: &Value,
     number: usize,
 ) -> Result<Option<GroupRule>, FieldFault>
-    ensures rule { Reads (λ x. x) (rule_if (number_in numbers.now) seen.old (view row.now) (at_row (codes "SecurityGroupRules") number)) result }
+    ensures rule { Reads (λ x. x) (rule_if (number_in numbers.now) seen.old (view row.now)
+        (at_row (codes "SecurityGroupRules") number)) result }
     ensures seen { IfOk result (λ r. seen.new ≡ seen_with seen.old r) }
 {
     let list = Path::list("SecurityGroupRules");
@@ -221,7 +223,8 @@ fn rules_among(
     numbers: &FirstNumbers,
     rows: &[&Value],
 ) -> Result<Vec<GroupRule>, FieldFault>
-    ensures { Reads (λ v. v.items) (rules_from (number_in numbers.now) [] 0 (map (λ r. view r.now) rows.now)) result }
+    ensures { Reads (λ v. v.items) (rules_from (number_in numbers.now) [] 0
+        (map (λ r. view r.now) rows.now)) result }
 {
     let mut seen = SeenIds::new(alloc);
     let mut rules = Vec::new(alloc);

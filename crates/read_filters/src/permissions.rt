@@ -25,7 +25,8 @@ pub struct Traffic {
 }
 
 fn protocol_at(alloc: Global, row: &Value, path: &Path) -> Result<Option<u8>, FieldFault>
-    ensures { Reads (λ x. x) (needed (text_in named_protocol) (view row.now) path.now (codes "IpProtocol")) result }
+    ensures { Reads (λ x. x) (needed (text_in named_protocol) (view row.now) path.now
+        (codes "IpProtocol")) result }
 {
     match str_at(alloc, row, path, "IpProtocol") {
         Ok(text) => match named_protocol(text) {

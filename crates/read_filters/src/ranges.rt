@@ -128,7 +128,8 @@ pub fn range_within(
     first: &str,
     last: &str,
 ) -> Result<QRange, FieldFault>
-    ensures { Reads (λ x. x) (range_of kind (part_of (view row.now) part.now) (at_member path.now part.now) first.now last.now) result }
+    ensures { Reads (λ x. x) (range_of kind (part_of (view row.now) part.now)
+        (at_member path.now part.now) first.now last.now) result }
 {
     match row.get(part) {
         Some(numbers) => range_of(alloc, kind, numbers, &path.member(part), first, last),

@@ -21,8 +21,10 @@ struct Directed {
 
 // What memory refuses is dropped.
 fn put(rule: GroupRule, all: &mut Directed) -> Result<(), AllocError>
-    ensures inward { OnOk result (all.new.inward.items ≡ all.old.inward.items ++ permissions_of (λ r. not r.outward) (rule ∷ [])) }
-    ensures outward { OnOk result (all.new.outward.items ≡ all.old.outward.items ++ permissions_of (λ r. r.outward) (rule ∷ [])) }
+    ensures inward { OnOk result (all.new.inward.items
+        ≡ all.old.inward.items ++ permissions_of (λ r. not r.outward) (rule ∷ [])) }
+    ensures outward { OnOk result (all.new.outward.items
+        ≡ all.old.outward.items ++ permissions_of (λ r. r.outward) (rule ∷ [])) }
 {
     if rule.outward {
         all.outward.push(rule.permission)?;
@@ -73,7 +75,8 @@ fn no_shares(alloc: Global, groups: &[Group]) -> Result<Vec<Vec<GroupRule>>, All
 
 // What memory refuses is dropped.
 fn hand_out(shares: &mut Vec<Vec<GroupRule>>, rule: GroupRule) -> Result<(), AllocError>
-    ensures { OnOk result (map (λ s. s.items) shares.new.items ≡ handed 0 rule (map (λ s. s.items) shares.old.items)) }
+    ensures { OnOk result (map (λ s. s.items) shares.new.items
+        ≡ handed 0 rule (map (λ s. s.items) shares.old.items)) }
 {
     let number = rule.number;
     if number < shares.len() {

@@ -154,7 +154,8 @@ impl ReadRow for GroupNames {
     ghost use Rattle.json_fields.specs.FieldFault.{and_then};
     ghost use Rattle.json_fields.specs.Fields.{needed, text_of};
 
-    ghost meaning = { λ row path. and_then (needed text_of row path (codes "GroupName")) (λ name. Ok (length name)) };
+    ghost meaning = { λ row path. and_then (needed text_of row path (codes "GroupName"))
+        (λ name. Ok (length name)) };
 
     fn read(alloc: Global, row: &Value, path: &Path) -> Result<usize, FieldFault> {
         match str_at(alloc, row, path, "GroupName") {

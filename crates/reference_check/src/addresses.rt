@@ -15,7 +15,8 @@ use vpc_model::{Description, Id, Interface, Refusal, Subnet};
 
 // Adds the public addresses of an interface.
 fn add_publics(publics: &mut Numbers, addresses: &[(u32, Option<u32>)]) -> Result<(), Refusal>
-    ensures told { Tells (map DuplicatePublic (repeats_after (λ a b. a == b) publics.old (filter_map (λ x. x.1) addresses.now))) result }
+    ensures told { Tells (map DuplicatePublic
+        (repeats_after (λ a b. a == b) publics.old (filter_map (λ x. x.1) addresses.now))) result }
     ensures added { OnOk result (publics.new ≡ publics.old ++ filter_map (λ x. x.1) addresses.now) }
 {
     for (_, public) in addresses {

@@ -56,7 +56,8 @@ fn note(claims: &mut [Claim], targets: &Ids, row: usize, id: &Id)
 fn note_all(claims: &mut [Claim], targets: &Ids, row: usize, ids: &[Id])
     requires count { length claims.old ≡ length targets.now }
     requires differ { duplicates_in targets.now ≡ [] }
-    ensures { (f : List ℕ → Claim) → claims.old ≡ map f targets.now → claims.new ≡ noted_all targets.now row ids.now f }
+    ensures { (f : List ℕ → Claim) → claims.old ≡ map f targets.now
+        → claims.new ≡ noted_all targets.now row ids.now f }
 {
     for id in ids {
         note(claims, targets, row, id);
@@ -147,7 +148,8 @@ fn note_main(claims: &mut [Claim], vpcs: &Ids, row: usize, table: &RouteTable)
 fn claim_mains(claims: &mut [Claim], vpcs: &Ids, tables: &[RouteTable])
     requires count { length claims.old ≡ length vpcs.now }
     requires differ { duplicates_in vpcs.now ≡ [] }
-    ensures { claims.old ≡ replicate (length vpcs.now) Unclaimed → claims.new ≡ claims_by is_main_of vpcs.now tables.now }
+    ensures { claims.old ≡ replicate (length vpcs.now) Unclaimed
+        → claims.new ≡ claims_by is_main_of vpcs.now tables.now }
 {
     for (r, table) in tables.iter().enumerate() {
         note_main(claims, vpcs, r, table);

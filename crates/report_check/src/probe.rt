@@ -68,9 +68,11 @@ impl<'a, 'b> Probe for RowProbe<'a, 'b> {
 
     ghost cuts = { λ p. cuts_of p.network.now };
 
-    ghost near = { λ p h. near_cuts p.network.now (appliances_of p.network.now) p.walks.now.start p.walks.now.goal h };
+    ghost near = { λ p h. near_cuts p.network.now
+        (appliances_of p.network.now) p.walks.now.start p.walks.now.goal h };
 
-    ghost near_among = { λ p h. near_cuts_are_among_all p.network.now (appliances_of p.network.now) p.walks.now.start p.walks.now.goal h };
+    ghost near_among = { λ p h. near_cuts_are_among_all p.network.now
+        (appliances_of p.network.now) p.walks.now.start p.walks.now.goal h };
 
     fn is_same(one: (), other: ()) -> bool
         ensures { IsTrue result ↔ (one ≡ other) }

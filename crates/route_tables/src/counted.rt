@@ -58,7 +58,8 @@ fn add_uncovered<L: Ledger>(
     row: BlockRow,
     steps: &mut Steps<L>,
 ) -> Result<(), AllocError>
-    ensures { OnOk result (rows.new.items ≡ rows.old.items ++ filter (λ r. not (is_covered locals.now r.block)) (row ∷ [])) }
+    ensures { OnOk result (rows.new.items
+        ≡ rows.old.items ++ filter (λ r. not (is_covered locals.now r.block)) (row ∷ [])) }
 {
     if !is_covered(locals, &row.block, steps) {
         rows.push(row)?;
@@ -73,7 +74,8 @@ fn add_all_uncovered<L: Ledger>(
     number: u32,
     steps: &mut Steps<L>,
 ) -> Result<(), AllocError>
-    ensures rows { OnOk result (rows.new.items ≡ rows.old.items ++ filter (λ r. not (is_covered locals.now r.block)) (map (row_of 2 number) blocks.now)) }
+    ensures rows { OnOk result (rows.new.items ≡ rows.old.items
+        ++ filter (λ r. not (is_covered locals.now r.block)) (map (row_of 2 number) blocks.now)) }
     ensures blocks { OnOk result (All IsBlock blocks.now) }
 {
     for block in blocks {
@@ -90,7 +92,8 @@ fn add_route<L: Ledger>(
     number: u32,
     steps: &mut Steps<L>,
 ) -> Result<(), AllocError>
-    ensures rows { OnOk result (rows.new.items ≡ rows.old.items ++ counted_rows_of n.now locals.now number route.now) }
+    ensures rows { OnOk result (rows.new.items
+        ≡ rows.old.items ++ counted_rows_of n.now locals.now number route.now) }
     ensures blocks { OnOk result (All IsBlock (blocks_of_reach n.now route.now.reach)) }
 {
     let blocks = blocks_of(n, &route.reach);

@@ -39,7 +39,8 @@ impl Seen {
     // Adds a number where it is new, and tells whether it is.
     fn add(&mut self, number: u32) -> Result<bool, AllocError>
         ensures fresh { IfOk result (λ b. b ≡ not (list_any (λ k. number == k) self.old)) }
-        ensures added { OnOk result (self.new ≡ (if list_any (λ k. number == k) self.old then self.old else self.old ++ number ∷ [])) }
+        ensures added { OnOk result (self.new
+            ≡ (if list_any (λ k. number == k) self.old then self.old else self.old ++ number ∷ [])) }
     {
         Ok(self.numbers.insert(number)?)
     }

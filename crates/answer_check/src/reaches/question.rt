@@ -113,7 +113,8 @@ impl<'a> ReachQuestion<'a> {
     // What becomes of a request from a start.
     fn fate_at(&self, start: End, h: &Header) -> Result<End, Barrier>
         requires { IsTrue (is_end self.now.fabric.now start) }
-        ensures value { result ≡ fate (sent self.now.fabric.now (Some start) (toward_of self.now.goal)) h.now }
+        ensures value { result ≡ fate (sent self.now.fabric.now (Some start)
+            (toward_of self.now.goal)) h.now }
         ensures told { CanBeShown self.now.fabric.now result }
     {
         // That the network is accepted is a clause of this call.
