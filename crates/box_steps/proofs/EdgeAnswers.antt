@@ -1,7 +1,6 @@
 -- What peerings and the internet answer for all headers of a body.
-use Rattle.std.proofs.Common.{◌≡◌, ◌∙◌, ◌==◌, ◌&&◌, ◌||◌, Bool, IfSome, List, None, Option, Some, ap, bytes_eq, cond, false, find, is_some, not, option_map, refl, subst, sym, true, ℕ}
+use Rattle.std.proofs.Common.{◌≡◌, ◌∙◌, ◌==◌, ◌||◌, Bool, IfSome, List, None, Option, Some, ap, cond, false, find, is_some, not, option_map, refl, subst, sym, true, ℕ}
 use Rattle.std.specs.List.{flat_map}
-use Rattle.std.proofs.lemmas.Bool.{and_parts}
 use Rattle.vpc_base.specs.Cuts.{CutLists}
 use Rattle.vpc_base.specs.declared.headers.Header.{Header}
 use Rattle.header_boxes.specs.Boxes.{IsValid}
@@ -23,9 +22,9 @@ use Rattle.vpc_laws.specs.Types.{Description, PeerNo, VpcNo}
 use Rattle.vpc_model.specs.Accepted.{IsAccepted}
 use Rattle.vpc_model.specs.Cuts.{address_cuts, cuts_of_blocks, fixed_cuts, on_sides, standing_cuts}
 use Rattle.vpc_model.specs.Internet.{is_unroutable, owned_by, owner_of}
-use Rattle.vpc_model.specs.Lookup.{has_vpc, peering_at, vpc_at, vpc_no}
+use Rattle.vpc_model.specs.Lookup.{peering_at, vpc_at, vpc_no}
 use Rattle.vpc_model.specs.Peerings.{has_block, other_side}
-use Rattle.vpc_model.specs.Sound.{is_peering, is_sound, is_vpc, joins}
+use Rattle.vpc_model.specs.Sound.{is_vpc}
 use Rattle.vpc_model.specs.Step.Internet.{to_owner}
 use Rattle.vpc_model.specs.Step.Peering.{by_pair}
 use Rattle.vpc_model.specs.Step.Words.{Next, go, stop}
@@ -33,6 +32,8 @@ use Rattle.vpc_model.specs.declared.places.EnterBy.TheVariants as through
 use Rattle.vpc_model.specs.declared.places.Place.TheVariants as places
 use Rattle.vpc_model.specs.declared.stops.Stop.TheVariants as stops
 use Rattle.fabric.proofs.Owners.{owner-first}
+use Rattle.fabric.proofs.Peered.{far-described}
+use Rattle.fabric.specs.Sites.{far_vpc}
 use Rattle.box_steps.proofs.RouteAnswers.{told_of_low}
 use Rattle.box_steps.proofs.Telling.{answers_then, answers_told}
 use Rattle.box_steps.specs.Cuts.{Standing}
@@ -41,18 +42,6 @@ use Rattle.box_steps.specs.declared.onward.Onward.{Onward}
 use Rattle.box_steps.specs.declared.onward.Onward.TheVariants as onwards
 
 -- ---- peerings
-
--- a sound place on a peering has two VPCs that are described, of which the sender is one
-can_carry : (d : Description) (x : PeerNo) (v : VpcNo) (pair : List ℕ × List ℕ) → is_sound d (places.Peer x v) ≡ true → (peering_at d x).pair ≡ Some pair → CanCarry d x v
-can_carry d x v pair sound active =
-    let row = peering_at d x in
-    let vpc = vpc_at d v in
-    let first = and_parts (is_peering d x) (is_vpc d v && joins d vpc.id row.pair) sound in
-    let second = and_parts (is_vpc d v) (joins d vpc.id row.pair) first.1 in
-    let joined : joins d vpc.id (Some pair) ≡ true = subst (λ (o : Option (List ℕ × List ℕ)). joins d vpc.id o ≡ true) active second.1 in
-    let both = and_parts (bytes_eq pair.0 vpc.id || bytes_eq pair.1 vpc.id) (has_vpc d pair.0 && has_vpc d pair.1) joined in
-    let described = and_parts (has_vpc d pair.0) (has_vpc d pair.1) both.1 in
-    record { pair = pair; active = active; one = described.0; other = described.1; sends = second.0; side = both.0 }
 
 -- the VPC at the other side
 abbrev pub far : Description → VpcNo → List ℕ × List ℕ → VpcNo
@@ -69,22 +58,26 @@ sides-divide d m x v are can cuts standing =
     let sides = sides_are_divided d m x v are can in
     record { sender = λ a fits turns. standing.addr _ (sides.sender a fits turns); receiver = λ a fits turns. standing.addr _ (sides.receiver a fits turns) }
 
-carry-told : (d : Description) (m : EdgeLists) (x : PeerNo) (v : VpcNo) (pair : List ℕ × List ℕ) (k : Header) → AreEdgesOf d m → is_sound d (places.Peer x v) ≡ true
-    → (peering_at d x).pair ≡ Some pair → carry_if (has_block d v k.src) (has_block d (far d v pair) k.dst) ≡ carry m x v k
-unfolding can_carry
-carry-told d m x v pair k are sound active = sym (are.carries x v k (can_carry d x v pair sound active))
+carry-told : (d : Description) (m : EdgeLists) (x : PeerNo) (v : VpcNo) (can : CanCarry d x v) (k : Header) → AreEdgesOf d m → carry_if (has_block d v k.src) (has_block d (far d v can.pair) k.dst) ≡ carry m x v k
+carry-told d m x v can k are = sym (are.carries x v k can)
 
-pub answers_of_peering : (d : Description) (m : EdgeLists) (x : PeerNo) (v other : VpcNo) (pair : List ℕ × List ℕ) (i : Image) (y : Part Carry) (next : Onward) → AreEdgesOf d m
-    → is_sound d (places.Peer x v) ≡ true → (peering_at d x).pair ≡ Some pair → other ≡ far d v pair → next ≡ after_carry x other y.told
+pub answers_of_peering : (d : Description) (m : EdgeLists) (x : PeerNo) (v other : VpcNo) (can : CanCarry d x v) (i : Image) (y : Part Carry) (next : Onward) → AreEdgesOf d m
+    → Some other ≡ far_vpc d v (peering_at d x).pair → next ≡ after_carry x other y.told
     → Answers (DivideSides m.blocks m.sides x v) (λ h. carry m x v (header_at i h)) i.part y
     → Answers (Standing d) (λ h. onward_of (by_pair d x v (header_at i h) (peering_at d x).pair)) i.part (record { body = y.body; told = next })
-answers_of_peering d m x v other pair i y next are sound active is leads k =
+answers_of_peering d m x v other can i y next are is leads k =
+    let same : Some other ≡ Some (far d v can.pair) = is ∙ far-described d x v can in
+    let there : other ≡ far d v can.pair = cc in
     answers_told (Standing d) (λ h. carry m x v (header_at i h)) (λ h. onward_of (by_pair d x v (header_at i h) (peering_at d x).pair)) i.part y next
-    (λ h e. ap (λ (o : Option (List ℕ × List ℕ)). onward_of (by_pair d x v (header_at i h) o)) active
-    ∙ by-carry (has_block d v (header_at i h).src) (has_block d (far d v pair) (header_at i h).dst) x (far d v pair) (header_at i h)
-    ∙ ap (after_carry x (far d v pair)) (carry-told d m x v pair (header_at i h) are sound active ∙ e)
-    ∙ sym (leads ∙ ap (λ (w : VpcNo). after_carry x w y.told) is))
-    (answers_more (DivideSides m.blocks m.sides x v) (Standing d) (λ h. carry m x v (header_at i h)) i.part y (sides-divide d m x v are (can_carry d x v pair sound active)) k)
+    (λ h e. ap (λ (o : Option (List ℕ × List ℕ)). onward_of (by_pair d x v (header_at i h) o)) can.active
+    ∙ by-carry (has_block d v (header_at i h).src) (has_block d (far d v can.pair) (header_at i h).dst) x (far d v can.pair) (header_at i h)
+    ∙ ap (after_carry x (far d v can.pair)) (carry-told d m x v can (header_at i h) are ∙ e)
+    ∙ sym (leads ∙ ap (λ (w : VpcNo). after_carry x w y.told) there))
+    (answers_more (DivideSides m.blocks m.sides x v) (Standing d) (λ h. carry m x v (header_at i h)) i.part y (sides-divide d m x v are can) k)
+
+-- the other VPC is there
+pub peer-told : (d : Description) (x : PeerNo) (v : VpcNo) → CanCarry d x v → None ≡ far_vpc d v (peering_at d x).pair → ⊥
+peer-told d x v can is = let none : None ≡ Some (far d v can.pair) = is ∙ far-described d x v can in cc
 
 -- ---- the internet
 

@@ -1,12 +1,11 @@
 -- What comes next for all headers of a body, by the targets of routes.
 use Rattle.std.proofs.Common.{◌≡◌, ◌∙◌, Bool, List, Option, Some, ap, cond, false, refl, sym, true, ℕ}
-use Rattle.vpc_base.specs.declared.headers.Header.{Header}
 use Rattle.box_images.specs.Answers.{Answers}
 use Rattle.box_images.specs.Images.{header_at}
 use Rattle.box_images.specs.declared.images.Image.{Image}
 use Rattle.box_images.specs.declared.images.Part.{Part}
 use Rattle.image_tests.proofs.Answering.{answers_same}
-use Rattle.vpc_laws.specs.Types.{Description, IgwNo, PeerNo, Place, Stop, SubnetNo, VpcNo}
+use Rattle.vpc_laws.specs.Types.{Description, Header, IgwNo, PeerNo, Place, Stop, SubnetNo, VpcNo}
 use Rattle.vpc_model.specs.Lookup.{gateway_of, has_vpc, vpc_at, vpc_of_subnet}
 use Rattle.vpc_model.specs.Peerings.{other_side}
 use Rattle.vpc_model.specs.Step.Crossing.{leaving}
@@ -51,3 +50,13 @@ to_peer-described d s v x pair o h own active is =
     ∙ holds-then (has_vpc d (other_side (vpc_at d (vpc_of_subnet d s)).id pair)) _ (stop (stops.Unmodelled (foreign.Peering x)))
     (ap (λ (w : VpcNo). has_vpc d (other_side (vpc_at d w).id pair)) (sym own) ∙ is)
     ∙ sym (ap (to_peer d s h x) active)
+
+pub to_peer-unmodelled : (d : Description) (s : SubnetNo) (v : VpcNo) (x : PeerNo) (pair : List ℕ × List ℕ) (o : Option (List ℕ × List ℕ)) (h : Header) → v ≡ vpc_of_subnet d s → o ≡ Some pair
+    → has_vpc d (other_side (vpc_at d v).id pair) ≡ false → stop (stops.Unmodelled (foreign.Peering x)) ≡ to_peer d s h x o
+to_peer-unmodelled d s v x pair o h own active none =
+    by (has_vpc d (other_side (vpc_at d (vpc_of_subnet d s)).id pair)) (ap (λ (w : VpcNo). has_vpc d (other_side (vpc_at d w).id pair)) (sym own) ∙ none)
+    ∙ sym (ap (to_peer d s h x) active)
+  where
+    by : (has : Bool) → has ≡ false → stop (stops.Unmodelled (foreign.Peering x)) ≡ cond has (unless_stopped (leaving d s h) (go (places.Peer x (vpc_of_subnet d s)) h)) (stop (stops.Unmodelled (foreign.Peering x)))
+    by true e = absurd cc
+    by false e = refl

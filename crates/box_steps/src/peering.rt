@@ -5,7 +5,6 @@ ghost use Rattle.box_images.specs.Images.{IsImageOfWalk, IsValidImage, header_at
 ghost use Rattle.box_steps.specs.Cuts.{Standing};
 ghost use Rattle.box_steps.specs.Onward.{after_carry, onward_of};
 ghost use Rattle.vpc_model.specs.Lookup as model;
-ghost use Rattle.vpc_model.specs.Peerings.{other_side};
 ghost use Rattle.vpc_model.specs.Sound.{is_sound};
 ghost use Rattle.vpc_model.specs.Step.Peering.{by_pair};
 ghost use Rattle.vpc_model.specs.declared.places.Place.TheVariants as places;
@@ -14,19 +13,8 @@ use crate::onward::{Onward, stopped};
 use box_images::{Image, Part};
 use edge_gateways::Carry;
 use fabric::Fabric;
-use fabric::rows::{peering_at, vpc_at};
-use vpc_model::{EnterBy, Id, PeerNo, Place, Stop, VpcNo};
-
-/// The id of the VPC at the other side; of a VPC that is peered with itself, its own.
-pub fn other_side<'a>(vpc: &[u8], pair: &'a (Id, Id)) -> &'a Id
-    ensures { result.now ≡ other_side vpc.now pair.now }
-{
-    if pair.0.bytes() == vpc {
-        &pair.1
-    } else {
-        &pair.0
-    }
-}
+use fabric::rows::far_vpc;
+use vpc_model::{EnterBy, PeerNo, Place, Stop, VpcNo};
 
 // By what the peering carries into the other VPC.
 fn after_carry(x: PeerNo, other: VpcNo, carry: Carry) -> Onward
@@ -48,13 +36,11 @@ pub fn peer_on(f: &Fabric, x: PeerNo, v: VpcNo, i: &Image) -> Part<Onward>
     ensures { let row = model.peering_at f.now x in Answers (Standing f.now)
         (λ h. onward_of (by_pair f.now x v (header_at i.now h) row.pair)) i.now.part result }
 {
-    let n = f.network();
-    let _ = n.description();
-    let Some(pair) = &peering_at(f, x).pair else {
+    // In a sound place the other VPC is described where the peering is active.
+    let Some(other) = far_vpc(f, x, v) else {
         return stopped(i, Stop::PeerNotActive(x));
     };
     let carry = f.edges().carries_on(x, v, i);
-    let other = n.vpc_named(other_side(vpc_at(f, v).id.bytes(), pair));
     Part {
         body: carry.body,
         told: after_carry(x, other, carry.told),

@@ -18,10 +18,9 @@ use crate::choosing::route_on;
 use crate::crossing::{between_on, crossing_on, deliver_to, into_host, leaving_on};
 use crate::hosts::host_on;
 use crate::onward::{Onward, stopped, unless_stopped_on};
-use crate::peering::other_side;
 use box_images::{Image, Part};
 use fabric::Fabric;
-use fabric::rows::{nat_at, nat_subnet, peering_at, route_at, subnet_of, vpc_at, vpc_of};
+use fabric::rows::{far_vpc, nat_at, nat_subnet, peering_at, route_at, subnet_of, vpc_of};
 use transit_gateway::EnterStop;
 use vpc_model::{
     AttNo, EniNo, Foreign, Id, IgwNo, NatLife, NatNo, PeerNo, Place, Stop, SubnetNo, TableNo,
@@ -134,11 +133,10 @@ pub fn to_peer_on(f: &Fabric, s: SubnetNo, v: VpcNo, i: &Image, x: PeerNo) -> Pa
     ensures { let row = peering_at f.now x in Answers (Standing f.now)
         (λ h. onward_of (model.to_peer f.now s (header_at i.now h) x row.pair)) i.now.part result }
 {
-    let Some(pair) = &peering_at(f, x).pair else {
+    let Some(_) = &peering_at(f, x).pair else {
         return stopped(i, Stop::PeerNotActive(x));
     };
-    let other = other_side(vpc_at(f, v).id.bytes(), pair);
-    match f.network().vpc(other.bytes()) {
+    match far_vpc(f, x, v) {
         Some(_) => unless_stopped_on(leaving_on(f, s, i), Onward::Go(Place::Peer(x, v))),
         None => stopped(i, Stop::Unmodelled(Foreign::Peering(x))),
     }

@@ -4,6 +4,7 @@ pub mod HostRows
 pub mod RowFacts
 pub mod SiteRows
 pub mod TargetRows
+pub mod Peered
 pub mod Routing
 pub mod Publics
 pub mod Owners

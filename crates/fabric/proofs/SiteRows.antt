@@ -1,15 +1,19 @@
--- Where interfaces, subnets and NAT gateways lie, by their numbers.
-use Rattle.std.proofs.Common.{◌≡◌, ◌∙◌, ◌<◌, [], List, ap, get_or, length, subst, sym, true, ℕ}
+-- Where interfaces, subnets and NAT gateways lie and which VPCs peerings join, by their numbers.
+use Rattle.std.proofs.Common.{◌≡◌, ◌∙◌, ◌<◌, [], List, None, Option, ap, get_or, length, subst, sym, true, ℕ}
 use Rattle.std.proofs.lemmas.Bool.{ltb-true}
 use Rattle.std.proofs.lemmas.List.{get_or-map, length-map}
 use Rattle.vpc_laws.proofs.Numbering.{accepted_numbers_are_in_range, no_subnet}
-use Rattle.vpc_laws.specs.Types.{Description, EniNo, Interface, NatGateway, NatNo, Subnet, SubnetNo, VpcNo}
+use Rattle.vpc_laws.specs.Types.{Description, EniNo, Interface, NatGateway, NatNo, PeerNo, Peering, Subnet, SubnetNo, VpcNo}
 use Rattle.vpc_model.specs.Accepted.{IsAccepted}
-use Rattle.vpc_model.specs.Lookup.{nat_at, no_interface, subnet_no, subnet_of, vpc_no, vpc_of_subnet}
-use Rattle.vpc_model.specs.Sound.{is_eni, is_nat, is_subnet, is_vpc}
+use Rattle.vpc_model.specs.Lookup.{nat_at, no_interface, peering_at, subnet_no, subnet_of, vpc_no, vpc_of_subnet}
+use Rattle.vpc_model.specs.Sound.{is_eni, is_nat, is_peering, is_subnet, is_vpc}
 use Rattle.vpc_model.specs.Step.Nat.{own_subnet}
 use Rattle.vpc_model.specs.declared.rows.NatLife.TheVariants as lives
-use Rattle.fabric.specs.Sites.{nat_subnets_in, subnets_in, vpcs_in}
+use Rattle.fabric.specs.Sites.{ends_by, ends_in, nat_subnets_in, subnets_in, vpcs_in}
+
+-- the VPCs of a peering
+abbrev pub Ends : Type 0
+Ends = Option VpcNo × Option VpcNo
 
 pub subnet-within : (d : Description) (i : EniNo) (subnets : List SubnetNo) → subnets ≡ subnets_in d → is_eni d i ≡ true → i.0 < length subnets
 subnet-within d i subnets are lies =
@@ -40,6 +44,16 @@ nat-lies_in d n subnets s are lies is =
     let f : NatGateway → SubnetNo = λ row. subnet_no d (own_subnet row.life) in
     let none : SubnetNo = subnet_no d [] in
     is none ∙ (ap (λ (xs : List SubnetNo). get_or xs n.0 none) are ∙ get_or-map f d.nats n.0 (record { id = []; life = lives.Gone }) none (ltb-true n.0 (length d.nats) lies))
+
+pub peering-within : (d : Description) (x : PeerNo) (ends : List Ends) → ends ≡ ends_in d → is_peering d x ≡ true → x.0 < length ends
+peering-within d x ends are lies =
+    subst (λ (k : ℕ). x.0 < k) (sym (ap length are ∙ length-map d.peerings (λ (row : Peering). ends_by d row.pair))) (ltb-true x.0 (length d.peerings) lies)
+
+pub ends-at : (d : Description) (x : PeerNo) (ends : List Ends) (e : Ends) → ends ≡ ends_in d → is_peering d x ≡ true → ((none : Ends) → e ≡ get_or ends x.0 none)
+    → let row = peering_at d x in e ≡ ends_by d row.pair
+ends-at d x ends e are lies is =
+    let f : Peering → Ends = λ row. ends_by d row.pair in
+    is (None, None) ∙ (ap (λ (xs : List Ends). get_or xs x.0 (None, None)) are ∙ get_or-map f d.peerings x.0 (record { id = []; pair = None }) (None, None) (ltb-true x.0 (length d.peerings) lies))
 
 -- the numbers are those of rows
 pub subnet-lies : (d n : Description) (i : EniNo) (s : SubnetNo) → n ≡ d → IsAccepted n → is_eni d i ≡ true → s ≡ subnet_of d i → is_subnet d s ≡ true

@@ -11,7 +11,7 @@ use crate::acls::acl_indexes;
 use crate::hosts::hosts_by_address;
 use crate::nats::nats_by_interface;
 use crate::routes::route_indexes;
-use crate::sites::{subnets_by_interface, subnets_by_nat, vpcs_by_subnet};
+use crate::sites::{ends_by_peering, subnets_by_interface, subnets_by_nat, vpcs_by_subnet};
 use crate::targets::targets_by_route;
 use edge_gateways::EdgeMaps;
 use network_acls::AclIndex;
@@ -23,7 +23,7 @@ use std::alloc::Global;
 use std::marker::Model;
 use transit_gateway::TransitIndex;
 use vpc_base::{NoMemory, OwnList};
-use vpc_model::{AclNo, EniNo, NatNo, SubnetNo, TableNo, VpcNo};
+use vpc_model::{AclNo, EniNo, NatNo, PeerNo, SubnetNo, TableNo, VpcNo};
 
 // What lets packets pass, and what leads them on.
 struct Indexes {
@@ -37,6 +37,7 @@ struct Indexes {
     subnets: Vec<SubnetNo>,
     vpcs: Vec<VpcNo>,
     nat_subnets: Vec<SubnetNo>,
+    ends: Vec<(Option<VpcNo>, Option<VpcNo>)>,
     targets: Vec<OwnList<u32>>,
 }
 
@@ -53,6 +54,7 @@ impl Drop for Indexes {
             subnets,
             vpcs,
             nat_subnets,
+            ends,
             targets,
         } = self;
         drop(acls);
@@ -65,6 +67,7 @@ impl Drop for Indexes {
         drop(subnets);
         drop(vpcs);
         drop(nat_subnets);
+        drop(ends);
         drop(targets);
     }
 }
@@ -85,6 +88,7 @@ impl Model for Indexes {
       subnets = x.subnets.items;
       vpcs = x.vpcs.items;
       nat_subnets = x.nat_subnets.items;
+      ends = x.ends.items;
       targets = x.targets.items;
     } };
 }
@@ -102,6 +106,7 @@ fn indexes_of(alloc: Global, n: &Network) -> Result<Indexes, NoMemory>
     let subnets = subnets_by_interface(alloc, n)?;
     let vpcs = vpcs_by_subnet(alloc, n)?;
     let nat_subnets = subnets_by_nat(alloc, n)?;
+    let ends = ends_by_peering(alloc, n)?;
     let targets = targets_by_route(alloc, n)?;
     Ok(Indexes {
         acls,
@@ -114,13 +119,14 @@ fn indexes_of(alloc: Global, n: &Network) -> Result<Indexes, NoMemory>
         subnets,
         vpcs,
         nat_subnets,
+        ends,
         targets,
     })
 }
 
 impl Indexes {
     ghost use Rattle.number_tables.specs.Entries.{value_at};
-    ghost use Rattle.std.specs.Prelude.{◌<◌, [], length, slice_index_or, ℕ};
+    ghost use Rattle.std.specs.Prelude.{◌<◌, [], Option, length, slice_index_or, ℕ};
     ghost use Rattle.network_acls.specs.Tried.{TriedRows};
     ghost use Rattle.piece_table.specs.Pieces.{PieceLists};
     ghost use Rattle.vpc_model.specs.declared.numbers.SubnetNo.{SubnetNo};
@@ -191,6 +197,14 @@ impl Indexes {
         self.nat_subnets[n.0 as usize]
     }
 
+    fn ends_of(&self, x: PeerNo) -> (Option<VpcNo>, Option<VpcNo>)
+        requires { x.0 < length self.now.ends }
+        ensures { (none : Option VpcNo × Option VpcNo) →
+            result ≡ slice_index_or self.now.ends x.0 none }
+    {
+        self.ends[x.0 as usize]
+    }
+
     fn target_number(&self, t: TableNo, k: u32) -> u32
         requires table { t.0 < length self.now.targets }
         requires route { k < length (slice_index_or self.now.targets t.0 []) }
@@ -228,9 +242,10 @@ impl Model for Fabric {
 
 impl Fabric {
     ghost use Rattle.std.specs.Prelude.{IsTrue};
+    ghost use Rattle.fabric.specs.Sites.{ends_by};
     ghost use Rattle.fabric.specs.Targets.{route_at, target_number};
-    ghost use Rattle.vpc_model.specs.Lookup.{acl_at, nat_at, subnet_no, subnet_of, table_at, vpc_of_subnet};
-    ghost use Rattle.vpc_model.specs.Sound.{is_acl, is_eni, is_nat, is_route, is_subnet, is_table};
+    ghost use Rattle.vpc_model.specs.Lookup.{acl_at, nat_at, peering_at, subnet_no, subnet_of, table_at, vpc_of_subnet};
+    ghost use Rattle.vpc_model.specs.Sound.{is_acl, is_eni, is_nat, is_peering, is_route, is_subnet, is_table};
     ghost use Rattle.vpc_model.specs.Step.Crossing.{nat_of};
     ghost use Rattle.vpc_model.specs.Step.Nat.{own_subnet};
 
@@ -331,6 +346,14 @@ impl Fabric {
             result ≡ subnet_no self.now (own_subnet row.life) }
     {
         self.indexes.nat_subnet(n)
+    }
+
+    /// The VPCs that a peering joins, those that are described; none where it isn't active.
+    pub fn ends_of(&self, x: PeerNo) -> (Option<VpcNo>, Option<VpcNo>)
+        requires { IsTrue (is_peering self.now x) }
+        ensures { let row = peering_at self.now x in result ≡ ends_by self.now row.pair }
+    {
+        self.indexes.ends_of(x)
     }
 
     /// The number of the internet gateway, NAT gateway, peering or interface that a route leads to.

@@ -1,6 +1,7 @@
-//! Rows of a network by their numbers, and where interfaces, subnets and NAT gateways lie.
+//! Rows of a network by their numbers, where interfaces, subnets and NAT gateways lie, and the VPC at the other side of a peering.
 
 ghost use Rattle.std.specs.Prelude.{◌≡◌, IsTrue};
+ghost use Rattle.fabric.specs.Sites.{far_vpc};
 ghost use Rattle.fabric.specs.Targets.{route_at};
 ghost use Rattle.vpc_model.specs.Lookup as rows;
 ghost use Rattle.vpc_model.specs.Sound.{is_eni, is_live, is_nat, is_peering, is_route, is_subnet, is_table, is_vpc};
@@ -99,4 +100,19 @@ pub fn nat_subnet(f: &Fabric, n: NatNo) -> SubnetNo
 {
     let _ = f.network().description();
     f.nat_subnet(n)
+}
+
+/// The VPC at the other side of an active peering, if it is described; of a VPC that is peered with itself, its own.
+pub fn far_vpc(f: &Fabric, x: PeerNo, v: VpcNo) -> Option<VpcNo>
+    requires peering { IsTrue (is_peering f.now x) }
+    requires vpc { IsTrue (is_vpc f.now v) }
+    ensures { let row = rows.peering_at f.now x in result ≡ far_vpc f.now v row.pair }
+{
+    let pair = peering_at(f, x).pair.as_ref()?;
+    let (one, other) = f.ends_of(x);
+    if pair.0.bytes() == vpc_at(f, v).id.bytes() {
+        other
+    } else {
+        one
+    }
 }

@@ -1,12 +1,12 @@
-// The subnets of interfaces and NAT gateways and the VPCs of subnets, by their numbers.
+// The subnets of interfaces and NAT gateways and the VPCs of subnets and peerings, by their numbers.
 ghost use Rattle.std.specs.Prelude.{◌≡◌, Contains, IfOk};
 ghost use Rattle.vpc_model.specs.Lookup.{subnet_no, vpc_no};
 ghost use Rattle.vpc_model.specs.Step.Nat.{own_subnet};
-ghost use Rattle.fabric.specs.Sites.{nat_subnets_in, subnets_in, vpcs_in};
+ghost use Rattle.fabric.specs.Sites.{ends_by, ends_in, nat_subnets_in, subnets_in, vpc_by, vpcs_in};
 
 use reference_check::Network;
 use std::alloc::{AllocError, Global};
-use vpc_model::{Interface, NatGateway, NatLife, Subnet, SubnetNo, VpcNo};
+use vpc_model::{Id, Interface, NatGateway, NatLife, Peering, Subnet, SubnetNo, VpcNo};
 
 fn subnet_of(n: &Network, interface: &Interface) -> SubnetNo
     requires { Contains n.now.interfaces interface.now }
@@ -44,6 +44,21 @@ fn subnet_of_nat(n: &Network, nat: &NatGateway) -> SubnetNo
     }
 }
 
+fn vpc_by(n: &Network, id: &Id) -> Option<VpcNo>
+    ensures { result ≡ vpc_by n.now id.now }
+{
+    n.vpc(id.bytes())
+}
+
+fn ends_of(n: &Network, peering: &Peering) -> (Option<VpcNo>, Option<VpcNo>)
+    ensures { result ≡ ends_by n.now peering.now.pair }
+{
+    match &peering.pair {
+        Some((one, other)) => (vpc_by(n, one), vpc_by(n, other)),
+        None => (None, None),
+    }
+}
+
 /// The subnet of each interface.
 pub fn subnets_by_interface(alloc: Global, n: &Network) -> Result<Vec<SubnetNo>, AllocError>
     ensures { IfOk result (λ v. v.items ≡ subnets_in n.now) }
@@ -78,4 +93,19 @@ pub fn subnets_by_nat(alloc: Global, n: &Network) -> Result<Vec<SubnetNo>, Alloc
         subnets.push(subnet_of_nat(n, nat))?;
     }
     Ok(subnets)
+}
+
+/// The VPCs that each peering joins, those that are described; none where it isn't active.
+pub fn ends_by_peering(
+    alloc: Global,
+    n: &Network,
+) -> Result<Vec<(Option<VpcNo>, Option<VpcNo>)>, AllocError>
+    ensures { IfOk result (λ v. v.items ≡ ends_in n.now) }
+{
+    let peerings = n.description().peerings.as_slice();
+    let mut ends = Vec::with_capacity(alloc, peerings.len())?;
+    for peering in peerings {
+        ends.push(ends_of(n, peering))?;
+    }
+    Ok(ends)
 }

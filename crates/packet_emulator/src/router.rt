@@ -12,10 +12,9 @@ ghost use Rattle.vpc_model.specs.Transit.{attachment_for};
 use crate::choosing::route_of;
 use crate::crossing::{crossing, deliver, entering, is_gateway, leaving};
 use crate::next::{Next, unless_stopped};
-use crate::peering::other_side;
 use fabric::Fabric;
 use fabric::rows::{
-    interface_at, nat_at, nat_subnet, peering_at, route_at, subnet_of, vpc_at, vpc_of,
+    far_vpc, interface_at, nat_at, nat_subnet, peering_at, route_at, subnet_of, vpc_of,
 };
 use transit_gateway::EnterStop;
 use vpc_base::Header;
@@ -114,11 +113,10 @@ fn to_peer(f: &Fabric, s: SubnetNo, v: VpcNo, h: &Header, x: PeerNo) -> Next
     requires peering { IsTrue (is_peering f.now x) }
     ensures { let row = peering_at f.now x in comes result ≡ model.to_peer f.now s h.now x row.pair }
 {
-    let Some(pair) = &peering_at(f, x).pair else {
+    let Some(_) = &peering_at(f, x).pair else {
         return Next::Stop(Stop::PeerNotActive(x));
     };
-    let other = other_side(vpc_at(f, v).id.bytes(), pair);
-    match f.network().vpc(other.bytes()) {
+    match far_vpc(f, x, v) {
         Some(_) => unless_stopped(leaving(f, s, h), Next::Go(Place::Peer(x, v), *h)),
         None => Next::Stop(Stop::Unmodelled(Foreign::Peering(x))),
     }

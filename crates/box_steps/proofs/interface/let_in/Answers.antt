@@ -1,5 +1,4 @@
-use Rattle.std.proofs.Common.{ap, refl}
-use Rattle.box_images.specs.declared.images.Image.{Image}
+use Rattle.std.proofs.Common.{refl}
 use Rattle.header_boxes.proofs.Held.{within_itself}
 use Rattle.vpc_model.specs.Appliances.{appliances_of}
 use Rattle.vpc_model.specs.declared.places.End.TheVariants as ends

@@ -1,15 +1,15 @@
-use Rattle.std.proofs.Common.{◌∙◌, List, ap, sym, ℕ}
-use Rattle.vpc_laws.specs.Types.{Description, Peering, Vpc}
-use Rattle.vpc_model.specs.Lookup.{vpc_no}
-use Rattle.vpc_model.specs.Peerings.{other_side}
-use Rattle.box_steps.proofs.EdgeAnswers.{answers_of_peering}
+use Rattle.std.proofs.Common.{◌∙◌, sym}
+use Rattle.fabric.proofs.Peered.{can_carry}
+use Rattle.box_steps.proofs.EdgeAnswers.{answers_of_peering, peer-told}
 use Rattle.box_steps.proofs.peering.peer_on.Goals as goal
+
+pub returns-in_default : goal.returns-in_default
+returns-in_default c = absurd (peer-told c.args.f.now c.args.x c.args.v (can_carry c.args.f.now c.args.x c.args.v c.requires.sound) (sym c.in_default.is ∙ c.far_vpc.ensures))
+
+pub carries_on-carry-requires-clause-carrier : goal.carries_on-carry-requires-clause-carrier
+carries_on-carry-requires-clause-carrier c = c.edges.ensures.carriers c.args.x c.args.v (can_carry c.args.f.now c.args.x c.args.v c.requires.sound)
 
 pub returns : goal.returns
 returns c =
-    answers_of_peering c.args.f.now c.edges.result.now c.args.x c.args.v c.vpc_named-other.result c.in-Some.pair c.args.i.now c.carries_on-carry.result c.after_carry.result c.edges.ensures c.requires.sound
-    (ap (λ (r : Peering). r.pair) (sym c.peering_at.ensures) ∙ c.in-Some.is)
-    (c.vpc_named-other.ensures
-    ∙ (ap (λ (n : Description). vpc_no n c.other_side.result.now) c.network-n.ensures
-    ∙ ap (vpc_no c.args.f.now) (c.other_side.ensures ∙ ap (λ (id : List ℕ). other_side id c.in-Some.pair) (c.bytes.ensures.value ∙ ap (λ (r : Vpc). r.id) c.vpc_at.ensures))))
-    c.after_carry.ensures c.carries_on-carry.ensures
+    answers_of_peering c.args.f.now c.edges.result.now c.args.x c.args.v c.in-Some.other (can_carry c.args.f.now c.args.x c.args.v c.requires.sound) c.args.i.now c.carries_on-carry.result c.after_carry.result c.edges.ensures
+    (sym c.in-Some.is ∙ c.far_vpc.ensures) c.after_carry.ensures c.carries_on-carry.ensures
