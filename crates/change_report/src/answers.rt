@@ -12,7 +12,7 @@ use crate::hosts::{changed_id, hosts_of_either};
 use crate::starts::starts_of;
 use crate::targets::targets_of;
 use command_job::{Answer, Status, answer_line, refuse_query};
-use listing_text::{answer_part, answer_whole, is_many, status_by};
+use listing_text::{Listing, answer_part, answer_whole, is_many, status_by};
 use query_words::{ChangeQuery, read_change_query};
 use reference_check::Network;
 use std::alloc::Global;
@@ -36,11 +36,23 @@ fn answer_body(
     match body.next {
         None => {
             let status = status_by(Status::No, Status::Yes, body.count);
-            answer_whole(alloc, b"vpc-diff 1", 3, words, lines, body.count, status)
+            let listing = Listing {
+                first: b"vpc-diff 1",
+                words,
+                before: 3,
+                lines,
+            };
+            answer_whole(alloc, &listing, body.count, status)
         }
         Some((start, next)) => {
             let id = changed_id(compared.before(), compared.after(), &start);
-            answer_part(alloc, b"more changes", 3, words, lines, id, &next)
+            let listing = Listing {
+                first: b"more changes",
+                words,
+                before: 3,
+                lines,
+            };
+            answer_part(alloc, &listing, id, &next)
         }
     }
 }

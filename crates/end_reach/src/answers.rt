@@ -11,7 +11,7 @@ use block_report::end_id;
 use command_job::{Answer, Job, Status, answer_job, answer_line, refuse_query};
 use described_hosts::host_count;
 use fabric::Fabric;
-use listing_text::{answer_part, answer_whole, is_many, status_by};
+use listing_text::{Listing, answer_part, answer_whole, is_many, status_by};
 use query_words::{ReachQuery, read_reach_query};
 use reference_check::Network;
 use std::alloc::Global;
@@ -36,11 +36,23 @@ fn answer_body(
     match body.next {
         None => {
             let status = status_by(Status::Yes, Status::No, body.count);
-            answer_whole(alloc, b"vpc-reach 1", 2, words, lines, body.count, status)
+            let listing = Listing {
+                first: b"vpc-reach 1",
+                words,
+                before: 2,
+                lines,
+            };
+            answer_whole(alloc, &listing, body.count, status)
         }
         Some((start, next)) => {
             let id = end_id(n, &start);
-            answer_part(alloc, b"more reach", 2, words, lines, id, &next)
+            let listing = Listing {
+                first: b"more reach",
+                words,
+                before: 2,
+                lines,
+            };
+            answer_part(alloc, &listing, id, &next)
         }
     }
 }

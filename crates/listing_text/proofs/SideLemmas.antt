@@ -1,5 +1,5 @@
 -- Sides of addresses: none is empty, and no two share a number, nor do the boxes between them share a header.
-use Rattle.std.proofs.Common.{◌≡◌, ◌≤◌, ◌∷◌, [], All, AllPairs, List, arith, get_or, map, ℕ}
+use Rattle.std.proofs.Common.{◌≤◌, ◌∷◌, [], All, AllPairs, List, arith, get_or, map, ℕ}
 use Rattle.std.proofs.lemmas.List.Elements.{All-cons, All-map, All-nil}
 use Rattle.std.proofs.lemmas.List.Kept.{AllPairs-from_increasing}
 use Rattle.std.specs.List.Sorted.{IsStrictlyIncreasing}

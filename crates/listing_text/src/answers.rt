@@ -35,26 +35,35 @@ fn put_next(out: &mut Vec<u8>, id: &[u8], next: &Header) -> Result<(), NoMemory>
     put_end(out)
 }
 
+/// What an answer has before its last line.
+#[derive(Drop)]
+pub struct Listing<'a> {
+    /// The first line.
+    pub first: &'a [u8],
+    /// The words of the command, of which the first `before` aren't the query's.
+    pub words: &'a [String],
+    pub before: usize,
+    /// The lines of the rows.
+    pub lines: &'a [u8],
+}
+
 /// All rows, after a first line and the line of the query.
 pub fn answer_whole(
     alloc: Global,
-    first: &[u8],
-    before: usize,
-    words: &[String],
-    lines: &[u8],
+    listing: &Listing,
     count: u32,
     status: Status,
 ) -> Result<Answer, NoMemory>
-    requires some { 2 ≤ before }
-    requires counted { before ≤ length words.now }
+    requires some { 2 ≤ listing.now.before }
+    requires counted { listing.now.before ≤ length listing.now.words.now }
     ensures status { IfOk result (λ a. a.status ≡ status) }
-    ensures text { IfOk result (λ a.
-        a.text.items ≡ whole_of first.now before (map string_bytes words.now) lines.now count) }
+    ensures text { IfOk result (λ a. a.text.items ≡ whole_of listing.now.first.now
+        listing.now.before (map string_bytes listing.now.words.now) listing.now.lines.now count) }
 {
     let mut text = Vec::new(alloc);
-    put_line(&mut text, first)?;
-    put_query(&mut text, before, words)?;
-    put(&mut text, lines)?;
+    put_line(&mut text, listing.first)?;
+    put_query(&mut text, listing.before, listing.words)?;
+    put(&mut text, listing.lines)?;
     put_number_line(&mut text, b"end", u128::from(count))?;
     Ok(Answer { status, text })
 }
@@ -62,23 +71,21 @@ pub fn answer_whole(
 /// Rows that leave headers out, with the first of these and the id of its start.
 pub fn answer_part(
     alloc: Global,
-    first: &[u8],
-    before: usize,
-    words: &[String],
-    lines: &[u8],
+    listing: &Listing,
     id: &[u8],
     next: &Header,
 ) -> Result<Answer, NoMemory>
-    requires some { 2 ≤ before }
-    requires counted { before ≤ length words.now }
+    requires some { 2 ≤ listing.now.before }
+    requires counted { listing.now.before ≤ length listing.now.words.now }
     ensures status { IfOk result (λ a. a.status ≡ Status.More) }
-    ensures text { IfOk result (λ a.
-        a.text.items ≡ part_of first.now before (map string_bytes words.now) lines.now id.now next.now) }
+    ensures text { IfOk result (λ a. a.text.items ≡ part_of listing.now.first.now
+        listing.now.before (map string_bytes listing.now.words.now) listing.now.lines.now
+        id.now next.now) }
 {
     let mut text = Vec::new(alloc);
-    put_line(&mut text, first)?;
-    put_query(&mut text, before, words)?;
-    put(&mut text, lines)?;
+    put_line(&mut text, listing.first)?;
+    put_query(&mut text, listing.before, listing.words)?;
+    put(&mut text, listing.lines)?;
     put_next(&mut text, id, next)?;
     Ok(Answer {
         status: Status::More,

@@ -6,5 +6,5 @@ mod answers;
 mod sides;
 mod words;
 
-pub use answers::{answer_part, answer_whole, is_many, status_by};
+pub use answers::{Listing, answer_part, answer_whole, is_many, status_by};
 pub use sides::{ALL, add_boxes, add_pairs, ascending_alone, each_alone, only};
