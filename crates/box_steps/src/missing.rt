@@ -26,6 +26,13 @@ use fabric::rows::{route_at, vpc_of};
 use header_boxes::Box5;
 use vpc_model::{End, EniNo, Place, SubnetNo, TableNo, Target, VpcNo};
 
+// Where opens may arrive: at their goal or, to go on, at an appliance.
+#[derive(Clone, Copy)]
+struct Aim<'a> {
+    deciders: &'a Deciders,
+    goal: End,
+}
+
 fn is_goal(goal: End, e: EniNo) -> bool
     ensures { result ≡ same_end (ends.Interface e) goal }
 {
@@ -36,36 +43,36 @@ fn is_goal(goal: End, e: EniNo) -> bool
 }
 
 // What is delivered to an interface goes no further, unless it is an appliance's.
-fn is_elsewhere(deciders: &Deciders, goal: End, e: EniNo) -> bool
-    ensures { result ≡ is_elsewhere deciders.now.appliances goal e }
+fn is_elsewhere(aim: &Aim, e: EniNo) -> bool
+    ensures { let a = aim.now in result ≡ is_elsewhere a.deciders.now.appliances a.goal e }
 {
-    match deciders.number(e) {
+    match aim.deciders.number(e) {
         Some(_) => false,
-        None => !is_goal(goal, e),
+        None => !is_goal(aim.goal, e),
     }
 }
 
 // The same of the interface that has a destination, if one has it.
-fn is_away(deciders: &Deciders, goal: End, host: Option<EniNo>) -> bool
-    ensures { result ≡ is_away deciders.now.appliances goal host }
+fn is_away(aim: &Aim, host: Option<EniNo>) -> bool
+    ensures { let a = aim.now in result ≡ is_away a.deciders.now.appliances a.goal host }
 {
     match host {
-        Some(e) => is_elsewhere(deciders, goal, e),
+        Some(e) => is_elsewhere(aim, e),
         None => true,
     }
 }
 
 // Packets for a VPC, where no interface of it that is the goal's or an appliance's has the destination.
-fn host_away_on(f: &Fabric, deciders: &Deciders, goal: End, v: VpcNo, i: &Image) -> Option<Box5>
+fn host_away_on(f: &Fabric, aim: &Aim, v: VpcNo, i: &Image) -> Option<Box5>
     requires vpc { IsTrue (is_vpc f.now v) }
     requires valid { IsValidImage i.now }
     requires walk { IsImageOfWalk i.now }
-    ensures { HoldsOver (Standing f.now)
-        (λ h. is_away deciders.now.appliances goal (host_of f.now v (header_at i.now h).dst))
+    ensures { let a = aim.now in HoldsOver (Standing f.now)
+        (λ h. is_away a.deciders.now.appliances a.goal (host_of f.now v (header_at i.now h).dst))
         i.now.part result }
 {
     let host = host_on(f, v, i);
-    if is_away(deciders, goal, host.told) {
+    if is_away(aim, host.told) {
         Some(host.body)
     } else {
         None
@@ -73,20 +80,13 @@ fn host_away_on(f: &Fabric, deciders: &Deciders, goal: End, v: VpcNo, i: &Image)
 }
 
 // A route to an interface that is neither the goal nor an appliance's.
-fn to_interface_away(
-    f: &Fabric,
-    deciders: &Deciders,
-    goal: End,
-    s: SubnetNo,
-    i: &Image,
-    e: EniNo,
-) -> Option<Box5>
+fn to_interface_away(f: &Fabric, aim: &Aim, s: SubnetNo, i: &Image, e: EniNo) -> Option<Box5>
     requires valid { IsValidImage i.now }
-    ensures { HoldsOver (Standing f.now)
-        (λ h. misses deciders.now.appliances goal (to_interface f.now s (header_at i.now h) e))
+    ensures { let a = aim.now in HoldsOver (Standing f.now)
+        (λ h. misses a.deciders.now.appliances a.goal (to_interface f.now s (header_at i.now h) e))
         i.now.part result }
 {
-    if is_elsewhere(deciders, goal, e) {
+    if is_elsewhere(aim, e) {
         Some(i.part)
     } else {
         None
@@ -94,71 +94,48 @@ fn to_interface_away(
 }
 
 // By the target of the route; of what goes on to a gateway nothing is known.
-fn to_target_away(
-    f: &Fabric,
-    deciders: &Deciders,
-    goal: End,
-    s: SubnetNo,
-    i: &Image,
-    t: TableNo,
-    k: u32,
-) -> Option<Box5>
+fn to_target_away(f: &Fabric, aim: &Aim, s: SubnetNo, i: &Image, t: TableNo, k: u32) -> Option<Box5>
     requires subnet { IsTrue (is_subnet f.now s) }
     requires route { IsTrue (is_route f.now t k) }
     requires valid { IsValidImage i.now }
     requires walk { IsImageOfWalk i.now }
-    ensures { let r = route_at f.now t k in HoldsOver (Standing f.now)
-        (λ h. misses deciders.now.appliances goal
+    ensures { let a = aim.now in let r = route_at f.now t k in HoldsOver (Standing f.now)
+        (λ h. misses a.deciders.now.appliances a.goal
         (to_target f.now s (header_at i.now h) t k r.target)) i.now.part result }
 {
     match &route_at(f, t, k).target {
-        Target::Local => host_away_on(f, deciders, goal, vpc_of(f, s), i),
-        Target::Interface(_) => {
-            to_interface_away(f, deciders, goal, s, i, EniNo(f.target_number(t, k)))
-        }
+        Target::Local => host_away_on(f, aim, vpc_of(f, s), i),
+        Target::Interface(_) => { to_interface_away(f, aim, s, i, EniNo(f.target_number(t, k))) }
         _ => None,
     }
 }
 
 // By the chosen route; of a blackhole nothing is told here.
-fn by_route_away(
-    f: &Fabric,
-    deciders: &Deciders,
-    goal: End,
-    s: SubnetNo,
-    i: &Image,
-    t: TableNo,
-    k: u32,
-) -> Option<Box5>
+fn by_route_away(f: &Fabric, aim: &Aim, s: SubnetNo, i: &Image, t: TableNo, k: u32) -> Option<Box5>
     requires subnet { IsTrue (is_subnet f.now s) }
     requires route { IsTrue (is_route f.now t k) }
     requires valid { IsValidImage i.now }
     requires walk { IsImageOfWalk i.now }
-    ensures { HoldsOver (Standing f.now)
-        (λ h. misses deciders.now.appliances goal (by_route f.now s (header_at i.now h) t (Some k)))
+    ensures { let a = aim.now in HoldsOver (Standing f.now)
+        (λ h. misses a.deciders.now.appliances a.goal (by_route f.now s (header_at i.now h) t (Some k)))
         i.now.part result }
 {
     if route_at(f, t, k).blackhole {
         None
     } else {
-        to_target_away(f, deciders, goal, s, i, t, k)
+        to_target_away(f, aim, s, i, t, k)
     }
 }
 
 // From the router of a subnet, by its table.
-fn router_away_on(
-    f: &Fabric,
-    deciders: &Deciders,
-    goal: End,
-    s: SubnetNo,
-    i: &Image,
-) -> Option<Box5>
+fn router_away_on(f: &Fabric, aim: &Aim, s: SubnetNo, i: &Image) -> Option<Box5>
     requires subnet { IsTrue (is_subnet f.now s) }
     requires valid { IsValidImage i.now }
     requires walk { IsImageOfWalk i.now }
-    ensures { (came : Came) → let t = table_of f.now s in let table = table_at f.now t in
+    ensures { (came : Came) → let a = aim.now in
+        let t = table_of f.now s in let table = table_at f.now t in
         HoldsOver (AtPlace f.now (places.Router s came)) (λ h. let k = header_at i.now h in
-        misses deciders.now.appliances goal
+        misses a.deciders.now.appliances a.goal
         (by_route f.now s k t (chosen_route f.now table.routes k.dst))) i.now.part result }
 {
     let n = f.network();
@@ -166,7 +143,7 @@ fn router_away_on(
     let t = n.table_of(s);
     let chosen = route_on(f, s, i);
     match chosen.told {
-        Some(k) => by_route_away(f, deciders, goal, s, &i.within(&chosen.body), t, k),
+        Some(k) => by_route_away(f, aim, s, &i.within(&chosen.body), t, k),
         None => None,
     }
 }
@@ -181,9 +158,10 @@ pub fn misses_on(f: &Fabric, deciders: &Deciders, goal: End, m: &BoxMoment) -> O
         (λ h. misses_at f.now (appliances_of f.now) goal (moment_at h m.now))
         m.now.header.part result }
 {
+    let aim = Aim { deciders, goal };
     match m.place {
-        Place::Router(s, _) => router_away_on(f, deciders, goal, s, &m.header),
-        Place::Enter(v, _) => host_away_on(f, deciders, goal, v, &m.header),
+        Place::Router(s, _) => router_away_on(f, &aim, s, &m.header),
+        Place::Enter(v, _) => host_away_on(f, &aim, v, &m.header),
         _ => None,
     }
 }

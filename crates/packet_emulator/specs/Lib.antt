@@ -1,3 +1,4 @@
 pub mod Comes
+pub mod Memory
 pub mod Moments
 pub mod Session

@@ -6,6 +6,7 @@ ghost use Rattle.vpc_model.specs.Connections.{is_header};
 ghost use Rattle.vpc_model.specs.Verdict.{hops_after, reply_hops, reply_walk, request_walk, same_end, verdict_of, verdict_of_reply, verdict_of_request};
 ghost use Rattle.vpc_model.specs.Walk.{Walk};
 ghost use Rattle.vpc_model.specs.declared.outcomes.Outcome.TheVariants as outcomes;
+ghost use Rattle.packet_emulator.specs.Memory.{IsLeftBy};
 
 use crate::walks::{Hops, walk};
 use appliances::Deciders;
@@ -52,64 +53,81 @@ fn verdict_of_reply(start: End, h: &Header, outcome: Outcome) -> Verdict
     }
 }
 
-// What becomes of an answer to a request that left these connections and translations.
-fn verdict_of_answer(
-    f: &Fabric,
-    deciders: &Deciders,
+// A request from one end of a network to another.
+#[derive(Clone, Copy)]
+struct Request<'a> {
+    fabric: &'a Fabric,
     start: End,
     goal: End,
-    h: &Header,
+    header: &'a Header,
+}
+
+// What the network remembers of a request.
+#[derive(Drop)]
+struct Memory {
+    conns: SmallConns,
+    nats: SmallNats,
+}
+
+// What becomes of an answer to a request of which this is remembered.
+fn verdict_of_answer(
+    asked: &Request,
+    deciders: &Deciders,
     answer: Header,
-    conns: &mut SmallConns,
-    nats: &mut SmallNats,
+    memory: &mut Memory,
     reply: &mut Hops,
 ) -> Verdict
-    requires goal { IsTrue (is_end f.now goal) }
-    requires conns { 64 ≤ conns.old.spare }
-    requires nats { 64 ≤ nats.old.spare }
+    requires goal { IsTrue (is_end asked.now.fabric.now asked.now.goal) }
+    requires conns { 64 ≤ memory.old.conns.spare }
+    requires nats { 64 ≤ memory.old.nats.spare }
     requires reply { reply.old.items ≡ [] }
-    ensures verdict { (request : Walk) → request.conns ≡ conns.old.conns → request.nats ≡ nats.old.entries
-        → let w = reply_walk f.now deciders.now.appliances goal answer request
-        in result ≡ verdict_of_reply start h.now w.outcome }
-    ensures reply { (request : Walk) → request.conns ≡ conns.old.conns → request.nats ≡ nats.old.entries
-        → let w = reply_walk f.now deciders.now.appliances goal answer request
+    ensures verdict { (request : Walk) → IsLeftBy request memory.old → let a = asked.now in
+        let w = reply_walk a.fabric.now deciders.now.appliances a.goal answer request
+        in result ≡ verdict_of_reply a.start a.header.now w.outcome }
+    ensures reply { (request : Walk) → IsLeftBy request memory.old → let a = asked.now in
+        let w = reply_walk a.fabric.now deciders.now.appliances a.goal answer request
         in reply.new.items ≡ w.hops }
 {
-    let from = start_place(&goal);
-    let outcome = walk(f, deciders, from, Label::Answer, answer, conns, nats, reply);
-    verdict_of_reply(start, h, outcome)
+    let from = start_place(&asked.goal);
+    let outcome = walk(
+        asked.fabric,
+        deciders,
+        from,
+        Label::Answer,
+        answer,
+        &mut memory.conns,
+        &mut memory.nats,
+        reply,
+    );
+    verdict_of_reply(asked.start, asked.header, outcome)
 }
 
 // What becomes of a request that arrived.
 fn verdict_of_arrival(
-    f: &Fabric,
+    asked: &Request,
     deciders: &Deciders,
-    start: End,
-    goal: End,
-    h: &Header,
     end: End,
     k: &Header,
-    conns: &mut SmallConns,
-    nats: &mut SmallNats,
+    memory: &mut Memory,
     reply: &mut Hops,
 ) -> Verdict
-    requires goal { IsTrue (is_end f.now goal) }
-    requires conns { 64 ≤ conns.old.spare }
-    requires nats { 64 ≤ nats.old.spare }
+    requires goal { IsTrue (is_end asked.now.fabric.now asked.now.goal) }
+    requires conns { 64 ≤ memory.old.conns.spare }
+    requires nats { 64 ≤ memory.old.nats.spare }
     requires reply { reply.old.items ≡ [] }
-    ensures verdict { (request : Walk) → request.conns ≡ conns.old.conns → request.nats ≡ nats.old.entries
-        → result ≡ verdict_of_request f.now deciders.now.appliances start goal h.now request
-        (outcomes.Arrived end k.now) }
-    ensures reply { (request : Walk) → request.conns ≡ conns.old.conns → request.nats ≡ nats.old.entries
-        → reply.new.items ≡ hops_after f.now deciders.now.appliances goal request
+    ensures verdict { (request : Walk) → IsLeftBy request memory.old → let a = asked.now in
+        result ≡ verdict_of_request a.fabric.now deciders.now.appliances a.start a.goal a.header.now
+        request (outcomes.Arrived end k.now) }
+    ensures reply { (request : Walk) → IsLeftBy request memory.old → let a = asked.now in
+        reply.new.items ≡ hops_after a.fabric.now deciders.now.appliances a.goal request
         (outcomes.Arrived end k.now) }
 {
-    if !same_end(end, goal) {
+    if !same_end(end, asked.goal) {
         return Verdict::Stopped(Phase::Request, Stop::WrongPlace(end));
     }
     match k.reply() {
-        None => Verdict::Stopped(Phase::Reply, Stop::NoReply(goal)),
-        Some(answer) => verdict_of_answer(f, deciders, start, goal, h, answer, conns, nats, reply),
+        None => Verdict::Stopped(Phase::Reply, Stop::NoReply(asked.goal)),
+        Some(answer) => verdict_of_answer(asked, deciders, answer, memory, reply),
     }
 }
 
@@ -133,8 +151,10 @@ pub fn both(
         in request.new.items ≡ w.hops }
     ensures reply { reply.new.items ≡ reply_hops f.now deciders.now.appliances start goal h }
 {
-    let mut conns = SmallConns::new();
-    let mut nats = SmallNats::new();
+    let mut memory = Memory {
+        conns: SmallConns::new(),
+        nats: SmallNats::new(),
+    };
     let from = start_place(&start);
     match walk(
         f,
@@ -142,14 +162,20 @@ pub fn both(
         from,
         Label::Opening,
         h,
-        &mut conns,
-        &mut nats,
+        &mut memory.conns,
+        &mut memory.nats,
         request,
     ) {
         Outcome::Stopped(stop) => Verdict::Stopped(Phase::Request, stop),
-        Outcome::Arrived(end, k) => verdict_of_arrival(
-            f, deciders, start, goal, &h, end, &k, &mut conns, &mut nats, reply,
-        ),
+        Outcome::Arrived(end, k) => {
+            let asked = Request {
+                fabric: f,
+                start,
+                goal,
+                header: &h,
+            };
+            verdict_of_arrival(&asked, deciders, end, &k, &mut memory, reply)
+        }
     }
 }
 

@@ -7,7 +7,7 @@ ghost use Rattle.read_filters.specs.Acls.{acl_of, action_of, associated_subnet, 
 ghost use Rattle.read_filters.specs.Protocols.{numbered_protocol};
 
 use crate::protocols::numbered_protocol;
-use crate::ranges::{EVERY_Q, QKind, QRange, kind_of, range_within};
+use crate::ranges::{EVERY_Q, QKind, QRange, RangeFields, kind_of, range_within};
 use json_fields::{
     FieldFault, Path, ReadRow, flag_at, id_at, member, number_if, prefix_at, read_items,
     read_kept_items, str_at,
@@ -92,8 +92,20 @@ fn entry_range(alloc: Global, kind: QKind, row: &Value, path: &Path) -> Result<Q
     ensures { Reads (λ x. x) (entry_range kind (view row.now) path.now) result }
 {
     match kind {
-        QKind::Ports => range_within(alloc, kind, row, path, "PortRange", "From", "To"),
-        QKind::Messages => range_within(alloc, kind, row, path, "IcmpTypeCode", "Type", "Code"),
+        QKind::Ports => {
+            let fields = RangeFields {
+                first: "From",
+                last: "To",
+            };
+            range_within(alloc, kind, row, path, "PortRange", &fields)
+        }
+        QKind::Messages => {
+            let fields = RangeFields {
+                first: "Type",
+                last: "Code",
+            };
+            range_within(alloc, kind, row, path, "IcmpTypeCode", &fields)
+        }
         QKind::Anything => Ok(EVERY_Q),
     }
 }

@@ -7,7 +7,7 @@ ghost use Rattle.read_filters.specs.Permissions.{named_list, paired_group, permi
 ghost use Rattle.read_filters.specs.Protocols.{named_protocol};
 
 use crate::protocols::named_protocol;
-use crate::ranges::{QRange, kind_of, range_of};
+use crate::ranges::{QRange, RangeFields, kind_of, range_of};
 use json_fields::{
     FieldFault, Path, ReadRow, id_at, id_if, prefix_at, read_items, read_kept_items, str_at,
 };
@@ -43,7 +43,11 @@ pub fn traffic_of(alloc: Global, row: &Value, path: &Path) -> Result<Traffic, Fi
     ensures { Reads (λ x. x) (traffic_of (view row.now) path.now) result }
 {
     let proto = protocol_at(alloc, row, path)?;
-    let q = range_of(alloc, kind_of(proto), row, path, "FromPort", "ToPort")?;
+    let fields = RangeFields {
+        first: "FromPort",
+        last: "ToPort",
+    };
+    let q = range_of(alloc, kind_of(proto), row, path, &fields)?;
     Ok(Traffic { proto, q })
 }
 

@@ -90,27 +90,34 @@ fn octet_if(alloc: Global, row: &Value, path: &Path, field: &str) -> Result<Opti
     }
 }
 
-/// The range that two members of a row tell: the first and the last port, or the ICMP type and code.
-/// A number that is absent or -1 leaves its end open. Under other protocols neither is read.
+/// The members of a row that tell a range: of the first and the last port, or of the ICMP type and code.
+#[derive(Clone, Copy)]
+pub struct RangeFields<'a> {
+    pub first: &'a str,
+    pub last: &'a str,
+}
+
+/// The range that two members of a row tell. A number that is absent or -1 leaves its end open. Under protocols with
+/// neither ports nor messages nothing is read.
 pub fn range_of(
     alloc: Global,
     kind: QKind,
     row: &Value,
     path: &Path,
-    first: &str,
-    last: &str,
+    fields: &RangeFields,
 ) -> Result<QRange, FieldFault>
-    ensures { Reads (λ x. x) (range_of kind (view row.now) path.now first.now last.now) result }
+    ensures { Reads (λ x. x) (range_of kind (view row.now) path.now fields.now.first.now fields.now.last.now)
+        result }
 {
     match kind {
         QKind::Ports => {
-            let from = port_if(alloc, row, path, first)?;
-            let to = port_if(alloc, row, path, last)?;
+            let from = port_if(alloc, row, path, fields.first)?;
+            let to = port_if(alloc, row, path, fields.last)?;
             Ok(port_range(from, to))
         }
         QKind::Messages => {
-            let kind = octet_if(alloc, row, path, first)?;
-            let code = octet_if(alloc, row, path, last)?;
+            let kind = octet_if(alloc, row, path, fields.first)?;
+            let code = octet_if(alloc, row, path, fields.last)?;
             Ok(message_range(kind, code))
         }
         QKind::Anything => Ok(EVERY_Q),
@@ -125,14 +132,13 @@ pub fn range_within(
     row: &Value,
     path: &Path,
     part: &str,
-    first: &str,
-    last: &str,
+    fields: &RangeFields,
 ) -> Result<QRange, FieldFault>
     ensures { Reads (λ x. x) (range_of kind (part_of (view row.now) part.now)
-        (at_member path.now part.now) first.now last.now) result }
+        (at_member path.now part.now) fields.now.first.now fields.now.last.now) result }
 {
     match row.get(part) {
-        Some(numbers) => range_of(alloc, kind, numbers, &path.member(part), first, last),
+        Some(numbers) => range_of(alloc, kind, numbers, &path.member(part), fields),
         None => Ok(EVERY_Q),
     }
 }

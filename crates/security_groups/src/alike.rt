@@ -189,7 +189,8 @@ fn matches_same(names: &NameTwins, rule: &Rule, other: &Rule) -> bool
 }
 
 fn all_match_same(names: &NameTwins, rules: &[Rule], others: &[Rule]) -> bool
-    ensures { IsTrue result → AllZip (MatchesSame names.now.one.now names.now.other.now) rules.now others.now }
+    ensures { IsTrue result
+        → AllZip (MatchesSame names.now.one.now names.now.other.now) rules.now others.now }
 {
     if rules.len() != others.len() {
         return false;

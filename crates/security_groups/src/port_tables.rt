@@ -8,7 +8,7 @@ ghost use Rattle.security_groups.specs.Tables.{AreBegun, AreEnded, AreLasts, Are
 use crate::asking::allows;
 use crate::on_images::allows_on;
 use crate::rules::Rule;
-use crate::runs_on::{allowing_in_runs, any_in_runs_on, before_next};
+use crate::runs_on::{BegunRules, allowing_in_runs, any_in_runs_on, before_next};
 use address_sets::AddressSet;
 use box_images::{Image, Part};
 use header_boxes::Box5;
@@ -107,20 +107,21 @@ fn least_in(
 fn least_in_runs(
     lists: &[AddressSet],
     members: &NumberSet,
-    rules: &[Rule],
-    lasts: &[u16],
-    ended: usize,
+    begun: &BegunRules,
     dir: Dir,
     h: &Header,
 ) -> Option<u32>
-    requires runs { AreLasts rules.now lasts.now }
-    requires ended { AreEnded lasts.now h.now.q ended }
-    ensures { result ≡ least (allows lists.now members.now dir h.now) rules.now }
+    requires runs { AreLasts begun.now.rules.now begun.now.lasts.now }
+    requires ended { AreEnded begun.now.lasts.now h.now.q begun.now.ended }
+    ensures { result ≡ least (allows lists.now members.now dir h.now) begun.now.rules.now }
 {
     let mut least = None;
-    for k in ended..lasts.len() {
-        if h.q <= lasts[k] {
-            least = lesser(least, least_in(lists, members, run_of(rules, k), dir, h));
+    for k in begun.ended..begun.lasts.len() {
+        if h.q <= begun.lasts[k] {
+            least = lesser(
+                least,
+                least_in(lists, members, run_of(begun.rules, k), dir, h),
+            );
         }
     }
     least
@@ -181,17 +182,20 @@ impl PortTable {
         Ok(PortTable { rules, lasts, tops })
     }
 
-    // The rules that begin at or before a port, the greatest last port of each of their runs, and how many of the first
-    // runs end before the port.
-    fn begun(&self, q: u16) -> (&[Rule], &[u16], usize)
-        ensures rules { AreBegun self.now q result.0.now }
-        ensures lasts { AreLasts result.0.now result.1.now }
-        ensures ended { AreEnded result.1.now q result.2 }
+    // The rules that begin at or before a port.
+    fn begun(&self, q: u16) -> BegunRules<'_>
+        ensures rules { AreBegun self.now q result.rules.now }
+        ensures lasts { AreLasts result.rules.now result.lasts.now }
+        ensures ended { AreEnded result.lasts.now q result.ended }
     {
         let begun = self.rules.partition_point(|rule| rule.q_from <= q);
         let runs = begun.div_ceil(16);
         let ended = self.tops[..runs].partition_point(|top| *top < q);
-        (&self.rules[..begun], &self.lasts[..runs], ended)
+        BegunRules {
+            rules: &self.rules[..begun],
+            lasts: &self.lasts[..runs],
+            ended,
+        }
     }
 
     /// The least number of a rule that allows the packet. It asks the rules that begin at or before its
@@ -205,8 +209,7 @@ impl PortTable {
     ) -> Option<u32>
         ensures { result ≡ least (allows lists.now members.now dir h.now) self.now }
     {
-        let (rules, lasts, ended) = self.begun(h.q);
-        least_in_runs(lists, members, rules, lasts, ended, dir, h)
+        least_in_runs(lists, members, &self.begun(h.q), dir, h)
     }
 
     // The number of a rule in this order that allows the packet, if one does. It asks as `least_allowing`
@@ -220,27 +223,25 @@ impl PortTable {
     ) -> Option<usize>
         ensures { FindsOne (allows lists.now members.now dir h.now) self.now result }
     {
-        let (rules, lasts, ended) = self.begun(h.q);
-        allowing_in_runs(lists, members, rules, lasts, ended, dir, h)
+        allowing_in_runs(lists, members, &self.begun(h.q), dir, h)
     }
 
-    // Whether the rule of this number allows the headers of an image, none of which has a port below this one.
+    // Whether the rule of this number allows the headers of an image.
     fn one_allows_on(
         &self,
         number: usize,
         lists: &[AddressSet],
         members: &NumberSet,
         dir: Dir,
-        q: u16,
         i: &Image,
     ) -> Option<Part<bool>>
         requires valid { IsValidImage i.now }
         requires walk { IsImageOfWalk i.now }
         requires within { number < length self.now }
-        requires above { (h : Header) → holds h i.now.part ≡ true → q ≤ (header_at i.now h).q }
         ensures { IfSome result (Answers (DivideRules lists.now members.now self.now)
             (λ h. allows lists.now members.now dir (header_at i.now h) (rule_at self.now number)) i.now.part) }
     {
+        let q = i.value(&i.part.low()).q;
         allows_on(lists, members, &self.rules[number], dir, q, i)
     }
 
@@ -258,7 +259,7 @@ impl PortTable {
     {
         let low = i.value(&i.part.low());
         let number = self.allowing(lists, members, dir, &low)?;
-        let allowed = self.one_allows_on(number, lists, members, dir, low.q, i)?;
+        let allowed = self.one_allows_on(number, lists, members, dir, i)?;
         if allowed.told {
             Some(allowed.body)
         } else {
@@ -283,15 +284,15 @@ impl PortTable {
             i.now.part result }
     {
         let q = i.value(&i.part.low()).q;
-        let (rules, lasts, ended) = self.begun(q);
+        let begun = self.begun(q);
         let rest = i.within(&before_next(
             lists,
             members,
             self.rules.as_slice(),
-            rules.len(),
+            begun.rules.len(),
             dir,
             i,
         ));
-        any_in_runs_on(lists, members, rules, lasts, ended, dir, q, &rest)
+        any_in_runs_on(lists, members, &begun, dir, q, &rest)
     }
 }

@@ -53,29 +53,37 @@ fn any_in_on(
     }
 }
 
+/// The rules of a table that begin at or before a port, by runs of 16.
+#[derive(Clone, Copy)]
+pub struct BegunRules<'a> {
+    pub rules: &'a [Rule],
+    /// The greatest last port of each run.
+    pub lasts: &'a [u16],
+    /// How many of the first runs end before the port.
+    pub ended: usize,
+}
+
 /// The same by runs of rules. Those that end before a port that no header is below, as the first ones do, aren't asked.
 pub fn any_in_runs_on(
     lists: &[AddressSet],
     members: &NumberSet,
-    rules: &[Rule],
-    lasts: &[u16],
-    ended: usize,
+    begun: &BegunRules,
     dir: Dir,
     q: u16,
     i: &Image,
 ) -> Part<bool>
     requires valid { IsValidImage i.now }
     requires walk { IsImageOfWalk i.now }
-    requires runs { AreLasts rules.now lasts.now }
-    requires ended { AreEnded lasts.now q ended }
+    requires runs { AreLasts begun.now.rules.now begun.now.lasts.now }
+    requires ended { AreEnded begun.now.lasts.now q begun.now.ended }
     requires above { (h : Header) → holds h i.now.part ≡ true → q ≤ (header_at i.now h).q }
-    ensures { Answers (DivideRules lists.now members.now rules.now)
-        (λ h. any_allows lists.now members.now dir rules.now (header_at i.now h)) i.now.part result }
+    ensures { Answers (DivideRules lists.now members.now begun.now.rules.now)
+        (λ h. any_allows lists.now members.now dir begun.now.rules.now (header_at i.now h)) i.now.part result }
 {
     let mut rest = *i;
-    for k in ended..lasts.len() {
-        if q <= lasts[k] {
-            let allowed = any_in_on(lists, members, run_of(rules, k), dir, q, &rest);
+    for k in begun.ended..begun.lasts.len() {
+        if q <= begun.lasts[k] {
+            let allowed = any_in_on(lists, members, run_of(begun.rules, k), dir, q, &rest);
             if allowed.told {
                 return Part {
                     body: allowed.body,
@@ -157,19 +165,17 @@ fn allowing_in(
 pub fn allowing_in_runs(
     lists: &[AddressSet],
     members: &NumberSet,
-    rules: &[Rule],
-    lasts: &[u16],
-    ended: usize,
+    begun: &BegunRules,
     dir: Dir,
     h: &Header,
 ) -> Option<usize>
-    requires runs { AreLasts rules.now lasts.now }
-    requires ended { AreEnded lasts.now h.now.q ended }
-    ensures { FindsOne (allows lists.now members.now dir h.now) rules.now result }
+    requires runs { AreLasts begun.now.rules.now begun.now.lasts.now }
+    requires ended { AreEnded begun.now.lasts.now h.now.q begun.now.ended }
+    ensures { FindsOne (allows lists.now members.now dir h.now) begun.now.rules.now result }
 {
-    for k in ended..lasts.len() {
-        if h.q <= lasts[k] {
-            let allowing = allowing_in(lists, members, run_of(rules, k), dir, h);
+    for k in begun.ended..begun.lasts.len() {
+        if h.q <= begun.lasts[k] {
+            let allowing = allowing_in(lists, members, run_of(begun.rules, k), dir, h);
             if let Some(number) = allowing {
                 return Some(16 * k + number);
             }

@@ -41,10 +41,10 @@ pub returns-in-Some : goal.returns-in-Some
 returns-in-Some g c = λ came.
     let d = c.args.f.now in
     let s = c.args.s in
-    let appliances = c.args.deciders.now.appliances in
+    let appliances = c.args.aim.now.deciders.now.appliances in
     let own = table_of d s in
     let is : c.table_of-t.result ≡ own = c.table_of-t.ensures ∙ ap (λ (n : Description). table_of n s) c.network-n.ensures in
-    choice_away d appliances c.args.goal (places.Router s came) (λ h o. by_route d s h own o) (λ h. chosen_route d (table_at d own).routes h.dst) c.in-Some.k c.args.i.now c.within.result
+    choice_away d appliances c.args.aim.now.goal (places.Router s came) (λ h o. by_route d s h own o) (λ h. chosen_route d (table_at d own).routes h.dst) c.in-Some.k c.args.i.now c.within.result
     c.route_on-chosen.result c.by_route_away.result c.requires.valid.part c.in-Some.is c.within.ensures.image (c.route_on-chosen.ensures came)
-    (subst (λ (u : TableNo). HoldsOver (Standing d) (λ h. misses appliances c.args.goal (by_route d s (header_at c.within.result h) u (Some c.in-Some.k))) c.within.result.part c.by_route_away.result) is
+    (subst (λ (u : TableNo). HoldsOver (Standing d) (λ h. misses appliances c.args.aim.now.goal (by_route d s (header_at c.within.result h) u (Some c.in-Some.k))) c.within.result.part c.by_route_away.result) is
     c.by_route_away.ensures)

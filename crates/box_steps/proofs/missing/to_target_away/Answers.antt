@@ -8,5 +8,5 @@ pub returns-in-Local : goal.returns-in-Local
 returns-in-Local g c =
     let d = c.args.f.now in
     let is = ap (λ (r : Route). r.target) (sym c.route_at.ensures) ∙ c.in-Local.is in
-    local_away d c.args.deciders.now.appliances c.args.goal c.args.s c.args.t c.args.k (route_at d c.args.t c.args.k).target c.vpc_of.result c.args.i.now c.host_away_on.result is
+    local_away d c.args.aim.now.deciders.now.appliances c.args.aim.now.goal c.args.s c.args.t c.args.k (route_at d c.args.t c.args.k).target c.vpc_of.result c.args.i.now c.host_away_on.result is
     c.vpc_of.ensures.number c.host_away_on.ensures

@@ -5,11 +5,11 @@ use Rattle.vpc_model.specs.Walk.{Walk}
 use Rattle.packet_emulator.proofs.verdict.verdict_of_answer.Goals as goal
 
 pub returns-clause-verdict : goal.returns-clause-verdict
-returns-clause-verdict g c = λ request conns nats.
+returns-clause-verdict g c = λ request left.
     c.verdict_of_reply.ensures
-    ∙ ap (verdict_of_reply c.args.start c.args.h.now)
-    (c.walk-outcome.ensures.outcome ∙ ap (λ (w : Walk). w.outcome) (walk_of-reply c.args.f.now c.args.deciders.now.appliances c.args.goal c.args.answer request c.start_place-from.result _ _ c.start_place-from.ensures conns nats))
+    ∙ ap (verdict_of_reply c.args.asked.now.start c.args.asked.now.header.now)
+    (c.walk-outcome.ensures.outcome ∙ ap (λ (w : Walk). w.outcome) (walk_of-reply c.args.asked.now.fabric.now c.args.deciders.now.appliances c.args.asked.now.goal c.args.answer request c.start_place-from.result _ _ c.start_place-from.ensures left.conns left.nats))
 
 pub returns-clause-reply : goal.returns-clause-reply
-returns-clause-reply g c = λ request conns nats.
-    c.walk-outcome.ensures.hops ∙ ap (λ (w : Walk). w.hops) (walk_of-reply c.args.f.now c.args.deciders.now.appliances c.args.goal c.args.answer request c.start_place-from.result _ _ c.start_place-from.ensures conns nats)
+returns-clause-reply g c = λ request left.
+    c.walk-outcome.ensures.hops ∙ ap (λ (w : Walk). w.hops) (walk_of-reply c.args.asked.now.fabric.now c.args.deciders.now.appliances c.args.asked.now.goal c.args.answer request c.start_place-from.result _ _ c.start_place-from.ensures left.conns left.nats)
