@@ -132,39 +132,6 @@ impl Network {
         }
     }
 
-    /// The number of a described internet gateway.
-    pub fn igw_named(&self, id: &Id) -> IgwNo
-        requires { IsTrue (rows.has_igw self.now id.now) }
-        ensures { result ≡ rows.igw_no self.now id.now }
-    {
-        match self.igw(id.bytes()) {
-            Some(number) => number,
-            None => unreachable!(),
-        }
-    }
-
-    /// The number of a described NAT gateway.
-    pub fn nat_named(&self, id: &Id) -> NatNo
-        requires { IsTrue (rows.has_nat self.now id.now) }
-        ensures { result ≡ rows.nat_no self.now id.now }
-    {
-        match self.nat(id.bytes()) {
-            Some(number) => number,
-            None => unreachable!(),
-        }
-    }
-
-    /// The number of a described peering.
-    pub fn peering_named(&self, id: &Id) -> PeerNo
-        requires { IsTrue (rows.has_peering self.now id.now) }
-        ensures { result ≡ rows.peer_no self.now id.now }
-    {
-        match self.peering(id.bytes()) {
-            Some(number) => number,
-            None => unreachable!(),
-        }
-    }
-
     fn subnet_of_interface(&self, interface: &Interface) -> &Subnet
         requires { Contains self.now.interfaces interface.now }
         ensures { result.now ≡ rows.subnet_at self.now (rows.subnet_no self.now interface.now.subnet) }
