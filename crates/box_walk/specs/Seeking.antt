@@ -1,16 +1,14 @@
 -- Walks of opens that are given up where they can no longer arrive at the goal.
 use Rattle.std.specs.Prelude.{◌≡◌, Bool, List, None, Option, Some, false, true, ℕ}
 use Rattle.vpc_base.specs.Cuts.{AreAmong, CutLists}
-use Rattle.vpc_base.specs.declared.headers.Header.{Header}
 use Rattle.vpc_base.specs.declared.headers.Label.TheVariants as labels
 use Rattle.header_boxes.specs.Boxes.{holds, low_of}
 use Rattle.header_boxes.specs.Cells.{IsAligned}
-use Rattle.header_boxes.specs.declared.boxes.Box5.{Box5}
 use Rattle.box_images.specs.Bodies.{IsBody}
 use Rattle.box_steps.specs.Missing.{misses_at}
 use Rattle.box_steps.specs.Moments.{moment_at}
 use Rattle.box_steps.specs.declared.moment.BoxMoment.{BoxMoment}
-use Rattle.vpc_laws.specs.Types.{Description, End, Hop, Outcome, Place}
+use Rattle.vpc_laws.specs.Types.{Box5, Description, End, Header, Hop, Outcome, Place}
 use Rattle.vpc_laws.specs.Walk.{places_of}
 use Rattle.vpc_model.specs.Appliances.{Appliances}
 use Rattle.vpc_model.specs.Near.{cuts_of_hops}

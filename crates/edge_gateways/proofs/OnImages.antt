@@ -1,10 +1,9 @@
 -- What edges answer for all headers of a body.
 use Rattle.std.proofs.Common.{◌≡◌, ◌∙◌, ℕ, Bool, List, Option, ap, arith, false, is_some, option_map, refl, sym, true}
 use Rattle.vpc_base.specs.Cuts.{CutLists}
-use Rattle.vpc_base.specs.declared.headers.Header.{Header}
+use Rattle.vpc_laws.specs.Types.{Box5, Header, VpcNo}
 use Rattle.vpc_base.proofs.Options.{is_some-option_map}
 use Rattle.header_boxes.specs.Boxes.{IsValid}
-use Rattle.header_boxes.specs.declared.boxes.Box5.{Box5}
 use Rattle.box_images.proofs.Reducing.{reduced_all, reduced_by, reduced_nothing}
 use Rattle.box_images.specs.Answers.{Answers}
 use Rattle.box_images.specs.Images.{header_at}
@@ -14,7 +13,6 @@ use Rattle.cut_laws.specs.Dividing.{CutOut}
 use Rattle.number_tables.specs.Entries.{value_at}
 use Rattle.number_tables.specs.Keys.{key_of}
 use Rattle.number_tables.specs.declared.tables.Entry.{Entry}
-use Rattle.vpc_model.specs.declared.numbers.VpcNo.{VpcNo}
 use Rattle.edge_gateways.specs.declared.pairs.Owner.{Owner}
 use Rattle.edge_gateways.specs.declared.peerings.Carry.{Carry}
 use Rattle.edge_gateways.specs.declared.peerings.Carry.TheVariants as carries

@@ -2,18 +2,14 @@
 use Rattle.std.proofs.Common.{◌≡◌, ◌<◌, ◌≤◌, ◌∷◌, ◌||◌, ℕ, Bool, true, false, suc, List, [], Option, Some, None, Err, Ok, refl, sym, ap, subst, ◌∙◌, arith}
 use Rattle.std.specs.List.{All}
 use Rattle.vpc_base.specs.Cuts.{CutLists}
-use Rattle.vpc_base.specs.declared.headers.Header.{Header}
+use Rattle.vpc_laws.specs.Types.{Box5, Description, Header, Row, StopText}
 use Rattle.header_boxes.specs.Boxes.{holds}
 use Rattle.header_boxes.specs.Cells.{cells_of}
 use Rattle.header_boxes.specs.Rows.{HasWord, is_covered}
-use Rattle.header_boxes.specs.declared.boxes.Box5.{Box5}
-use Rattle.header_boxes.specs.declared.rows.Row.{Row}
 use Rattle.cut_points.proofs.Increasing.{same_list}
 use Rattle.query_words.specs.Query.{query_of}
 use Rattle.query_words.specs.declared.queries.Query.{Query}
 use Rattle.vpc_model.specs.Report.{IsCellCount, ending_of}
-use Rattle.vpc_model.specs.declared.rows.Description.{Description}
-use Rattle.vpc_model.specs.declared.stop_texts.StopText.{StopText}
 use Rattle.command_job.specs.Status.{IsOfDevice}
 use Rattle.command_job.specs.declared.status.Status.{Status}
 use Rattle.command_job.specs.declared.status.Status.TheVariants as ends

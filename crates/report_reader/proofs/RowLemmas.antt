@@ -1,7 +1,8 @@
 -- Rows on lines, one after another.
-use Rattle.std.proofs.Common.{◌≡◌, ◌∙◌, ◌+◌, ◌<◌, ◌≤◌, ◌-◌, ◌==◌, ◌&&◌, ◌++◌, ◌∷◌, [], Bool, Bor, Err, List, None, Ok, Option, Result, Some, add-one, ap, append_assoc, append-nil, arith, drop, drop-cons, get_or, length, map, refl, subst, sym, IsErrAnd, ℕ}
+use Rattle.std.proofs.Common.{◌≡◌, ◌∙◌, ◌+◌, ◌<◌, ◌≤◌, ◌-◌, ◌==◌, ◌&&◌, ◌++◌, ◌∷◌, [], Bool, Bor, Err, List, None, Ok, Option, Result, Some, ap, append_assoc, append-nil, arith, drop, get_or, length, map, refl, subst, sym, IsErrAnd, ℕ}
 use Rattle.std.proofs.lemmas.Bool.Decides.{nat_tests}
-use Rattle.std.proofs.lemmas.List.{drop_all, length-drop, length-map}
+use Rattle.std.proofs.lemmas.List.{drop_all, get_or_default, length-drop, length-map}
+use Rattle.vpc_base.proofs.Steps.{drop-next}
 use Rattle.vpc_laws.specs.Types.{Box5, Row, StopText}
 use Rattle.report_reader.specs.declared.report.ReportFault.{ReportFault}
 use Rattle.report_reader.specs.declared.report.ReportFault.TheVariants as faults
@@ -24,9 +25,6 @@ after_rows-fault rows fault rest = refl
 
 -- ---- one line more
 
-first_of : {X : Type 0} (lines : List (Bor X)) (k : ℕ) (line d : Bor X) → k < length lines → line ≡ get_or lines k d → drop k lines ≡ line ∷ drop (k + 1) lines
-first_of lines k line d within at = drop-cons lines k d within ∙ rw (add-one, sym at) refl
-
 none_left : (n k m : ℕ) → m ≡ n - (k + 1) → k < n → (m == 0) ≡ (k + 1 == n)
 none_left n k m rest within = grind (arith, nat_tests)
 
@@ -40,7 +38,7 @@ rows_from-line : (whole : Box5) (ended last : Bool) (lines : List (Bor (List ℕ
     → rows_from whole ended k (map (λ t. t.now) (drop k lines)) ≡ row_before (next_row whole k last line.now) (rows_from whole ended (k + 1) (map (λ t. t.now) (drop (k + 1) lines)))
 rows_from-line whole ended last lines k line d within at is =
     let rest = map (λ (t : Bor (List ℕ)). t.now) (drop (k + 1) lines) in
-    ap (λ (xs : List (Bor (List ℕ))). rows_from whole ended k (map (λ t. t.now) xs)) (first_of lines k line d within at)
+    ap (λ (xs : List (Bor (List ℕ))). rows_from whole ended k (map (λ t. t.now) xs)) (drop-next lines k line within (at ∙ get_or_default lines k d line within))
     ∙ ap (λ (b : Bool). row_before (next_row whole k b line.now) (rows_from whole ended (k + 1) rest)) (ap (λ (b : Bool). b && ended) (last_line lines k within) ∙ sym is)
 
 -- what is meant, told by what the next line says

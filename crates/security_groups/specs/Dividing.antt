@@ -6,15 +6,11 @@ use Rattle.box_images.specs.Answers.{Answers, Reduces}
 use Rattle.box_images.specs.Images.{header_at}
 use Rattle.box_images.specs.declared.images.Image.{Image}
 use Rattle.header_boxes.specs.Boxes.{holds}
-use Rattle.header_boxes.specs.declared.boxes.Box5.{Box5}
+use Rattle.vpc_laws.specs.Types.{Box5, Description, Dir, EniNo, Header}
 use Rattle.vpc_base.specs.Cuts.{CutLists}
-use Rattle.vpc_base.specs.declared.headers.Dir.{Dir}
-use Rattle.vpc_base.specs.declared.headers.Header.{Header}
 use Rattle.vpc_model.specs.Cuts.{cuts_at}
 use Rattle.vpc_model.specs.Sound.{is_eni}
 use Rattle.vpc_model.specs.declared.places.Place.TheVariants as places
-use Rattle.vpc_model.specs.declared.rows.Description.{Description}
-use Rattle.vpc_model.specs.declared.numbers.EniNo.{EniNo}
 use Rattle.security_groups.specs.Asking.{no_rules, rules_of}
 use Rattle.security_groups.specs.Rules.{DivideRules, allows, any_allows, has_entry, has_member}
 use Rattle.security_groups.specs.Index.{GroupLists}

@@ -84,7 +84,8 @@ impl Header {
     }
 
     fn backward(&self, p: u16, q: u16) -> Header
-        ensures { result ≡ record { proto = self.now.proto; src = self.now.dst; dst = self.now.src; p = p; q = q } }
+        ensures { result ≡
+            record { proto = self.now.proto; src = self.now.dst; dst = self.now.src; p = p; q = q } }
     {
         Header {
             proto: self.proto,
