@@ -1,12 +1,17 @@
 -- What is asked of requests from a start, toward any end.
 use Rattle.vpc_base.specs.Cuts.{AreAmong}
 use Rattle.vpc_base.specs.declared.headers.Header.{Header}
+use Rattle.header_boxes.specs.Boxes.{low_of}
+use Rattle.box_images.specs.Answers.{Answers}
+use Rattle.box_images.specs.declared.images.Part.{Part}
+use Rattle.std.specs.Prelude.{None}
 use Rattle.cut_laws.proofs.Places.{near_cuts_are_among_all}
-use Rattle.vpc_laws.specs.Types.{Description, End}
+use Rattle.vpc_laws.specs.Types.{Box5, Description, End}
 use Rattle.vpc_model.specs.Appliances.{appliances_of}
 use Rattle.vpc_model.specs.Cuts.{cuts_of}
 use Rattle.vpc_model.specs.Verdict.{request_walk}
-use Rattle.box_walk.specs.Journeys.{arrived_at, open_cuts}
+use Rattle.box_walk.specs.Journeys.{arrived_at, journey_of, open_cuts}
+use Rattle.box_walk.specs.declared.journeys.Journey.{Journey}
 
 -- a described network and a start
 pub record Starting : Type 0 where
@@ -15,6 +20,12 @@ pub record Starting : Type 0 where
 
 abbrev pub starting : Description → End → Starting
 starting d start = record { network = d; start = start }
+
+-- what becomes of the requests of a part of the sides
+abbrev pub AnswersJourney : Starting → Box5 → Part Journey → Type 0
+AnswersJourney s sides told =
+    let a = appliances_of s.network in
+    Answers (AreAmong (open_cuts s.network a s.start (low_of sides))) (journey_of s.network a s.start None) sides told
 
 -- the cuts at the places of a journey are among all
 pub open_cuts_are_among_all : (d : Description) (start : End) (h : Header) → AreAmong (open_cuts d (appliances_of d) start h) (cuts_of d)

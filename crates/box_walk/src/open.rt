@@ -1,13 +1,11 @@
 // The probe that asks at which end requests from a start get through.
 ghost use Rattle.std.specs.Prelude.{◌≡◌, ◌↔◌, IfSome, IsTrue, None, true};
-ghost use Rattle.vpc_base.specs.Cuts.{AreAmong};
-ghost use Rattle.header_boxes.specs.Boxes.{IsValid, low_of};
-ghost use Rattle.box_images.specs.Answers.{Answers};
+ghost use Rattle.header_boxes.specs.Boxes.{IsValid};
 ghost use Rattle.vpc_model.specs.Appliances.{appliances_of};
 ghost use Rattle.vpc_model.specs.Sound.{is_end};
 ghost use Rattle.box_walk.specs.Arriving.{AreArrivals};
-ghost use Rattle.box_walk.specs.Journeys.{journey_of, open_cuts, reached_end};
-ghost use Rattle.box_walk.specs.Open.{starting};
+ghost use Rattle.box_walk.specs.Journeys.{reached_end};
+ghost use Rattle.box_walk.specs.Open.{AnswersJourney, starting};
 
 use crate::arriving::{Arrivals, arrivals_of};
 use crate::journeys::{Journey, journey_on};
@@ -81,9 +79,7 @@ impl<'a> OpenProbe<'a> {
     // What becomes of the requests of a part of the sides, by the moment that follows them.
     fn follow(&self, sides: &Box5, m: &mut BoxMoment) -> Part<Journey>
         requires { IsValid sides.now }
-        ensures { Answers
-            (AreAmong (open_cuts self.now.fabric.now (appliances_of self.now.fabric.now) self.now.start (low_of sides.now)))
-            (journey_of self.now.fabric.now (appliances_of self.now.fabric.now) self.now.start None) sides.now result }
+        ensures { AnswersJourney (starting self.now.fabric.now self.now.start) sides.now result }
     {
         begin(m, self.start, sides);
         let told = journey_on(self.fabric, self.deciders, self.start, m);
@@ -91,12 +87,10 @@ impl<'a> OpenProbe<'a> {
         Part { body, told }
     }
 
-    // The same by a moment of its own.
+    // What becomes of the requests of a part of the sides, by a moment of its own.
     fn follow_apart(&self, sides: &Box5) -> Part<Journey>
         requires { IsValid sides.now }
-        ensures { Answers
-            (AreAmong (open_cuts self.now.fabric.now (appliances_of self.now.fabric.now) self.now.start (low_of sides.now)))
-            (journey_of self.now.fabric.now (appliances_of self.now.fabric.now) self.now.start None) sides.now result }
+        ensures { AnswersJourney (starting self.now.fabric.now self.now.start) sides.now result }
     {
         self.follow(sides, &mut moment_at(self.start, sides))
     }
@@ -105,9 +99,7 @@ impl<'a> OpenProbe<'a> {
     /// replies.
     pub fn journey_on(&self, sides: &Box5) -> Part<Journey>
         requires { IsValid sides.now }
-        ensures { Answers
-            (AreAmong (open_cuts self.now.fabric.now (appliances_of self.now.fabric.now) self.now.start (low_of sides.now)))
-            (journey_of self.now.fabric.now (appliances_of self.now.fabric.now) self.now.start None) sides.now result }
+        ensures { AnswersJourney (starting self.now.fabric.now self.now.start) sides.now result }
     {
         match self.followed.try_borrow_mut() {
             Ok(mut m) => self.follow(sides, &mut m),
@@ -141,7 +133,7 @@ impl<'a> OpenProbe<'a> {
 
 impl<'a> Probe for OpenProbe<'a> {
     ghost use Rattle.vpc_model.specs.Cuts.{cuts_of};
-    ghost use Rattle.box_walk.specs.Journeys.{reached_of};
+    ghost use Rattle.box_walk.specs.Journeys.{open_cuts, reached_of};
     ghost use Rattle.box_walk.specs.Open.{open_cuts_are_among_all};
 
     type Word = End;

@@ -1,15 +1,12 @@
 // The probe that is asked of the requests from one end to another.
 ghost use Rattle.std.specs.Prelude.{◌≡◌, ◌↔◌, [], IsTrue, List, ℕ};
-ghost use Rattle.vpc_base.specs.Cuts.{AreAmong};
 ghost use Rattle.vpc_base.specs.declared.headers.Header.{Header};
-ghost use Rattle.header_boxes.specs.Boxes.{IsValid, low_of};
-ghost use Rattle.box_images.specs.Answers.{Answers};
+ghost use Rattle.header_boxes.specs.Boxes.{IsValid};
 ghost use Rattle.box_images.specs.Images.{IsImageOfOpen, IsValidImage, header_at};
 ghost use Rattle.vpc_model.specs.Appliances.{appliances_of};
-ghost use Rattle.vpc_model.specs.Near.{near_cuts};
 ghost use Rattle.vpc_model.specs.Place.{start_of};
 ghost use Rattle.vpc_model.specs.Sound.{is_end};
-ghost use Rattle.box_walk.specs.Asking.{IsAsking, asked, stopped_of, word_of};
+ghost use Rattle.box_walk.specs.Asking.{AnswersStopped, AnswersWord, IsAsking, asked};
 
 use crate::verdict::{Word, is_stopped, whether, word_of_request};
 use crate::ways::Way;
@@ -130,21 +127,17 @@ impl<'a> RoundProbe<'a> {
     // What stops the requests of a part of the sides, or their replies, followed from the start.
     fn follow_whole(&self, sides: &Box5, m: &mut BoxMoment) -> Word
         requires { IsValid sides.now }
-        ensures { Answers
-            (AreAmong (near_cuts self.now.fabric.now (appliances_of self.now.fabric.now) self.now.start self.now.goal (low_of sides.now)))
-            (word_of (asked self.now.fabric.now self.now.start self.now.goal)) sides.now
+        ensures { AnswersWord (asked self.now.fabric.now self.now.start self.now.goal) sides.now
             (record { body = m.new.header.part; told = result }) }
     {
         begin(m, self.start, sides);
         word_of_request(self.fabric, self.deciders, self.start, self.goal, m)
     }
 
-    // The same by the known way, if they have come by it.
+    // What stops the requests of a part of the sides, or their replies: by the known way, if they have come by it.
     fn follow(&self, sides: &Box5, m: &mut BoxMoment) -> Part<Word>
         requires { IsValid sides.now }
-        ensures { Answers
-            (AreAmong (near_cuts self.now.fabric.now (appliances_of self.now.fabric.now) self.now.start self.now.goal (low_of sides.now)))
-            (word_of (asked self.now.fabric.now self.now.start self.now.goal)) sides.now result }
+        ensures { AnswersWord (asked self.now.fabric.now self.now.start self.now.goal) sides.now result }
     {
         if let Some(told) = self.way.word_on(self.deciders, sides, m) {
             let body = m.header.part;
@@ -157,12 +150,10 @@ impl<'a> RoundProbe<'a> {
         }
     }
 
-    // The same by a moment of its own, which a function clears where it begins: so no other one holds it.
+    // What stops them, by a moment of its own: it is made and cleared within the call, so that no other call holds it.
     fn follow_apart(&self, sides: &Box5) -> Part<Word>
         requires { IsValid sides.now }
-        ensures { Answers
-            (AreAmong (near_cuts self.now.fabric.now (appliances_of self.now.fabric.now) self.now.start self.now.goal (low_of sides.now)))
-            (word_of (asked self.now.fabric.now self.now.start self.now.goal)) sides.now result }
+        ensures { AnswersWord (asked self.now.fabric.now self.now.start self.now.goal) sides.now result }
     {
         self.follow(sides, &mut moment_at(self.start, sides))
     }
@@ -170,21 +161,17 @@ impl<'a> RoundProbe<'a> {
     // Whether something stops the requests of a part of the sides, or their replies, followed from the start.
     fn ask_whole(&self, sides: &Box5, m: &mut BoxMoment) -> Option<()>
         requires { IsValid sides.now }
-        ensures { Answers
-            (AreAmong (near_cuts self.now.fabric.now (appliances_of self.now.fabric.now) self.now.start self.now.goal (low_of sides.now)))
-            (stopped_of (asked self.now.fabric.now self.now.start self.now.goal)) sides.now
+        ensures { AnswersStopped (asked self.now.fabric.now self.now.start self.now.goal) sides.now
             (record { body = m.new.header.part; told = result }) }
     {
         begin(m, self.start, sides);
         is_stopped(self.fabric, self.deciders, self.start, self.goal, m)
     }
 
-    // The same by the known way, if they have come by it.
+    // Whether something stops the requests of a part of the sides, or their replies: by the known way, if they have come by it.
     fn ask(&self, sides: &Box5, m: &mut BoxMoment) -> Part<Option<()>>
         requires { IsValid sides.now }
-        ensures { Answers
-            (AreAmong (near_cuts self.now.fabric.now (appliances_of self.now.fabric.now) self.now.start self.now.goal (low_of sides.now)))
-            (stopped_of (asked self.now.fabric.now self.now.start self.now.goal)) sides.now result }
+        ensures { AnswersStopped (asked self.now.fabric.now self.now.start self.now.goal) sides.now result }
     {
         if let Some(word) = self.way.word_on(self.deciders, sides, m) {
             let body = m.header.part;
@@ -196,12 +183,10 @@ impl<'a> RoundProbe<'a> {
         Part { body, told }
     }
 
-    // The same by a moment of its own.
+    // Whether something stops them, by a moment of its own.
     fn ask_apart(&self, sides: &Box5) -> Part<Option<()>>
         requires { IsValid sides.now }
-        ensures { Answers
-            (AreAmong (near_cuts self.now.fabric.now (appliances_of self.now.fabric.now) self.now.start self.now.goal (low_of sides.now)))
-            (stopped_of (asked self.now.fabric.now self.now.start self.now.goal)) sides.now result }
+        ensures { AnswersStopped (asked self.now.fabric.now self.now.start self.now.goal) sides.now result }
     {
         self.ask(sides, &mut moment_at(self.start, sides))
     }
@@ -210,9 +195,7 @@ impl<'a> RoundProbe<'a> {
     /// than one of which that is told.
     pub fn is_stopped_on(&self, sides: &Box5) -> Part<Option<()>>
         requires { IsValid sides.now }
-        ensures { Answers
-            (AreAmong (near_cuts self.now.fabric.now (appliances_of self.now.fabric.now) self.now.start self.now.goal (low_of sides.now)))
-            (stopped_of (asked self.now.fabric.now self.now.start self.now.goal)) sides.now result }
+        ensures { AnswersStopped (asked self.now.fabric.now self.now.start self.now.goal) sides.now result }
     {
         match self.followed.try_borrow_mut() {
             Ok(mut m) => self.ask(sides, &mut m),
@@ -224,6 +207,8 @@ impl<'a> RoundProbe<'a> {
 impl<'a> Probe for RoundProbe<'a> {
     ghost use Rattle.vpc_model.specs.Cuts.{cuts_of};
     ghost use Rattle.cut_laws.proofs.Places.{near_cuts_are_among_all};
+    ghost use Rattle.vpc_model.specs.Near.{near_cuts};
+    ghost use Rattle.box_walk.specs.Asking.{word_of};
 
     type Word = (Phase, Stop);
 

@@ -1,18 +1,15 @@
 // The way of requests to their goal, as far as all of them pass the same places.
 ghost use Rattle.std.specs.Prelude.{◌≡◌, ◌+◌, ◌<◌, ◌≤◌, IfSome, IsTrue, false, length, true};
-ghost use Rattle.box_images.specs.Answers.{Answers};
 ghost use Rattle.box_steps.specs.Moments.{CanRemember, IsBoxMoment};
-ghost use Rattle.box_walk.specs.Asking.{IsAsking, asked, word_of};
+ghost use Rattle.box_walk.specs.Asking.{AnswersWord, IsAsking, asked};
 ghost use Rattle.box_walk.specs.Rests.{IsLeftAt, is_among};
 ghost use Rattle.box_walk.specs.Told.{AreRequests, DivideArrival, Tells, word_of_arrival};
 ghost use Rattle.box_walk.specs.Walks.{BeginsFresh};
 ghost use Rattle.box_walk.specs.Ways.{HaveComeTo, IsFollowedTo, IsKnownWay, TellsReturns};
-ghost use Rattle.header_boxes.specs.Boxes.{IsValid, IsWithin, holds, low_of};
-ghost use Rattle.vpc_base.specs.Cuts.{AreAmong};
+ghost use Rattle.header_boxes.specs.Boxes.{IsValid, IsWithin, holds};
 ghost use Rattle.vpc_base.specs.declared.headers.Header.{Header};
 ghost use Rattle.vpc_base.specs.declared.headers.Label.TheVariants as labels;
 ghost use Rattle.vpc_model.specs.Appliances.{appliances_of};
-ghost use Rattle.vpc_model.specs.Near.{near_cuts};
 ghost use Rattle.vpc_model.specs.Sound.{is_end, is_eni};
 ghost use Rattle.vpc_model.specs.Verdict.{same_end};
 ghost use Rattle.vpc_model.specs.declared.places.End.TheVariants as ends;
@@ -246,62 +243,62 @@ fn likely(f: &Fabric, start: End, i: EniNo, sides: &Box5) -> Box5
     }
 }
 
-// What stops the replies of requests that have arrived, which may be known.
-fn word_back(
-    f: &Fabric,
-    deciders: &Deciders,
+// A network, its appliances, and the two ends that are asked about.
+#[derive(Clone, Copy)]
+struct Question<'a> {
+    fabric: &'a Fabric,
+    deciders: &'a Deciders,
     start: End,
     goal: End,
-    end: End,
-    back: &Option<Part<Word>>,
-    m: &mut BoxMoment,
-) -> Word
-    requires appliances { deciders.now.appliances ≡ appliances_of f.now }
-    requires goal { IsTrue (is_end f.now goal) }
-    requires moment { IsBoxMoment f.now labels.Opening m.old }
-    requires back { IfSome back.now (λ x. same_end end goal ≡ true → (h : Header)
+}
+
+// What stops the replies of requests that have arrived, which may be known.
+fn word_back(q: &Question<'_>, end: End, back: &Option<Part<Word>>, m: &mut BoxMoment) -> Word
+    requires appliances { q.now.deciders.now.appliances ≡ appliances_of q.now.fabric.now }
+    requires goal { IsTrue (is_end q.now.fabric.now q.now.goal) }
+    requires moment { IsBoxMoment q.now.fabric.now labels.Opening m.old }
+    requires back { IfSome back.now (λ x. same_end end q.now.goal ≡ true → (h : Header)
         → holds h m.old.header.part ≡ true → holds h x.body ≡ true
-        → x.told ≡ word_of_arrival f.now (appliances_of f.now) start goal end m.old h) }
-    ensures { Tells (DivideArrival f.now (appliances_of f.now) goal end m.old)
-        (word_of_arrival f.now (appliances_of f.now) start goal end m.old) m.old m.new result }
+        → x.told ≡ word_of_arrival q.now.fabric.now (appliances_of q.now.fabric.now)
+        q.now.start q.now.goal end m.old h) }
+    ensures { let d = q.now.fabric.now in
+        Tells (DivideArrival d (appliances_of d) q.now.goal end m.old)
+        (word_of_arrival d (appliances_of d) q.now.start q.now.goal end m.old) m.old m.new result }
 {
     if let Some(x) = back {
-        if same_end(end, goal) && is_within(&m.header.part, &x.body) {
+        if same_end(end, q.goal) && is_within(&m.header.part, &x.body) {
             return x.told;
         }
     }
-    word_of_arrival(f, deciders, start, goal, end, m)
+    word_of_arrival(q.fabric, q.deciders, q.start, q.goal, end, m)
 }
 
 // What stops requests that have come by a known way, or their replies; nothing where the interface sends them on, as
 // that of an appliance may.
 fn word_by(
-    f: &Fabric,
-    deciders: &Deciders,
-    start: End,
-    goal: End,
+    q: &Question<'_>,
     before: &BoxMoment,
     back: &Option<Part<Word>>,
     sides: &Box5,
     m: &mut BoxMoment,
 ) -> Option<Word>
-    requires appliances { deciders.now.appliances ≡ appliances_of f.now }
-    requires goal { IsTrue (is_end f.now goal) }
-    requires way { IsKnownWay f.now (appliances_of f.now) start goal before.now back.now }
+    requires appliances { q.now.deciders.now.appliances ≡ appliances_of q.now.fabric.now }
+    requires goal { IsTrue (is_end q.now.fabric.now q.now.goal) }
+    requires way { let d = q.now.fabric.now in
+        IsKnownWay d (appliances_of d) q.now.start q.now.goal before.now back.now }
     requires within { IsWithin sides.now before.now.header.part }
-    ensures { IfSome result (λ told. Answers
-        (AreAmong (near_cuts f.now (appliances_of f.now) start goal (low_of sides.now)))
-        (word_of (asked f.now start goal)) sides.now
+    ensures { IfSome result (λ told.
+        AnswersWord (asked q.now.fabric.now q.now.start q.now.goal) sides.now
         (record { body = m.new.header.part; told = told })) }
 {
     m.take_within(before, sides);
     let header = m.header;
-    match step_in_place(f, deciders, Label::Opening, m) {
+    match step_in_place(q.fabric, q.deciders, Label::Opening, m) {
         Onward::Stop(stop) => Some(Some((Phase::Request, stop))),
         Onward::Go(_) => None,
         Onward::Arrive(end) => {
             m.header = header.within(&m.header.part);
-            Some(word_back(f, deciders, start, goal, end, back, m))
+            Some(word_back(q, end, back, m))
         }
     }
 }
@@ -359,9 +356,8 @@ impl<'a> Way<'a> {
         requires appliances { deciders.now.appliances ≡ appliances_of self.now.network }
         requires ends { IsAsking self.now }
         requires valid { IsValid sides.now }
-        ensures { IfSome result (λ told. Answers
-            (AreAmong (near_cuts self.now.network (appliances_of self.now.network) self.now.start self.now.goal (low_of sides.now)))
-            (word_of self.now) sides.now (record { body = m.new.header.part; told = told })) }
+        ensures { IfSome result (λ told.
+            AnswersWord self.now sides.now (record { body = m.new.header.part; told = told })) }
     {
         if !self.is_known {
             return None;
@@ -369,15 +365,12 @@ impl<'a> Way<'a> {
         if !is_within(sides, &self.before.header.part) {
             return None;
         }
-        word_by(
-            self.fabric,
+        let q = Question {
+            fabric: self.fabric,
             deciders,
-            self.start,
-            self.goal,
-            &self.before,
-            &self.back,
-            sides,
-            m,
-        )
+            start: self.start,
+            goal: self.goal,
+        };
+        word_by(&q, &self.before, &self.back, sides, m)
     }
 }

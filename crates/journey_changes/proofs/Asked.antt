@@ -3,28 +3,17 @@ use Rattle.std.proofs.Common.{◌≡◌, ◌∙◌, Err, IfSome, None, Option, S
 use Rattle.box_images.proofs.BodyLemmas.{body_of_itself}
 use Rattle.box_images.specs.Answers.{Answers}
 use Rattle.box_images.specs.declared.images.Part.{Part}
-use Rattle.box_walk.specs.Asking.{Asking, asked, stop_of, stopped_of, whether, word_of}
-use Rattle.box_walk.specs.Goal.{goal_unless}
-use Rattle.box_walk.specs.Journeys.{journey_by, journey_of, open_cuts}
-use Rattle.box_walk.specs.Open.{Starting, starting}
+use Rattle.box_walk.specs.Terms.{AnswersJourney, AnswersStopped, AnswersWord, Asking, Starting, asked, goal_unless, journey_by, journey_of, starting, stop_of, stopped_of, whether, word_of}
 use Rattle.box_walk.specs.declared.journeys.Journey.{Journey}
 use Rattle.box_walk.specs.declared.journeys.Journey.TheVariants as journeys
 use Rattle.header_boxes.proofs.CellNumbers.{aligned_to_itself, aligned_to_more}
-use Rattle.header_boxes.specs.Boxes.{IsValid, IsWithin, holds, low_of}
-use Rattle.header_boxes.specs.Cells.{IsAligned}
-use Rattle.header_boxes.specs.declared.boxes.Box5.{Box5}
+use Rattle.header_boxes.specs.Terms.{IsAligned, IsValid, IsWithin, holds, low_of}
 use Rattle.vpc_base.specs.Cuts.{AreAmong, CutLists}
-use Rattle.vpc_base.specs.declared.headers.Header.{Header}
-use Rattle.vpc_laws.specs.Types.{Description, End, Phase, Stop, Verdict}
-use Rattle.vpc_model.specs.Appliances.{appliances_of}
-use Rattle.vpc_model.specs.Near.{near_cuts}
-use Rattle.vpc_model.specs.Sound.{is_end}
-use Rattle.vpc_model.specs.Verdict.{verdict_of}
+use Rattle.vpc_laws.specs.Types.{Box5, Description, End, Header, Phase, Stop, Verdict}
+use Rattle.vpc_model.specs.Terms.{appliances_of, is_end, verdict_of}
 use Rattle.vpc_model.specs.declared.outcomes.Verdict.TheVariants as verdicts
-use Rattle.journey_changes.specs.Fates.{Fate, fate_by, fate_of, fate_unless, missing_by, reached_by}
-use Rattle.journey_changes.specs.Sent.{IsToward, Sent, fate, goal_or, near, reached, sent, start_or}
+use Rattle.journey_changes.specs.Terms.{Fate, IsToward, Sent, Toward, fate, fate_by, fate_of, fate_unless, goal_or, missing_by, near, reached, reached_by, sent, start_or}
 use Rattle.journey_changes.specs.declared.fates.Barrier.TheVariants as barriers
-use Rattle.journey_changes.specs.declared.fates.Toward.{Toward}
 use Rattle.journey_changes.specs.declared.fates.Toward.TheVariants as towards
 
 -- ---- answers
@@ -114,28 +103,28 @@ by_goal_fate goal (verdicts.Stopped phase s) = refl
 
 module _ (q : Sent) (d : Description) (b s : End) (part : Box5) (is : q.start ≡ Some s) where
   pub any_reached : (x : Part Journey) (told : Option End) → starting d b ≡ starting q.network (start_or q.start) → q.toward ≡ towards.Any → told ≡ reached_by (fate_by x.told)
-      → Answers (AreAmong (open_cuts d (appliances_of d) b (low_of part))) (journey_of d (appliances_of d) b None) part x
+      → AnswersJourney (starting d b) part x
       → Answers (AreAmong (near q (low_of part))) (reached q) part (record { body = x.body; told = told })
   any_reached x told same toward_is says k =
       told_in q (sent d (Some b) towards.Any) (journey_of d (appliances_of d) b None) reached part x told (λ j. reached_by (fate_by j))
       (open_sent q d b s is towards.Any same toward_is) (λ h. refl) says k
 
   pub any_fate : (x : Part Journey) (told : Fate) → starting d b ≡ starting q.network (start_or q.start) → q.toward ≡ towards.Any → told ≡ fate_by x.told
-      → Answers (AreAmong (open_cuts d (appliances_of d) b (low_of part))) (journey_of d (appliances_of d) b None) part x
+      → AnswersJourney (starting d b) part x
       → Answers (AreAmong (near q (low_of part))) (fate q) part (record { body = x.body; told = told })
   any_fate x told same toward_is says k =
       told_in q (sent d (Some b) towards.Any) (journey_of d (appliances_of d) b None) fate part x told fate_by
       (open_sent q d b s is towards.Any same toward_is) (λ h. refl) says k
 
   pub missing_fate : (x : Part Journey) (told : Fate) → starting d b ≡ starting q.network (start_or q.start) → q.toward ≡ towards.Missing → told ≡ missing_by x.told
-      → Answers (AreAmong (open_cuts d (appliances_of d) b (low_of part))) (journey_of d (appliances_of d) b None) part x
+      → AnswersJourney (starting d b) part x
       → Answers (AreAmong (near q (low_of part))) (fate q) part (record { body = x.body; told = told })
   missing_fate x told same toward_is says k =
       told_in q (sent d (Some b) towards.Missing) (journey_of d (appliances_of d) b None) fate part x told missing_by
       (open_sent q d b s is towards.Missing same toward_is) (λ h. refl) says k
 
   pub goal_reached : (g goal : End) (x : Part (Option (Unit {0}))) (told : Option End) → asked d b g ≡ asked q.network (start_or q.start) (goal_or q.toward) → q.toward ≡ towards.Goal goal
-      → told ≡ goal_unless goal x.told → Answers (AreAmong (near_cuts d (appliances_of d) b g (low_of part))) (stopped_of (asked d b g)) part x
+      → told ≡ goal_unless goal x.told → AnswersStopped (asked d b g) part x
       → Answers (AreAmong (near q (low_of part))) (reached q) part (record { body = x.body; told = told })
   goal_reached g goal x told same toward_is says k =
       told_in q (sent d (Some b) (towards.Goal g)) (stopped_of (asked d b g)) reached part x told (goal_unless goal) (round_sent q d b s is g goal same toward_is)
@@ -143,7 +132,7 @@ module _ (q : Sent) (d : Description) (b s : End) (part : Box5) (is : q.start �
       says k
 
   pub goal_fate : (g goal : End) (x : Part (Option (Phase × Stop))) (told : Fate) → asked d b g ≡ asked q.network (start_or q.start) (goal_or q.toward) → q.toward ≡ towards.Goal goal
-      → told ≡ fate_unless goal x.told → Answers (AreAmong (near_cuts d (appliances_of d) b g (low_of part))) (word_of (asked d b g)) part x
+      → told ≡ fate_unless goal x.told → AnswersWord (asked d b g) part x
       → Answers (AreAmong (near q (low_of part))) (fate q) part (record { body = x.body; told = told })
   goal_fate g goal x told same toward_is says k =
       told_in q (sent d (Some b) (towards.Goal g)) (word_of (asked d b g)) fate part x told (fate_unless goal) (round_sent q d b s is g goal same toward_is)

@@ -3,7 +3,8 @@ use Rattle.box_steps.proofs.Narrowing.{moment-narrowed}
 use Rattle.vpc_base.specs.declared.headers.Label.TheVariants as labels
 use Rattle.vpc_model.specs.Appliances.{appliances_of}
 use Rattle.vpc_model.specs.declared.places.End.TheVariants as ends
-use Rattle.box_walk.proofs.WayLemmas.{returns_from_itself, room_kept}
+use Rattle.box_walk.proofs.WayOn.{room_kept}
+use Rattle.box_walk.proofs.WayBack.{returns_from_itself}
 use Rattle.box_walk.proofs.ways.returns_from.Goals as goal
 
 pub step_in_place-requires-clause-moment : goal.step_in_place-requires-clause-moment

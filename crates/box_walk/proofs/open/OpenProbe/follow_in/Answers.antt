@@ -3,7 +3,7 @@ use Rattle.std.specs.Prelude.{IfSome}
 use Rattle.header_boxes.specs.declared.boxes.Box5.{Box5}
 use Rattle.vpc_model.specs.Appliances.{appliances_of}
 use Rattle.vpc_model.specs.Lookup.{addresses_in}
-use Rattle.box_walk.proofs.Telling.{request_moment}
+use Rattle.box_walk.proofs.TellingArrivals.{request_moment}
 use Rattle.box_walk.specs.Arriving.{AreArrivals}
 use Rattle.box_walk.proofs.open.OpenProbe.follow_in.Goals as goal
 

@@ -1,13 +1,8 @@
 use Rattle.std.proofs.Common.{subst}
-use Rattle.vpc_base.specs.Cuts.{AreAmong}
-use Rattle.header_boxes.specs.Boxes.{low_of}
 use Rattle.header_boxes.specs.declared.boxes.Box5.{Box5}
-use Rattle.box_images.specs.Answers.{Answers}
-use Rattle.vpc_model.specs.Appliances.{appliances_of}
 use Rattle.vpc_model.specs.Lookup.{addresses_in}
-use Rattle.vpc_model.specs.Near.{near_cuts}
-use Rattle.box_walk.specs.Asking.{asked, stopped_of}
-use Rattle.box_walk.proofs.Telling.{request_moment}
+use Rattle.box_walk.specs.Asking.{AnswersStopped, asked}
+use Rattle.box_walk.proofs.TellingArrivals.{request_moment}
 use Rattle.box_walk.proofs.probe.RoundProbe.ask_whole.Goals as goal
 
 pub is_stopped-requires-clause-moment : goal.is_stopped-requires-clause-moment
@@ -17,8 +12,5 @@ is_stopped-requires-clause-moment g c =
 
 pub returns : goal.returns
 returns g c =
-    let d = c.args.self.now.fabric.now in
-    let start = c.args.self.now.start in
-    let goal = c.args.self.now.goal in
-    subst (λ (b : Box5). Answers (AreAmong (near_cuts d (appliances_of d) start goal (low_of b))) (stopped_of (asked d start goal)) b (record { body = c.is_stopped.new.m.header.part; told = c.is_stopped.result }))
-    c.begin.ensures.part c.is_stopped.ensures
+    let a = asked c.args.self.now.fabric.now c.args.self.now.start c.args.self.now.goal in
+    subst (λ (b : Box5). AnswersStopped a b (record { body = c.is_stopped.new.m.header.part; told = c.is_stopped.result })) c.begin.ensures.part c.is_stopped.ensures

@@ -1,7 +1,7 @@
 use Rattle.std.proofs.Common.{◌≡◌, subst, sym, true}
 use Rattle.vpc_model.specs.Lookup.{addresses_in}
 use Rattle.vpc_model.specs.Sound.{is_end}
-use Rattle.box_walk.proofs.Telling.{request_moment}
+use Rattle.box_walk.proofs.TellingArrivals.{request_moment}
 use Rattle.box_walk.specs.Asking.{Asking}
 use Rattle.box_walk.proofs.ways.Way.find.Goals as goal
 
