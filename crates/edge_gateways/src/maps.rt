@@ -33,7 +33,12 @@ impl Model for EdgeMaps {
 
     ghost Value = { EdgeLists };
 
-    ghost view = { λ m. record { publics = m.addresses.publics; owners = m.addresses.owners; blocks = m.peerings.blocks.items; sides = m.peerings.sides.items } };
+    ghost view = { λ m. record {
+      publics = m.addresses.publics;
+      owners = m.addresses.owners;
+      blocks = m.peerings.blocks.items;
+      sides = m.peerings.sides.items;
+    } };
 }
 
 impl EdgeMaps {

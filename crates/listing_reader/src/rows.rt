@@ -52,7 +52,8 @@ fn row_of_tail(
     tail: &RowTail<'_>,
 ) -> Result<Option<Row<OwnList<u8>>>, AllocError>
     ensures value { let t = tail.now in IfOk result (λ row. row
-        ≡ row_with t.told.now (asked_part boxes.now (box_of t.proto.now t.src.now t.dst.now t.p.now t.q.now))) }
+        ≡ row_with t.told.now
+        (asked_part boxes.now (box_of t.proto.now t.src.now t.dst.now t.p.now t.q.now))) }
     ensures valid { IfOk result (λ row. IfSome row (λ r. IsValid r.part)) }
 {
     let Some(part) = read_part(boxes, tail) else {

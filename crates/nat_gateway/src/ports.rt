@@ -52,7 +52,8 @@ impl Ports {
     pub fn take(&mut self, key: Sent) -> Result<(), AllocError>
         requires { key.header.p < 65536 }
         ensures taken { OnOk result ((k : Sent)
-            → value_at self.new k ≡ (if same_sent key k then Some (key.header.p + 1) else value_at self.old k)) }
+            → value_at self.new k
+            ≡ (if same_sent key k then Some (key.header.p + 1) else value_at self.old k)) }
         ensures err { OnErr result (self.new ≡ self.old) }
     {
         self.table.put(key, u32::from(key.header.p) + 1)

@@ -54,7 +54,8 @@ pub fn is_number(text: &[u8], number: u64) -> bool
 /// Whether there are two words, and what they are.
 pub fn are_two(words: &[&[u8]], first: &[u8], second: &[u8]) -> bool
     ensures { let all = map (λ w. w.now) words.now in
-        result ≡ ((length all == 2) && (bytes_eq (word_at all 0) first.now && bytes_eq (word_at all 1) second.now)) }
+        result ≡ ((length all == 2)
+        && (bytes_eq (word_at all 0) first.now && bytes_eq (word_at all 1) second.now)) }
 {
     words.len() == 2 && (word(words, 0) == first && word(words, 1) == second)
 }

@@ -68,7 +68,12 @@ impl Model for GroupIndex {
 
     ghost Value = { GroupLists };
 
-    ghost view = { λ i. record { lists = i.rules.lists.items; members = i.membership.members; groups = i.rules.groups.items; interfaces = i.membership.interfaces.items } };
+    ghost view = { λ i. record {
+      lists = i.rules.lists.items;
+      members = i.membership.members;
+      groups = i.rules.groups.items;
+      interfaces = i.membership.interfaces.items;
+    } };
 }
 
 impl GroupIndex {

@@ -239,7 +239,8 @@ impl PortTable {
         requires walk { IsImageOfWalk i.now }
         requires within { number < length self.now }
         ensures { IfSome result (Answers (DivideRules lists.now members.now self.now)
-            (λ h. allows lists.now members.now dir (header_at i.now h) (rule_at self.now number)) i.now.part) }
+            (λ h. allows lists.now members.now dir (header_at i.now h) (rule_at self.now number))
+            i.now.part) }
     {
         let q = i.value(&i.part.low()).q;
         allows_on(lists, members, &self.rules[number], dir, q, i)

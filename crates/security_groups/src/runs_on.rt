@@ -78,7 +78,8 @@ pub fn any_in_runs_on(
     requires ended { AreEnded begun.now.lasts.now q begun.now.ended }
     requires above { (h : Header) → holds h i.now.part ≡ true → q ≤ (header_at i.now h).q }
     ensures { Answers (DivideRules lists.now members.now begun.now.rules.now)
-        (λ h. any_allows lists.now members.now dir begun.now.rules.now (header_at i.now h)) i.now.part result }
+        (λ h. any_allows lists.now members.now dir begun.now.rules.now (header_at i.now h))
+        i.now.part result }
 {
     let mut rest = *i;
     for k in begun.ended..begun.lasts.len() {

@@ -1,6 +1,7 @@
 -- What a command answers by the files that its words name.
 use Rattle.std.specs.Prelude.{ℕ, ◌++◌, ◌<◌, ◌≡◌, ◌≤◌, List, Ok, Option, Some, codes, length}
 use Rattle.serde_json.specs.Data.{Data}
+use Rattle.vpc_io.specs.Rose.{Rose}
 use Rattle.vpc_io.specs.Told.{IfTold}
 use Rattle.vpc_model.specs.declared.rows.Description.{Description}
 use Rattle.block_report.specs.Refusals.{cause_text}
@@ -16,6 +17,10 @@ use Rattle.vpc_commands.specs.declared.files.Described.{Described}
 use Rattle.vpc_commands.specs.declared.files.Described.TheVariants as files
 use Rattle.vpc_commands.specs.declared.files.Which.{Which}
 use Rattle.vpc_commands.specs.declared.files.Which.TheVariants as numbers
+
+-- the files that could not be read: their counts of faults have risen
+abbrev pub HasFailed : (List ℕ → ℕ) → (List ℕ → ℕ) → List ℕ → Type 0
+HasFailed before after file = Rose (before file) (after file)
 
 -- ---- the file that describes the network
 

@@ -1,7 +1,7 @@
 // The answer to a command: its status with its text.
 ghost use Rattle.std.specs.Prelude.{◌≡◌, IfOk, length, map, string_bytes};
-ghost use Rattle.vpc_io.specs.Rose.{Rose};
 ghost use Rattle.vpc_commands.specs.Due.{IsAnswered, IsDue};
+ghost use Rattle.vpc_commands.specs.Files.{HasFailed};
 ghost use Rattle.vpc_commands.specs.Words.{HasCount, count_of};
 
 use crate::files::{answer_change, answer_file, answer_files, answer_networks};
@@ -32,7 +32,7 @@ fn answer_command<S: Shelf>(
 ) -> Result<Answer, NoMemory>
     requires count { HasCount (count_of command) (length words.now) }
     ensures { IfOk result (λ a. IsAnswered command (map string_bytes words.now) (S.told shelf.old)
-        (λ n. Rose (S.faults shelf.old n) (S.faults shelf.new n)) a.status a.text.items) }
+        (HasFailed (S.faults shelf.old) (S.faults shelf.new)) a.status a.text.items) }
 {
     match command {
         Command::Trace => answer_file(alloc, &TraceCommand, words, shelf),
@@ -57,7 +57,7 @@ pub fn answer_to<S: Shelf>(
     shelf: &mut S,
 ) -> Result<Answer, NoMemory>
     ensures { IfOk result (λ a. IsDue (map string_bytes words.now) (S.told shelf.old)
-        (λ n. Rose (S.faults shelf.old n) (S.faults shelf.new n)) a.status a.text.items) }
+        (HasFailed (S.faults shelf.old) (S.faults shelf.new)) a.status a.text.items) }
 {
     match read_words(words) {
         Ok(command) => answer_command(alloc, command, words, shelf),

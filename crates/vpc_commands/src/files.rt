@@ -3,10 +3,9 @@ ghost use Rattle.std.specs.Prelude.{◌≡◌, ◌≤◌, IfOk, List, length, ma
 ghost use Rattle.serde_json.specs.View.{view};
 ghost use Rattle.bundle.specs.Json.{IsJson};
 ghost use Rattle.command_job.specs.Files.{file_limit};
-ghost use Rattle.vpc_io.specs.Rose.{Rose};
 ghost use Rattle.answer_check.specs.Diffs.{IsDiffChecked};
 ghost use Rattle.report_check.specs.Certified.{report_refusal_line};
-ghost use Rattle.vpc_commands.specs.Files.{IsAnsweredAfter, IsAnsweredIn, IsAnsweredTo, IsDescribed, IsTaken, read_fault, second_fault, third_fault};
+ghost use Rattle.vpc_commands.specs.Files.{HasFailed, IsAnsweredAfter, IsAnsweredIn, IsAnsweredTo, IsDescribed, IsTaken, read_fault, second_fault, third_fault};
 ghost use Rattle.vpc_commands.specs.Words.{file_name, second_name, third_name};
 
 use crate::refusals::{refuse_bundle, refuse_description};
@@ -106,7 +105,7 @@ fn describe<S: Shelf>(
     shelf: &mut S,
 ) -> Result<Described, NoMemory>
     ensures described { IfOk result (IsTaken which (S.told shelf.old)
-        (λ n. Rose (S.faults shelf.old n) (S.faults shelf.new n)) file.now) }
+        (HasFailed (S.faults shelf.old) (S.faults shelf.new)) file.now) }
     ensures told_stays { (n : List ℕ) → S.told shelf.new n ≡ S.told shelf.old n }
     ensures faults_never_fall { (n : List ℕ) → S.faults shelf.old n ≤ S.faults shelf.new n }
 {
@@ -132,7 +131,7 @@ pub fn answer_file<S: Shelf, C: OneFile>(
     requires file { 2 ≤ length words.now }
     requires count { C.counts command.now (length words.now) }
     ensures { IfOk result (λ a. IsAnsweredIn (S.told shelf.old)
-        (λ n. Rose (S.faults shelf.old n) (S.faults shelf.new n)) (file_name (map string_bytes words.now))
+        (HasFailed (S.faults shelf.old) (S.faults shelf.new)) (file_name (map string_bytes words.now))
         (C.answers command.now (map string_bytes words.now)) a.status a.text.items) }
 {
     match describe(alloc, Which::First, Spent::Left, word(words, 2), shelf)? {
@@ -150,7 +149,7 @@ fn answer_second<S: Shelf, C: TwoFiles>(
     shelf: &mut S,
 ) -> Result<Answer, NoMemory>
     ensures { IfOk result (λ a. IsAnsweredTo second_fault (S.told shelf.old)
-        (λ n. Rose (S.faults shelf.old n) (S.faults shelf.new n)) file.now
+        (HasFailed (S.faults shelf.old) (S.faults shelf.new)) file.now
         (C.refusal command.now) (C.answers command.now network) a.status a.text.items) }
 {
     match shelf.take(alloc, file, FILE_LIMIT) {
@@ -179,9 +178,10 @@ pub fn answer_files<S: Shelf, C: TwoFiles>(
 ) -> Result<Answer, NoMemory>
     requires files { 3 ≤ length words.now }
     ensures { IfOk result (λ a. IsAnsweredIn (S.told shelf.old)
-        (λ n. Rose (S.faults shelf.old n) (S.faults shelf.new n)) (file_name (map string_bytes words.now))
-        (λ d. IsAnsweredTo second_fault (S.told shelf.old) (λ n. Rose (S.faults shelf.old n) (S.faults shelf.new n))
-        (second_name (map string_bytes words.now)) (C.refusal command.now) (C.answers command.now d))
+        (HasFailed (S.faults shelf.old) (S.faults shelf.new)) (file_name (map string_bytes words.now))
+        (λ d. IsAnsweredTo second_fault (S.told shelf.old)
+        (HasFailed (S.faults shelf.old) (S.faults shelf.new)) (second_name (map string_bytes words.now))
+        (C.refusal command.now) (C.answers command.now d))
         a.status a.text.items) }
 {
     let first = describe(alloc, Which::First, Spent::Left, word(words, 2), shelf)?;
@@ -208,7 +208,7 @@ fn answer_after<S: Shelf, C: TwoNetworks>(
     requires files { 3 ≤ length words.now }
     requires count { C.counts command.now (length words.now) }
     ensures { IfOk result (λ a. IsAnsweredAfter (S.told shelf.old)
-        (λ n. Rose (S.faults shelf.old n) (S.faults shelf.new n)) (second_name (map string_bytes words.now))
+        (HasFailed (S.faults shelf.old) (S.faults shelf.new)) (second_name (map string_bytes words.now))
         (C.answers command.now (map string_bytes words.now) before) a.status a.text.items) }
 {
     match describe(alloc, Which::After, Spent::Left, word(words, 3), shelf) {
@@ -235,9 +235,10 @@ pub fn answer_networks<S: Shelf, C: TwoNetworks>(
     requires files { 3 ≤ length words.now }
     requires count { C.counts command.now (length words.now) }
     ensures { IfOk result (λ a. IsAnsweredIn (S.told shelf.old)
-        (λ n. Rose (S.faults shelf.old n) (S.faults shelf.new n)) (file_name (map string_bytes words.now))
-        (λ d. IsAnsweredAfter (S.told shelf.old) (λ n. Rose (S.faults shelf.old n) (S.faults shelf.new n))
-        (second_name (map string_bytes words.now)) (C.answers command.now (map string_bytes words.now) d))
+        (HasFailed (S.faults shelf.old) (S.faults shelf.new)) (file_name (map string_bytes words.now))
+        (λ d. IsAnsweredAfter (S.told shelf.old)
+        (HasFailed (S.faults shelf.old) (S.faults shelf.new)) (second_name (map string_bytes words.now))
+        (C.answers command.now (map string_bytes words.now) d))
         a.status a.text.items) }
 {
     let first = describe(alloc, Which::First, Spent::GivenBack, word(words, 2), shelf)?;
@@ -258,7 +259,7 @@ fn answer_third<S: Shelf>(
     shelf: &mut S,
 ) -> Result<Answer, NoMemory>
     ensures { IfOk result (λ a. IsAnsweredTo third_fault (S.told shelf.old)
-        (λ n. Rose (S.faults shelf.old n) (S.faults shelf.new n)) file.now
+        (HasFailed (S.faults shelf.old) (S.faults shelf.new)) file.now
         report_refusal_line (IsDiffChecked before after) a.status a.text.items) }
 {
     match shelf.take(alloc, file, FILE_LIMIT) {
@@ -293,9 +294,10 @@ fn answer_between<S: Shelf>(
 ) -> Result<Answer, NoMemory>
     requires files { 4 ≤ length words.now }
     ensures { IfOk result (λ a. IsAnsweredAfter (S.told shelf.old)
-        (λ n. Rose (S.faults shelf.old n) (S.faults shelf.new n)) (second_name (map string_bytes words.now))
-        (λ after. IsAnsweredTo third_fault (S.told shelf.old) (λ n. Rose (S.faults shelf.old n) (S.faults shelf.new n))
-        (third_name (map string_bytes words.now)) report_refusal_line (IsDiffChecked before after))
+        (HasFailed (S.faults shelf.old) (S.faults shelf.new)) (second_name (map string_bytes words.now))
+        (λ after. IsAnsweredTo third_fault (S.told shelf.old)
+        (HasFailed (S.faults shelf.old) (S.faults shelf.new)) (third_name (map string_bytes words.now))
+        report_refusal_line (IsDiffChecked before after))
         a.status a.text.items) }
 {
     match describe(alloc, Which::After, Spent::GivenBack, word(words, 3), shelf) {
@@ -322,11 +324,12 @@ pub fn answer_change<S: Shelf>(
 ) -> Result<Answer, NoMemory>
     requires files { 4 ≤ length words.now }
     ensures { IfOk result (λ a. IsAnsweredIn (S.told shelf.old)
-        (λ n. Rose (S.faults shelf.old n) (S.faults shelf.new n)) (file_name (map string_bytes words.now))
-        (λ before. IsAnsweredAfter (S.told shelf.old) (λ n. Rose (S.faults shelf.old n) (S.faults shelf.new n))
-        (second_name (map string_bytes words.now))
-        (λ after. IsAnsweredTo third_fault (S.told shelf.old) (λ n. Rose (S.faults shelf.old n) (S.faults shelf.new n))
-        (third_name (map string_bytes words.now)) report_refusal_line (IsDiffChecked before after)))
+        (HasFailed (S.faults shelf.old) (S.faults shelf.new)) (file_name (map string_bytes words.now))
+        (λ before. IsAnsweredAfter (S.told shelf.old)
+        (HasFailed (S.faults shelf.old) (S.faults shelf.new)) (second_name (map string_bytes words.now))
+        (λ after. IsAnsweredTo third_fault (S.told shelf.old)
+        (HasFailed (S.faults shelf.old) (S.faults shelf.new)) (third_name (map string_bytes words.now))
+        report_refusal_line (IsDiffChecked before after)))
         a.status a.text.items) }
 {
     let earlier = describe(alloc, Which::First, Spent::GivenBack, word(words, 2), shelf)?;
