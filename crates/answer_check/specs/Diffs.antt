@@ -25,7 +25,7 @@ use Rattle.answer_check.specs.Lines.{all_lines, begins_with, question_words}
 abbrev pub told_in : Comparison → ChangedEnd → Header → Option (List ℕ)
 told_in c start h = option_map (change_text c.before c.after (start_id c start)) (change_in c start h)
 
--- the same, or that nothing does
+-- what changes, or that nothing does
 abbrev pub told_or_same : Option (List ℕ) → List ℕ
 told_or_same None = codes "same"
 told_or_same (Some told) = told

@@ -23,7 +23,7 @@ fn after<'a>(text: &'a [u8], piece: &[u8]) -> Option<&'a [u8]>
     text.strip_prefix(piece)
 }
 
-// The same where a word follows the piece.
+// What is left after a piece and the blank of a next word, where the text begins with these.
 fn after_word<'a>(text: &'a [u8], piece: &[u8]) -> Option<&'a [u8]>
     ensures { MatchOption result ((rest : List ℕ) → text.now ≢ piece.now ++ word rest)
         (λ rest. text.now ≡ piece.now ++ word rest.now) }
@@ -34,7 +34,7 @@ fn after_word<'a>(text: &'a [u8], piece: &[u8]) -> Option<&'a [u8]>
     }
 }
 
-// The same after a piece and a word.
+// What is left after a piece, a word and the blank of a next one, where the text begins with these.
 fn after_two<'a>(text: &'a [u8], piece: &[u8], second: &[u8]) -> Option<&'a [u8]>
     ensures { MatchOption result
         ((rest : List ℕ) → text.now ≢ piece.now ++ word second.now ++ word rest)

@@ -96,7 +96,8 @@ impl<W: Copy> Pile<W> {
             self.rows.truncate(room);
         }
     }
-    /// The same where there are more than twice as many rows, so that each row is moved a few times at most.
+
+    /// Trims the rows where there are more than twice `room` of them, so that each row is moved a few times at most.
     pub fn shorten(&mut self, room: usize)
         ensures { IsShortened room self.old.rows.items self.old.next self.new.rows.items self.new.next }
     {

@@ -32,7 +32,7 @@ too_many_line = line (codes "refused diff TooManyInterfaces")
 abbrev pub IsDiffTold : Comparison → List (List ℕ) → List (ℕ × ℕ) → List ChangedEnd → Status → List ℕ → Type 0
 IsDiffTold c words targets starts status text = IsTold ends.No ends.Yes (whole_text c words) (part_text c words) (wanted c targets) starts status text
 
--- the same, with the destinations and the starts that the query is about
+-- what is told of the requests of a query, with the destinations and the starts that it is about
 pub record IsAnswerTo (c : Comparison) (words : List (List ℕ)) (status : Status) (text : List ℕ) : Type 0 where
   pub targets : List (ℕ × ℕ)
   pub targets_are : AreTargets c targets

@@ -57,7 +57,7 @@ pub fn toward_before(goal: Option<ChangedEnd>) -> Toward
     }
 }
 
-/// The same in the second network.
+/// Where requests are to arrive in the second network: at the goal of a query as it stands there, or at any end.
 pub fn toward_after(goal: Option<ChangedEnd>) -> Toward
     ensures { result ≡ toward_of (option_map (λ e. e.after) goal) }
 {

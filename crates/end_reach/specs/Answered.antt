@@ -31,7 +31,7 @@ too_many_line = line (codes "refused reach TooManyInterfaces")
 abbrev pub IsReachTold : Description → ReachQuery → List (List ℕ) → List (ℕ × ℕ) → List End → Status → List ℕ → Type 0
 IsReachTold d query words targets starts status text = IsTold ends.Yes ends.No (whole_text d words) (part_text d words) (wanted d query targets) starts status text
 
--- the same, with the destinations and the starts that the query is about
+-- what is told of the requests of a query, with the destinations and the starts that it is about
 pub record IsAnswerTo (d : Description) (query : ReachQuery) (words : List (List ℕ)) (status : Status) (text : List ℕ) : Type 0 where
   pub targets : List (ℕ × ℕ)
   pub targets_are : AreTargets d query.pairs.dst query.goal targets

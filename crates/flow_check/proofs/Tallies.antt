@@ -111,7 +111,7 @@ behind-none a =
 abbrev pub meant : Description → List (ℕ × List ℕ) → Result FlowList ℕ
 meant d lines = told_unless (bad_line lines) (sorted_lines d lines)
 
--- the same of a line that says this, or nothing, and more lines
+-- what is told of a line that says this, or nothing, and more lines
 abbrev meant_by : Description → ℕ → List ℕ → Option Record → List (ℕ × List ℕ) → Result FlowList ℕ
 meant_by d n line o lines =
     told_unless (option_map (λ (l : ℕ × List ℕ). l.0) (cond (is_none o) (Some (n, line)) (find (λ (l : ℕ × List ℕ). is_none (record_of l.1)) lines)))

@@ -38,7 +38,7 @@ abbrev pub judged_at : Description → EniNo → Dir → Header → Action → B
 judged_at d i dir h actions.Accept inside = accepted_by (met_first dir (border_stop d i dir h inside) (connection_stop d i dir h))
 judged_at d i dir h actions.Reject inside = rejected_by (border_stop d i dir h inside) (groups_pass d i dir h)
 
--- the same, by whether the far address is a neighbour's
+-- what the rules say of the action, by whether the far address is a neighbour's
 abbrev pub judged : Description → EniNo → Dir → Header → Action → Sort
 judged d i dir h action = judged_at d i dir h action (is_neighbour d (interface_at d i) (far_address dir h))
 

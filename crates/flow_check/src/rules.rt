@@ -29,7 +29,8 @@ fn acl_stop(f: &Fabric, i: EniNo, dir: Dir, h: &Header) -> Option<Stop>
     }
 }
 
-/// The same where the packet crosses the border of the subnet: between neighbours no ACL is evaluated.
+/// The stop of the ACL of an interface's subnet, where the packet crosses the border of the subnet: between neighbours no
+/// ACL is evaluated (VPC User Guide, "Network ACLs").
 pub fn border_stop(f: &Fabric, i: EniNo, dir: Dir, h: &Header, inside: bool) -> Option<Stop>
     requires { IsTrue (is_eni f.now i) }
     ensures { result ≡ border_stop f.now i dir h.now inside }

@@ -136,7 +136,7 @@ impl<'a> ChangeProbe<'a> {
         }
     }
 
-    // The same where the replies of both get back.
+    // Whether all requests of the second part arrive alike in both networks, where the replies of both get back.
     fn arrive_alike(&self, sides: &Box5, one: &Arrivals, other: &Arrivals) -> bool
         requires one { ComeTo self.now.before.sent sides.now one.now }
         requires other { ComeTo self.now.after.sent one.now.header.part other.now }

@@ -75,7 +75,7 @@ fn first_told<L: Listing>(
     }
 }
 
-// The same, or what was found before where that comes first.
+// The first header of a gap that lies in a box and is told something, or what was found before where that comes first.
 fn first_with<L: Listing>(
     alloc: Global,
     listing: &L,

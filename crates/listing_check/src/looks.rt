@@ -91,7 +91,7 @@ fn look_apart<L: Listing>(
     Ok(Look::Apart { untrue, unlisted })
 }
 
-// The same look, of a start of which no more is known than what is told.
+// What a look finds of the rows of a start of which no more is known than what is told.
 fn look_of<L: Listing>(
     alloc: Global,
     listing: &L,

@@ -27,7 +27,7 @@ module _ {T : Type 0} (f : T → List ℕ) (before : ℕ) (words : List T) where
       ∙ (ap (λ (n : ℕ). take (n - 2) (map f (drop before words))) (sym (length-map (drop before words) f))
       ∙ (ap (λ (l : List (List ℕ)). take (length l - 2) l) (sym (drop-map f before words)) ∙ sym (given_by true is)))
 
-  -- the same of the slice from there on
+  -- the words from there on, as a slice gives them
   slice_is : take (length words - before) (drop before words) ≡ drop before words
   slice_is = ap (λ (n : ℕ). take n (drop before words)) (sym (length-drop before words)) ∙ take-length (drop before words)
 

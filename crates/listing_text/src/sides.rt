@@ -58,7 +58,7 @@ pub fn each_alone(alloc: Global, addresses: &[u32]) -> Result<Vec<(u32, u32)>, N
     Ok(sides)
 }
 
-// The same addresses in ascending order, each once.
+// Addresses in ascending order, each once.
 fn ascending(mut addresses: Vec<u32>) -> Vec<u32>
     ensures order { IsStrictlyIncreasing result.items }
     ensures members { (a : ℕ) → Contains result.items a ↔ Contains addresses.items a }

@@ -37,7 +37,7 @@ fn any_public(interfaces: &[Interface], own: u32) -> bool {
     false
 }
 
-/// The same by a scan of all interfaces, where there is one VPC.
+/// How many addresses have a public one, by a scan of all interfaces, where there is one VPC.
 pub fn public_by_scan(n: &Network, times: u32) -> u32 {
     let interfaces = n.description().interfaces.as_slice();
     let mut numbers = Numbers::new();

@@ -55,7 +55,7 @@ fn lets_in(rows: &[AclRow], h: &Header) -> bool {
     allow
 }
 
-/// The same by a scan of its rows.
+/// How many packets the first ACL lets in, by a scan of its rows.
 pub fn passed_by_acl_scan(n: &Network, times: u32) -> u32 {
     let Some(acl) = n.description().acls.as_slice().first() else {
         return 0;
@@ -108,7 +108,7 @@ fn any_allows(rules: &[Permission], h: &Header) -> bool {
     false
 }
 
-/// The same by a scan of the rules of the first group.
+/// How many packets are let in, by a scan of the rules of the first group.
 pub fn passed_by_groups_scan(n: &Network, times: u32) -> u32 {
     let Some(group) = n.description().groups.as_slice().first() else {
         return 0;

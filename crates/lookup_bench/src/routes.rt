@@ -60,7 +60,7 @@ fn longest(routes: &[Route], address: u32) -> Option<u8> {
     best
 }
 
-/// The same by a scan of its routes.
+/// How many addresses the first route table has a route for, by a scan of its routes.
 pub fn found_by_scan(n: &Network, times: u32) -> u32 {
     let Some(table) = n.description().tables.as_slice().first() else {
         return 0;
@@ -114,7 +114,7 @@ fn longest_in_transit(routes: &[TgwRoute], address: u32) -> Option<u8> {
     best
 }
 
-/// The same by a scan of its routes.
+/// How many addresses the first table of transit gateways has a route for, by a scan of its routes.
 pub fn found_in_transit_by_scan(n: &Network, times: u32) -> u32 {
     let Some(table) = n.description().tgw_tables.as_slice().first() else {
         return 0;

@@ -19,7 +19,7 @@ fn spread(k: u32) -> Header {
     }
 }
 
-// The same of two hosts that use the same ports one after another.
+// An open of this number, from one of two hosts that use the same ports one after another.
 fn colliding(k: u32) -> Header {
     Header {
         proto: 6,

@@ -17,6 +17,6 @@ packet_text h = (codes "reachable" ++ line_end) ++ packet_line h
 abbrev pub arrival_text : Description → List Hop → End → List ℕ
 arrival_text d hops end = hop_lines d hops ++ arrived_line (end_id d end)
 
--- the same with the name of the phase
+-- the name of the phase, the hops of its walk, and where it arrives
 unfoldable pub phase_text : Description → List ℕ → List Hop → End → List ℕ
 phase_text d name hops end = (name ++ line_end) ++ arrival_text d hops end

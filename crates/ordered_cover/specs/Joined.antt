@@ -12,7 +12,7 @@ pub record GoesOn (first other : Box5) : Type 0 where
   pub p : first.p ≡ other.p
   pub q : first.q.1 + 1 ≡ other.q.0
 
--- the same by the side p
+-- the other box has the sides of the first, but that it begins one past the last p of that
 pub record GoesOnInP (first other : Box5) : Type 0 where
   pub proto : first.proto ≡ other.proto
   pub src : first.src ≡ other.src

@@ -24,7 +24,7 @@ fn goes_on(part: &Box5, other: &Box5) -> bool
         && u32::from(other.q.1) + 1 == u32::from(part.q.0)
 }
 
-// The same by the side p.
+// Whether a part has the sides of another one, but that it begins one past the last p of that.
 fn goes_on_in_p(part: &Box5, other: &Box5) -> bool
     ensures { IsTrue result ↔ GoesOnInP other.now part.now }
 {

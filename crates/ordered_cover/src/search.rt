@@ -49,7 +49,8 @@ pub fn first<P: Probe>(alloc: Global, p: &P, sides: Box5) -> Result<Option<Heade
     Ok(None)
 }
 
-/// The same search over at most `most` parts.
+/// Looks for the first header of the sides that gets through, and asks of at most `most` parts: it is found, there is
+/// none, or more parts are to be asked of.
 pub fn first_within<P: Probe>(
     alloc: Global,
     p: &P,

@@ -44,7 +44,8 @@ fn requests_between(src: u32, dst: u32, ports: (u16, u16)) -> Box5
     }
 }
 
-/// The same as `reach`, by a probe of the network that is turned to the pair: one moment serves all pairs.
+/// The ranges of ports by which a pair is reached, by a probe of the network that is turned to the pair: one moment
+/// serves all pairs.
 pub(crate) fn reach_by(
     alloc: Global,
     f: &Fabric,

@@ -21,7 +21,7 @@ fn fit(proto: u8, src: u32, dst: u32, p: u16, q: u16)
     ensures q { q < 2 ^ 16 }
 {}
 
-// So are those at which the ranges of a box end.
+// The numbers at which the ranges of a box end are numbers of their fields.
 fn ends_fit(b: &Box5)
     ensures { Fits b.now }
 {

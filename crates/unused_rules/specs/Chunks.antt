@@ -40,7 +40,7 @@ ChunkDecidesNothing d c query =
     (h : Header) → holds h query.sides ≡ true
     → verdict_of (without_chunk d c) (appliances_of d) query.start query.goal h ≡ verdict_of d (appliances_of d) query.start query.goal h
 
--- the same of a chunk, if there is one
+-- a chunk, if there is one, decides nothing for the query
 abbrev pub IsIdle : Description → Query → Option Chunk → Type 0
 IsIdle d query None = Unit {0}
 IsIdle d query (Some c) = ChunkDecidesNothing d c query

@@ -83,7 +83,7 @@ fn first_apart(
     first(alloc, &AgreementProbe::of(before, after), sides)
 }
 
-/// The same as `needed`, by a baseline.
+/// What `needed` tells, by a baseline: the first request of its query that has another verdict without the rule.
 pub(crate) fn needed_by(
     alloc: Global,
     base: &Baseline,
@@ -152,7 +152,8 @@ pub(crate) fn idle_at(
     }
 }
 
-/// The same as `needed_by`, by a chunk that decides nothing: none of its rules does.
+/// What `needed_by` tells, where a chunk is known to decide nothing: no rule of it is asked about, since none of them decides
+/// anything.
 pub(crate) fn needed_at(
     alloc: Global,
     base: &Baseline,

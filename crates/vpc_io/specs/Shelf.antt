@@ -15,6 +15,6 @@ abbrev pub bytes_of : List NamedBytes → List ℕ → Option (List ℕ)
 bytes_of [] name = None
 bytes_of (file ∷ files) name = if bytes_eq file.0 name then Some file.1 else bytes_of files name
 
--- the same, or no bytes where no file has the name
+-- the bytes of the first file of this name; none where no file has it
 abbrev pub bytes_or_empty : List NamedBytes → List ℕ → List ℕ
 bytes_or_empty files name = unwrap_or (bytes_of files name) []
