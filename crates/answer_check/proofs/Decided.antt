@@ -1,24 +1,20 @@
 -- What `check` answers to a listing of `reach`, or to a report, is decided by it, and tells of no device.
-use Rattle.std.proofs.Common.{◌≡◌, ◌∙◌, List, None, Some, ap, drop, subst, sym, ℕ}
-use Rattle.std.specs.Prelude.{codes}
+use Rattle.std.proofs.Common.{List, None, Some, ap, codes, drop, subst, sym, ℕ, ◌∙◌, ◌≡◌}
 use Rattle.std.proofs.lemmas.Bool.{both_ways}
 use Rattle.command_job.proofs.Devices.{no_device, query_is_none}
 use Rattle.command_job.specs.Status.{IsOfDevice}
 use Rattle.command_job.specs.declared.status.Status.{Status}
 use Rattle.command_job.specs.declared.status.Status.TheVariants as ends
 use Rattle.end_reach.proofs.Decided.{same_targets}
-use Rattle.end_reach.specs.Answered.{IsTooMany}
-use Rattle.end_reach.specs.Asked.{AreStarts, AreTargets}
+use Rattle.end_reach.specs.Terms.{AreStarts, AreTargets, IsTooMany}
 use Rattle.listing_check.proofs.Decided.{AreTrueLines, listing_is_decided, listing_is_none}
 use Rattle.listing_check.specs.Asked.{Asked}
 use Rattle.query_words.specs.declared.reaches.ReachQuery.{ReachQuery}
 use Rattle.report_check.proofs.Decided.{check_is_decided, check_is_none}
 use Rattle.report_reader.specs.Reports.{is_ended, pieces_of}
 use Rattle.vpc_laws.specs.Types.{Description, End}
-use Rattle.answer_check.specs.Lines.{all_lines, begins_with}
-use Rattle.answer_check.specs.Reaches.{IsCheckedFor, IsReachChecked, IsReachListingDecided, IsTrueReach, all_asked, reach_question}
+use Rattle.answer_check.specs.Terms.{IsCheckedFor, IsReachChecked, IsReachListingDecided, IsTextChecked, IsTextDecided, IsTrueReach, all_asked, all_lines, begins_with, reach_question}
 use Rattle.answer_check.specs.Reaches as reaches
-use Rattle.answer_check.specs.Texts.{IsTextChecked, IsTextDecided}
 use Rattle.answer_check.specs.Texts as texts
 use Rattle.answer_check.proofs.Same.{same_starts}
 

@@ -1,31 +1,20 @@
 -- The starts of a question for what changes, with what is asked of each.
-use Rattle.std.proofs.Common.{◌≡◌, ◌∙◌, ◌+◌, ◌<◌, ◌≤◌, ◌^◌, ◌∷◌, [], All, Bool, Err, IfOk, IfSome, List, None, Ok, Option, Result, Some, ap, arith, cond, false, filter, get_or, length, map, refl, subst, sym, true, ℕ}
-use Rattle.std.specs.Prelude.{option_map, slice_get}
-use Rattle.std.proofs.lemmas.List.{length-append, length-map}
-use Rattle.std.proofs.lemmas.List.Elements.{All-map}
-use Rattle.std.proofs.lemmas.List.Sorted.{length_permutation}
-use Rattle.std.proofs.lemmas.List.Sums.{count_by-le-length, length-filter}
-use Rattle.std.proofs.lemmas.Option.{slice_get-get_or, slice_get-map}
+use Rattle.std.proofs.Common.{All, Bool, Err, IfOk, IfSome, List, None, Ok, Option, Result, Some, [], ap, arith, cond, false, filter, get_or, length, map, option_map, refl, slice_get, subst, sym, true, ℕ, ◌+◌, ◌<◌, ◌^◌, ◌∙◌, ◌∷◌, ◌≡◌, ◌≤◌}
+use Rattle.vpc_base.proofs.Lemmas.{All-map, count_by-le-length, length-append, length-filter, length-map, length_permutation, slice_get-get_or, slice_get-map}
 use Rattle.change_report.proofs.BoxLemmas.{boxes_at-valid}
-use Rattle.change_report.specs.Asked.{AreStarts, AreTargets, Comparison, StartAt, from_after, from_before, hosts_of_either, is_goal, is_new, is_start, starts_among}
-use Rattle.change_report.specs.Walked.{nowhere}
+use Rattle.change_report.specs.Terms.{AreStarts, AreTargets, Comparison, StartAt, from_after, from_before, hosts_of_either, is_goal, is_new, is_start, nowhere, starts_among}
 use Rattle.described_hosts.specs.Hosts.{hosts_of}
 use Rattle.header_boxes.specs.Boxes.{IsValid}
-use Rattle.header_boxes.specs.declared.rows.Row.{Row}
-use Rattle.listing_check.specs.Answered.{origins_of}
-use Rattle.listing_check.specs.Asked.{Asked}
-use Rattle.listing_check.specs.Looks.{IsLook}
-use Rattle.listing_check.specs.Texts.{id_of, outcome_of}
+use Rattle.listing_check.specs.Terms.{Asked, IsLook, id_of, origins_of, outcome_of}
 use Rattle.listing_check.specs.declared.looks.Look.{Look}
 use Rattle.listing_reader.specs.declared.origins.Origin.{Origin}
-use Rattle.query_words.specs.ChangeQuery.{internet_in_both}
-use Rattle.query_words.specs.ReachQuery.{AreReachPairs}
+use Rattle.query_words.specs.Terms.{AreReachPairs, internet_in_both}
 use Rattle.query_words.specs.declared.changes.ChangedEnd.{ChangedEnd}
-use Rattle.vpc_laws.specs.Types.{Description, Header}
+use Rattle.vpc_laws.specs.Types.{Description, Header, Row}
 use Rattle.vpc_model.specs.Accepted.{IsAccepted}
 use Rattle.answer_check.proofs.Starts.{few_hosts}
-use Rattle.answer_check.specs.DiffStarts.{origin_from}
-use Rattle.answer_check.specs.Diffs.{all_asked, asked_from, told_in, told_or_same}
+use Rattle.answer_check.specs.Terms.{origin_from, told_in, told_or_same}
+use Rattle.answer_check.specs.Diffs.{all_asked, asked_from}
 
 -- ---- all starts
 

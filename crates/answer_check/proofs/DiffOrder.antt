@@ -1,30 +1,17 @@
 -- The starts of a question are one list: those of either network have ids of their own.
-use Rattle.std.proofs.Common.{◌≡◌, ◌∙◌, ◌<◌, ◌&&◌, All, AllPairs, Bool, List, None, Option, Some, ap, arith, cond, filter, get_or, is_lt, length, map, refl, subst, sym, true, false, ℕ}
-use Rattle.std.specs.Prelude.{bytes_eq, is_some, not}
+use Rattle.std.proofs.Common.{All, AllPairs, Bool, IsPermutation, IsSortedByKey, List, None, Option, Some, ap, arith, bytes_eq, cond, false, filter, get_or, is_lt, is_some, length, map, nat_cmp, not, refl, subst, sym, true, ℕ, ◌&&◌, ◌<◌, ◌∙◌, ◌≡◌}
 use Rattle.std.specs.Cmp.Lexicographic.{slice_cmp}
 use Rattle.std.specs.List.{range_with_len}
-use Rattle.std.specs.List.Sorted.{IsPermutation, IsSortedByKey}
-use Rattle.std.specs.Ordering.{nat_cmp, ordering_reverse}
+use Rattle.std.specs.Ordering.{ordering_reverse}
 use Rattle.std.specs.declared.cmp.Ordering.TheVariants.{Greater, Less}
-use Rattle.std.proofs.lemmas.Bool.{false_from_ne_true}
-use Rattle.std.proofs.lemmas.Cmp.{nat_list_cmp_total, nat_list_eq_equiv}
-use Rattle.std.proofs.lemmas.List.Elements.{All-map, filter_passes}
-use Rattle.std.proofs.lemmas.List.FromFn.{get_or-map-range_with_len, length-map-range_with_len}
-use Rattle.std.proofs.lemmas.List.Kept.{AllPairs-filter}
-use Rattle.std.proofs.lemmas.List.Sorted.{Contains-permutation, IsPermutation-sym, ranks_by, sorted_far}
-use Rattle.std.proofs.lemmas.Map.Keys.{IsDistinct-IsPermutation, IsDistinct-from_apart, apart_from_distinct}
-use Rattle.vpc_base.proofs.Bytes.{bytes_self, comes-before, same_bytes}
-use Rattle.vpc_base.proofs.Members.{member-list_any, row-member}
-use Rattle.vpc_base.proofs.Pairs.{AllPairs-joined, AllPairs-map}
+use Rattle.vpc_base.proofs.Lemmas.{All-map, AllPairs-filter, AllPairs-joined, AllPairs-map, Contains-permutation, IsDistinct-IsPermutation, IsDistinct-from_apart, IsPermutation-sym, apart_from_distinct, bytes_self, comes-before, false_from_ne_true, filter_passes, get_or-map-range_with_len, length-map-range_with_len, member-list_any, nat_list_cmp_total, nat_list_eq_equiv, ranks_by, row-member, same_bytes, sorted_far}
 use Rattle.change_report.proofs.StartLemmas.{hosts_are_described}
 use Rattle.change_report.specs.Asked.{AreStarts, Comparison, StartAt, changed_id, from_after, from_before, host_with_id, hosts_of_either, is_host_at, is_new, starts_among}
 use Rattle.described_hosts.specs.Hosts.{hosts_of, id_of, is_host, numbered}
 use Rattle.query_words.specs.declared.changes.ChangedEnd.{ChangedEnd}
 use Rattle.vpc_laws.proofs.Numbering.{accepted_numbers_are_own}
 use Rattle.vpc_laws.specs.Types.{Description, EniNo, Interface}
-use Rattle.vpc_model.specs.Accepted.{IsAccepted}
-use Rattle.vpc_model.specs.Lookup.{eni_no, has_interface, interface_at, no_interface}
-use Rattle.vpc_model.specs.Sound.{is_eni}
+use Rattle.vpc_model.specs.Terms.{IsAccepted, eni_no, has_interface, interface_at, is_eni, no_interface}
 use Rattle.vpc_model.specs.declared.places.End.TheVariants as ends
 use Rattle.answer_check.proofs.Same.{same_in_order}
 

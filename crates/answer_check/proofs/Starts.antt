@@ -1,35 +1,21 @@
 -- The starts of a question, with what is asked of each.
-use Rattle.std.proofs.Common.{◌≡◌, ◌∙◌, ◌+◌, ◌<◌, ◌≤◌, ◌^◌, ◌∷◌, [], Bool, Err, IfOk, IfSome, List, None, Ok, Option, Result, Some, ap, arith, cond, false, filter, length, map, refl, subst, suc, sym, true, zero, ℕ}
-use Rattle.std.specs.Prelude.{option_map, slice_get}
+use Rattle.std.proofs.Common.{Bool, Err, IfOk, IfSome, List, None, Ok, Option, Result, Some, [], ap, arith, cond, false, filter, length, map, option_map, refl, slice_get, subst, suc, sym, true, zero, ℕ, ◌+◌, ◌<◌, ◌^◌, ◌∙◌, ◌∷◌, ◌≡◌, ◌≤◌}
 use Rattle.std.specs.List.{range_with_len}
-use Rattle.std.proofs.lemmas.List.{length-append, length-map}
-use Rattle.std.proofs.lemmas.List.FromFn.{length-map-range_with_len}
-use Rattle.std.proofs.lemmas.List.Sums.{count_by-le-length, length-filter}
-use Rattle.std.proofs.lemmas.List.Sorted.{length_permutation}
+use Rattle.vpc_base.proofs.Lemmas.{count_by-le-length, length-append, length-filter, length-map, length-map-range_with_len, length_permutation}
 use Rattle.box_walk.specs.Journeys.{reached_of}
 use Rattle.described_hosts.specs.Hosts.{hosts_of, is_host, numbered}
 use Rattle.end_reach.specs.Asked.{AreAllStarts, AreStarts, is_goal, is_start, starts_among}
-use Rattle.header_boxes.specs.declared.rows.Row.{Row}
 use Rattle.journey_changes.proofs.LawLemmas.{reached_is_reach}
-use Rattle.journey_changes.specs.Fates.{Fate}
-use Rattle.journey_changes.specs.Sent.{Sent, fate, sent}
-use Rattle.listing_check.specs.Answered.{origins_of}
-use Rattle.listing_check.specs.Asked.{Asked}
-use Rattle.listing_check.specs.Looks.{IsLook}
-use Rattle.listing_check.specs.Texts.{id_of, outcome_of}
+use Rattle.journey_changes.specs.Terms.{Fate, Sent, fate, sent}
+use Rattle.listing_check.specs.Terms.{Asked, IsLook, id_of, origins_of, outcome_of}
 use Rattle.listing_check.specs.declared.looks.Look.{Look}
 use Rattle.listing_reader.specs.declared.origins.Origin.{Origin}
 use Rattle.query_words.specs.declared.reaches.ReachQuery.{ReachQuery}
 use Rattle.vpc_laws.proofs.Lengths.{accepted_has_short_lists}
-use Rattle.vpc_laws.specs.Types.{Description, End, EniNo, Header}
-use Rattle.vpc_model.specs.Accepted.{IsAccepted}
-use Rattle.vpc_model.specs.Appliances.{appliances_of}
-use Rattle.vpc_model.specs.Lookup.{interface_at}
-use Rattle.vpc_model.specs.Told.{end_id}
+use Rattle.vpc_laws.specs.Types.{Description, End, EniNo, Header, Row}
+use Rattle.vpc_model.specs.Terms.{IsAccepted, appliances_of, end_id, interface_at}
 use Rattle.vpc_model.specs.declared.places.End.TheVariants as ends
-use Rattle.answer_check.specs.Agreement.{end_told}
-use Rattle.answer_check.specs.Questions.{asked_at, asked_in, origin_of}
-use Rattle.answer_check.specs.Reaches.{all_asked, fate_text, toward_of}
+use Rattle.answer_check.specs.Terms.{all_asked, asked_at, asked_in, end_told, fate_text, origin_of, toward_of}
 
 -- ---- one start of some
 

@@ -6,3 +6,4 @@ pub mod Agreement
 pub mod Questions
 pub mod DiffTold
 pub mod DiffStarts
+pub mod Terms

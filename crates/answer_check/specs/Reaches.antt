@@ -5,22 +5,17 @@ use Rattle.block_report.specs.Words.{word}
 use Rattle.change_report.specs.Texts.{barrier_text}
 use Rattle.command_job.specs.declared.status.Status.{Status}
 use Rattle.command_job.specs.declared.status.Status.TheVariants as ends
-use Rattle.end_reach.specs.Answered.{IsTooMany}
-use Rattle.end_reach.specs.Asked.{AreStarts, AreTargets, boxes_at}
-use Rattle.end_reach.specs.Told.{reached_in}
-use Rattle.header_boxes.specs.declared.rows.Row.{Row}
-use Rattle.journey_changes.specs.Fates.{Fate}
-use Rattle.journey_changes.specs.Sent.{fate, sent}
+use Rattle.end_reach.specs.Terms.{AreStarts, AreTargets, IsTooMany, boxes_at, reached_in}
+use Rattle.journey_changes.specs.Terms.{Fate, fate, sent}
 use Rattle.journey_changes.specs.declared.fates.Toward.{Toward}
 use Rattle.journey_changes.specs.declared.fates.Toward.TheVariants as towards
-use Rattle.listing_check.specs.Answered.{IsListingChecked, origins_of}
-use Rattle.listing_check.specs.Asked.{Asked, IsTrueListing, listed_of}
+use Rattle.listing_check.specs.Terms.{Asked, IsListingChecked, IsTrueListing, listed_of, origins_of}
 use Rattle.listing_reader.specs.Listings.{lists_in}
 use Rattle.query_words.specs.ReachQuery.{reach_query_of}
 use Rattle.query_words.specs.declared.reaches.ReachQuery.{ReachQuery}
 use Rattle.report_check.specs.Certified.{report_refusal_line}
 use Rattle.report_reader.specs.Reports.{is_ended, pieces_of}
-use Rattle.vpc_laws.specs.Types.{Description, End}
+use Rattle.vpc_laws.specs.Types.{Description, End, Row}
 use Rattle.vpc_model.specs.Told.{end_id}
 use Rattle.answer_check.specs.Lines.{all_lines, question_words}
 

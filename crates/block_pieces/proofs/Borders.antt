@@ -1,24 +1,14 @@
 -- Where blocks begin and have ended, and the pieces between.
-use Rattle.std.proofs.Common.{◌≡◌, ℕ, ◌≤◌, ◌<◌, ◌+◌, ◌-◌, ◌*◌, ◌^◌, ◌&&◌, ◌⊎◌, Bool, List, None, Option, Some, [], ◌∷◌, ◌++◌, ap, arith, false, get_or, inl, inr, length, length-append, map, nat_le, nat_lt, refl, subst, suc, sym, take, true, zero, ◌∙◌}
-use Rattle.std.specs.Prelude.{option_map}
-use Rattle.std.specs.List.{All, Contains, filter, flat_map, slice_index}
-use Rattle.std.specs.List.Sorted.{IsPermutation, IsStrictlyIncreasing}
-use Rattle.std.proofs.lemmas.Bool.{cases_Bool, cases_lt, le-leb, lt-leb, lt-ltb, ltb-true}
-use Rattle.std.proofs.lemmas.Grind.{flat_map-append}
-use Rattle.std.proofs.lemmas.List.{append-nil, length-map, get_or-map, get_or_default, take_all, take_more}
-use Rattle.std.proofs.lemmas.List.Elements.{All-contains, All-more, Contains-get_or, filter_passes}
-use Rattle.std.proofs.lemmas.List.Sorted.{Contains-permutation, IsPermutation-sym}
-use Rattle.vpc_base.proofs.Members.{Contains-cases, Contains-filter, Contains-flat_map, Contains-here, Contains-later, Contains-none, filter-member, flat_map-member, length-filter-le}
+use Rattle.std.proofs.Common.{All, Bool, Contains, IsPermutation, List, None, Option, Some, [], ap, arith, false, filter, flat_map, get_or, inl, inr, length, length-append, map, nat_le, nat_lt, option_map, refl, slice_index, subst, suc, sym, take, true, zero, ℕ, ◌&&◌, ◌*◌, ◌++◌, ◌+◌, ◌-◌, ◌<◌, ◌^◌, ◌∙◌, ◌∷◌, ◌≡◌, ◌≤◌, ◌⊎◌}
+use Rattle.std.specs.List.Sorted.{IsStrictlyIncreasing}
+use Rattle.vpc_base.proofs.Lemmas.{All-contains, All-more, Contains-cases, Contains-filter, Contains-flat_map, Contains-get_or, Contains-here, Contains-later, Contains-none, Contains-permutation, IsPermutation-sym, append-nil, cases_Bool, cases_lt, filter-member, filter_passes, flat_map-append, flat_map-member, get_or-map, get_or_default, le-leb, length-filter-le, length-map, lt-leb, lt-ltb, ltb-true, take_all, take_more}
 use Rattle.prefix_text.specs.Block.{Block, IsBlock, holds, last_of}
 use Rattle.vpc_model.specs.Cuts.{block_cuts}
 use Rattle.piece_table.specs.Pieces.{ArePieces, LiesIn, PieceLists, first_at, first_of, number_at, told_at}
 use Rattle.piece_table.proofs.Ascending.{from-le}
 use Rattle.piece_table.proofs.PieceLemmas.{lies_in_its_piece}
-use Rattle.block_pieces.specs.declared.rows.BlockRow.{BlockRow}
+use Rattle.block_pieces.specs.Terms.{BlockRow, IsBest, IsToldBest, better_of, borders_of, inner_borders, tells, told_by, within_line}
 use Rattle.block_pieces.specs.declared.sweep.Tells.{Tells}
-use Rattle.block_pieces.specs.Laws.{IsToldBest}
-use Rattle.block_pieces.specs.Told.{borders_of, told_by}
-use Rattle.block_pieces.specs.Sweep.{IsBest, inner_borders, tells, within_line, better_of}
 use Rattle.block_pieces.proofs.Walking.{best-skip, best-take, told_by-best}
 
 -- ---- the borders

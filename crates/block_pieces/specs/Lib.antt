@@ -1,3 +1,4 @@
 pub mod Told
 pub mod Sweep
 pub mod Laws
+pub mod Terms

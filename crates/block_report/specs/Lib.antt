@@ -6,3 +6,4 @@ pub mod Reports
 pub mod Queries
 pub mod Replays
 pub mod Rules
+pub mod Terms

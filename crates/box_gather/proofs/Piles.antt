@@ -1,34 +1,19 @@
 -- What is known of piles of rows.
-use Rattle.std.proofs.Common.{◌≡◌, ◌≢◌, ◌≤◌, ◌<◌, ◌+◌, ◌++◌, ◌∷◌, ◌||◌, ◌⊎◌, ◌∙◌, [], All, AllPairs, Bool, Contains, IfSome, IsPermutation, List, None, Option, Some, ap, arith, cond, false, filter, get_or, inl, inr, length, map, nat_le, not, refl, subst, sum_by, sym, take, true, zero, ℕ, ⊎_elim}
-use Rattle.std.proofs.lemmas.Bool.Decides.{nat_tests}
-use Rattle.std.proofs.lemmas.Bool.{cases_lt, or_cases, or_left, or_right}
-use Rattle.std.proofs.lemmas.List.Elements.{All-append, All-cons, All-filter, All-head, All-map, All-nil, All-tail, All-take, All-weaker, Contains-append_left, Contains-append_right, filter-append, filter_passes}
-use Rattle.std.proofs.lemmas.List.Folds.{Any-from_list_any, list_any-append, list_any_at}
-use Rattle.std.proofs.lemmas.List.Sorted.{All-permutation, length_permutation, list_any-IsPermutation, ranks_by, sorted_far, sum_by-IsPermutation}
-use Rattle.std.proofs.lemmas.List.Sums.{sum_by-append, sum_by-cons, sum_by-take-le}
-use Rattle.std.proofs.lemmas.List.{get_or-take, length-append, length-map, length-take-le}
+use Rattle.std.proofs.Common.{All, AllPairs, Bool, Contains, IfSome, IsPermutation, List, None, Option, Some, [], ap, arith, cond, false, filter, get_or, inl, inr, is_lt, is_some, length, map, nat_le, not, refl, subst, sum_by, sym, take, true, zero, ℕ, ⊎_elim, ◌++◌, ◌+◌, ◌<◌, ◌||◌, ◌∙◌, ◌∷◌, ◌≡◌, ◌≢◌, ◌≤◌, ◌⊎◌}
+use Rattle.vpc_base.proofs.Lemmas.{All-append, All-cons, All-filter, All-head, All-map, All-nil, All-permutation, All-tail, All-take, All-weaker, AllPairs-map, Any-from_list_any, Contains-append_left, Contains-append_right, cases_lt, filter-append, filter_passes, get_or-take, length-append, length-map, length-take-le, length_permutation, list_any-IsPermutation, list_any-append, list_any_at, nat_tests, or_cases, or_left, or_right, ranks_by, sorted_far, sum_by-IsPermutation, sum_by-append, sum_by-cons, sum_by-take-le}
 use Rattle.std.specs.List.{list_any}
-use Rattle.std.specs.Option.{is_some}
-use Rattle.std.specs.Ordering.{is_lt}
 use Rattle.std.specs.declared.cmp.Ordering.{Ordering}
 use Rattle.std.specs.declared.cmp.Ordering.TheVariants.{Equal, Greater, Less}
-use Rattle.vpc_base.specs.Cuts.{AreAmong, CutLists}
-use Rattle.vpc_base.specs.Header.{IsBefore, order_of}
+use Rattle.vpc_base.specs.Terms.{AreAmong, CutLists, IsBefore, order_of}
 use Rattle.vpc_base.specs.declared.headers.Header.{Header}
-use Rattle.vpc_base.proofs.Pairs.{AllPairs-map}
-use Rattle.header_boxes.proofs.BoxLaws.{aligned_grows, low_is_least}
-use Rattle.header_boxes.proofs.Held.{holds_low, holds_whole, valid_if_within}
-use Rattle.header_boxes.proofs.Order.{order_of_total}
-use Rattle.header_boxes.specs.Boxes.{AreDisjoint, IsValid, IsWithin, holds, low_of}
-use Rattle.header_boxes.specs.Cells.{IsAligned, cells_of}
-use Rattle.header_boxes.specs.Rows.{HasWord, is_covered}
+use Rattle.header_boxes.proofs.Lemmas.{aligned_grows, holds_low, holds_whole, low_is_least, order_of_total, valid_if_within}
+use Rattle.header_boxes.specs.Terms.{AreDisjoint, HasWord, IsAligned, IsValid, IsWithin, cells_of, holds, is_covered, low_of}
 use Rattle.header_boxes.specs.declared.boxes.Box5.{Box5}
 use Rattle.header_boxes.specs.declared.rows.Row.{Row}
 use Rattle.ordered_cover.proofs.Cells.{boxes_within_cells}
 use Rattle.ordered_cover.proofs.Lists.{any_from_one, at_most_one, none_from_zero, zero_from_all}
 use Rattle.ordered_cover.proofs.Order.{before_other, before_trans, before_upto}
-use Rattle.ordered_cover.specs.Gathered.{IsGathered, LeaveSomeOut, HoldAllTold}
-use Rattle.ordered_cover.specs.Open.{holders, one_if, row_holders}
+use Rattle.ordered_cover.specs.Terms.{HoldAllTold, IsGathered, LeaveSomeOut, holders, one_if, row_holders}
 use Rattle.ordered_cover.specs.declared.rows.Gathered.{Gathered}
 use Rattle.ordered_cover.specs.declared.rows.Gathered.TheVariants as gathered
 use Rattle.box_gather.proofs.Counting.{count_by_disjoint, disjoint_by_count, filter_all, length-filter-le, none_before, none_from_any, one_from_any, sum_by-filter-le}

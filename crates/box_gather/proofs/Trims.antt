@@ -1,35 +1,21 @@
 -- Piles that are put in order and cut, and what is gathered at last.
-use Rattle.std.proofs.Common.{◌≡◌, ◌≢◌, ◌≤◌, ◌<◌, ◌+◌, ◌++◌, ◌∷◌, ◌⊎◌, ◌∙◌, [], All, AllPairs, Bool, IfSome, IsPermutation, List, None, Option, Some, ap, arith, drop, false, get_or, inl, inr, length, nat_lt, refl, subst, sum_by, sym, take, true, ℕ, ⊎_elim}
-use Rattle.std.proofs.lemmas.Bool.{cases_lt}
-use Rattle.std.proofs.lemmas.List.Elements.{All-take}
-use Rattle.std.proofs.lemmas.List.Folds.{Any-from_list_any, list_any_at}
-use Rattle.std.proofs.lemmas.List.Sorted.{All-permutation, length_permutation, list_any-IsPermutation, ranks_by, sorted_far, sum_by-IsPermutation}
-use Rattle.std.proofs.lemmas.List.Sums.{sum_by-take-le}
-use Rattle.std.proofs.Math.Seq.{take-length}
-use Rattle.std.proofs.lemmas.List.{get_or-take, get_or_default, length-take-le, take_more}
-use Rattle.std.specs.Option.{is_some}
-use Rattle.vpc_base.specs.Cuts.{AreAmong, CutLists}
-use Rattle.vpc_base.specs.Header.{IsBefore}
+use Rattle.std.proofs.Common.{All, AllPairs, Bool, IfSome, IsPermutation, List, None, Option, Some, [], ap, arith, drop, false, get_or, inl, inr, is_lt, is_some, length, nat_lt, refl, subst, sum_by, sym, take, true, ℕ, ⊎_elim, ◌++◌, ◌+◌, ◌<◌, ◌∙◌, ◌∷◌, ◌≡◌, ◌≢◌, ◌≤◌, ◌⊎◌}
+use Rattle.vpc_base.proofs.Lemmas.{All-permutation, All-take, Any-from_list_any, cases_lt, get_or-take, get_or_default, length-take-le, length_permutation, list_any-IsPermutation, list_any_at, ranks_by, some_not_none, sorted_far, sum_by-IsPermutation, sum_by-take-le, take-length, take_more}
+use Rattle.vpc_base.specs.Terms.{AreAmong, CutLists, IsBefore}
 use Rattle.vpc_base.specs.declared.headers.Header.{Header}
-use Rattle.vpc_base.proofs.Options.{some_not_none}
-use Rattle.header_boxes.proofs.BoxLaws.{low_is_least}
-use Rattle.header_boxes.proofs.Held.{holds_low, holds_whole, valid_if_within}
-use Rattle.header_boxes.proofs.Order.{order_of_total}
-use Rattle.header_boxes.specs.Boxes.{AreDisjoint, IsValid, holds, low_of}
-use Rattle.header_boxes.specs.Rows.{HasWord, is_covered}
+use Rattle.header_boxes.proofs.Lemmas.{holds_low, holds_whole, low_is_least, order_of_total, valid_if_within}
+use Rattle.header_boxes.specs.Terms.{AreDisjoint, HasWord, IsValid, holds, is_covered, low_of}
 use Rattle.header_boxes.specs.declared.boxes.Box5.{Box5}
 use Rattle.header_boxes.specs.declared.rows.Row.{Row}
 use Rattle.ordered_cover.proofs.Lists.{none_from_zero}
 use Rattle.ordered_cover.proofs.Order.{before_other, before_trans}
-use Rattle.ordered_cover.specs.Gathered.{IsGathered}
-use Rattle.ordered_cover.specs.Open.{holders, one_if, row_holders}
+use Rattle.ordered_cover.specs.Terms.{IsGathered, holders, one_if, row_holders}
 use Rattle.ordered_cover.specs.declared.rows.Gathered.{Gathered}
 use Rattle.ordered_cover.specs.declared.rows.Gathered.TheVariants as gathered
 use Rattle.box_gather.proofs.Counting.{count_by_disjoint, disjoint_by_count, none_before, two_at}
 use Rattle.box_gather.proofs.Piles.{before_if, pile_joined, pile_of_part, pile_of_whole}
 use Rattle.box_gather.specs.Over.{AreRowsOver, IsGatheredOver, IsPartOf, IsPartOver, IsWholeOver, cells_over, is_in}
 use Rattle.box_gather.specs.Pile.{IsLeftOut, IsPast, IsPile, IsPiled, IsShortened, IsTrimmed, RiseByCorner, cut, earlier, is_before, kept, kept_before, trimmed, whole}
-use Rattle.std.specs.Ordering.{is_lt}
 
 -- ---- rows in order
 

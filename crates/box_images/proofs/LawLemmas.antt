@@ -1,26 +1,14 @@
 -- The laws of bodies and images.
-use Rattle.std.proofs.Common.{◌≡◌, ℕ, ◌≤◌, ◌<◌, ◌+◌, ◌^◌, ◌||◌, ◌⊎◌, ◌∷◌, [], Bool, true, false, List, refl, ap, sym, subst, ◌∙◌, arith, inl, inr, ⊎_elim}
-use Rattle.std.proofs.lemmas.Bool.{cases_lt}
-use Rattle.std.proofs.lemmas.List.Elements.{All-cons, All-contains, All-nil}
-use Rattle.std.specs.List.{Contains}
+use Rattle.std.proofs.Common.{Bool, Contains, List, [], ap, arith, false, inl, inr, refl, subst, sym, true, ℕ, ⊎_elim, ◌+◌, ◌<◌, ◌^◌, ◌||◌, ◌∙◌, ◌∷◌, ◌≡◌, ◌≤◌, ◌⊎◌}
+use Rattle.vpc_base.proofs.Lemmas.{All-cons, All-contains, All-nil, cases_lt}
 use Rattle.vpc_base.specs.Cuts.{CutLists}
 use Rattle.vpc_base.specs.declared.headers.Header.{Header}
-use Rattle.header_boxes.specs.Boxes.{holds, in_range, low_of}
-use Rattle.header_boxes.specs.Cells.{IsAligned}
+use Rattle.header_boxes.specs.Terms.{IsAligned, holds, in_range, low_of}
 use Rattle.header_boxes.specs.declared.boxes.Box5.{Box5}
-use Rattle.header_boxes.proofs.CellNumbers.{aligned_by_low, aligned_through}
-use Rattle.header_boxes.proofs.Held.{holds_low, holds_whole}
-use Rattle.box_images.specs.Fields.{AreComparable, greatest_of, greatest_on, side_of, value_of}
-use Rattle.box_images.specs.Images.{CanCompare, IsAddress, IsImageOfEchoReply, IsImageOfReturn, IsPort, IsValidImage, field_of}
-use Rattle.box_images.specs.Bodies.{AreCutInside, Edges, IsBody, IsCut, IsCutInside, IsEdge, cuts_on, range_edges}
-use Rattle.box_images.specs.Laws.{AlignedBodiesCompose, AnswersCompare, BodiesAreAligned, CutsAreInside, EndsCompose, ImagesFit, NarrowedAreAligned, OpensCompare}
-use Rattle.box_images.specs.declared.fields.Field.{Field}
+use Rattle.header_boxes.proofs.Lemmas.{aligned_by_low, aligned_through, holds_low, holds_whole}
+use Rattle.box_images.specs.Terms.{AlignedBodiesCompose, Answers, AnswersCompare, AreComparable, AreCutInside, BodiesAreAligned, CanCompare, CutsAreInside, Edges, EndsCompose, Field, Image, ImagesFit, IsAddress, IsBody, IsCut, IsCutInside, IsEdge, IsImageOfEchoReply, IsImageOfReturn, IsPort, IsValidImage, NarrowedAreAligned, OpensCompare, Part, Side, cuts_on, field_of, greatest_of, greatest_on, range_edges, side_of, value_of}
 use Rattle.box_images.specs.declared.fields.Field.TheVariants.{Fixed, Of}
-use Rattle.box_images.specs.declared.fields.Side.{Side}
 use Rattle.box_images.specs.declared.fields.Side.TheVariants.{Proto, Src, Dst, P, Q}
-use Rattle.box_images.specs.declared.images.Image.{Image}
-use Rattle.box_images.specs.declared.images.Part.{Part}
-use Rattle.box_images.specs.Answers.{Answers}
 use Rattle.box_images.proofs.BodyLemmas.{body_through, ends_through}
 use Rattle.box_images.proofs.SideLemmas.{number_in_side, side_begins, side_within}
 

@@ -5,3 +5,4 @@ pub mod Reducing
 pub mod NarrowLemmas
 pub mod ImageLemmas
 pub mod TranslateLemmas
+pub mod Lemmas

@@ -4,3 +4,4 @@ pub mod Bodies
 pub mod Answers
 pub mod Parts
 pub mod Laws
+pub mod Terms

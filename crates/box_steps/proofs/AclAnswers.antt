@@ -2,25 +2,15 @@
 use Rattle.std.proofs.Common.{◌≡◌, ◌∙◌, ◌==◌, Bool, None, Option, Some, cond, false, refl, true, ℕ}
 use Rattle.std.proofs.lemmas.Bool.{eq-eqb, ne_eqb}
 use Rattle.vpc_base.specs.Cuts.{CutLists}
-use Rattle.vpc_base.specs.declared.headers.Dir.{Dir}
-use Rattle.vpc_base.specs.declared.headers.Header.{Header}
 use Rattle.header_boxes.specs.Boxes.{IsValid}
-use Rattle.header_boxes.specs.declared.boxes.Box5.{Box5}
-use Rattle.box_images.specs.Answers.{Answers}
-use Rattle.box_images.specs.Images.{header_at}
-use Rattle.box_images.specs.declared.images.Image.{Image}
-use Rattle.box_images.specs.declared.images.Part.{Part}
+use Rattle.box_images.specs.Terms.{Answers, header_at}
+use Rattle.image_tests.specs.Types.{Image, Part}
 use Rattle.cut_laws.proofs.Among.{among_through}
 use Rattle.image_tests.proofs.Answering.{answers_all, answers_more, answers_same}
 use Rattle.network_acls.proofs.Standing.{tried_rows_are_standing}
 use Rattle.network_acls.specs.Tried.{DivideRows, SortsRows, TriedRows, rows_tried}
-use Rattle.vpc_laws.specs.Types.{AclNo, Description, Stop, SubnetNo}
-use Rattle.vpc_model.specs.Acls.{acl_verdict}
-use Rattle.vpc_model.specs.Choice.{or_else}
-use Rattle.vpc_model.specs.Cuts.{all_cuts, cuts_of_acl_row, on_sides, standing_cuts}
-use Rattle.vpc_model.specs.Lookup.{acl_at}
-use Rattle.vpc_model.specs.Sound.{is_acl}
-use Rattle.vpc_model.specs.Step.Crossing.{crossing, entering, leaving}
+use Rattle.vpc_laws.specs.Types.{AclNo, Box5, Description, Dir, Header, Stop, SubnetNo}
+use Rattle.vpc_model.specs.Terms.{acl_at, acl_verdict, all_cuts, crossing, cuts_of_acl_row, entering, is_acl, leaving, on_sides, or_else, standing_cuts}
 use Rattle.box_steps.proofs.Telling.{answers_kept, answers_then}
 use Rattle.box_steps.specs.Cuts.{Standing}
 

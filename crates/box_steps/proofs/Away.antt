@@ -4,33 +4,19 @@ use Rattle.std.proofs.lemmas.Bool.{cond_both}
 use Rattle.appliances.proofs.Forwarding.{boxes_at-none, boxes_at-number}
 use Rattle.appliances.specs.Passing.{number_of}
 use Rattle.vpc_base.specs.Cuts.{CutLists}
-use Rattle.vpc_base.specs.declared.headers.Header.{Header}
 use Rattle.vpc_base.specs.declared.headers.Label.TheVariants as labels
 use Rattle.header_boxes.specs.Boxes.{IsValid}
-use Rattle.header_boxes.specs.declared.boxes.Box5.{Box5}
-use Rattle.box_images.specs.Answers.{Answers}
-use Rattle.box_images.specs.Images.{header_at}
-use Rattle.box_images.specs.declared.images.Image.{Image}
-use Rattle.box_images.specs.declared.images.Part.{Part}
-use Rattle.vpc_laws.specs.Types.{Description, End, EniNo, NatNo, Place, Stop, SubnetNo, TableNo, Target, VpcNo}
-use Rattle.vpc_model.specs.Appliances.{Appliances}
-use Rattle.vpc_model.specs.Lookup.{host_of, interface_at, subnet_of, vpc_of_subnet}
-use Rattle.vpc_model.specs.Step.{step_at}
-use Rattle.vpc_model.specs.Step.Crossing.{crossing, deliver, deliver_by, entering, is_gateway, nat_of}
-use Rattle.vpc_model.specs.Step.Enter.{enter_host}
-use Rattle.vpc_model.specs.Step.Router.{to_host, to_target}
-use Rattle.vpc_model.specs.Step.Words.{Moment, Next, go, stop, unless_stopped}
-use Rattle.vpc_model.specs.Verdict.{same_end}
+use Rattle.box_images.specs.Terms.{Answers, header_at}
+use Rattle.image_tests.specs.Types.{Image, Part}
+use Rattle.vpc_laws.specs.Types.{Box5, Description, End, EniNo, Header, NatNo, Place, Stop, SubnetNo, TableNo, Target, VpcNo}
+use Rattle.vpc_model.specs.Terms.{Appliances, Moment, Next, crossing, deliver, deliver_by, enter_host, entering, go, host_of, interface_at, is_gateway, nat_of, same_end, step_at, stop, subnet_of, to_host, to_target, unless_stopped, vpc_of_subnet}
 use Rattle.vpc_model.specs.declared.places.End.TheVariants as ends
 use Rattle.vpc_model.specs.declared.places.Place.TheVariants as places
 use Rattle.vpc_model.specs.declared.rows.Target.TheVariants as targets
 use Rattle.vpc_model.specs.declared.stops.Stop.TheVariants as stops
 use Rattle.box_steps.proofs.Telling.{answers_then, answers_told}
 use Rattle.box_steps.proofs.Turning.{standing_answers}
-use Rattle.box_steps.specs.Cuts.{AtPlace, Standing}
-use Rattle.box_steps.specs.Missing.{HoldsOver, is_away, is_elsewhere, misses, misses_at}
-use Rattle.box_steps.specs.Moments.{moment_at}
-use Rattle.box_steps.specs.declared.moment.BoxMoment.{BoxMoment}
+use Rattle.box_steps.specs.Terms.{AtPlace, BoxMoment, HoldsOver, Standing, is_away, is_elsewhere, misses, misses_at, moment_at}
 
 -- ---- interfaces
 

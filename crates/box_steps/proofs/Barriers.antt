@@ -2,27 +2,19 @@
 use Rattle.std.proofs.Common.{◌≡◌, ◌∙◌, ◌&&◌, Bool, None, Option, Some, ap, cond, false, not, refl, subst, sym, true}
 use Rattle.vpc_base.specs.Cuts.{CutLists}
 use Rattle.header_boxes.specs.Boxes.{IsValid}
-use Rattle.header_boxes.specs.declared.boxes.Box5.{Box5}
 use Rattle.box_images.proofs.Reducing.{reduced_by, reduced_nothing, reduced_to}
-use Rattle.box_images.specs.Answers.{Answers}
-use Rattle.box_images.specs.Images.{header_at}
-use Rattle.box_images.specs.declared.images.Image.{Image}
-use Rattle.box_images.specs.declared.images.Part.{Part}
+use Rattle.box_images.specs.Terms.{Answers, header_at}
+use Rattle.image_tests.specs.Types.{Image, Part}
 use Rattle.image_tests.proofs.Answering.{answers_all, answers_same}
-use Rattle.vpc_laws.specs.Types.{Description, Dir, EniNo, Label, Stop}
-use Rattle.vpc_model.specs.Lookup.{has_address, interface_at}
-use Rattle.vpc_model.specs.Step.Words.{Moment}
+use Rattle.vpc_laws.specs.Types.{Box5, Description, Dir, EniNo, Label, Stop}
+use Rattle.vpc_model.specs.Terms.{Moment, has_address, interface_at}
 use Rattle.vpc_model.specs.declared.places.Place.TheVariants as places
 use Rattle.vpc_model.specs.declared.stops.Stop.TheVariants as stops
 use Rattle.box_steps.proofs.Composing.{narrowed_itself, narrowed_through}
 use Rattle.box_steps.proofs.Narrowing.{moment_at-narrowed}
 use Rattle.box_steps.proofs.Telling.{answers_told}
 use Rattle.box_steps.proofs.Turning.{standing_answers}
-use Rattle.box_steps.specs.Cuts.{AtPlace, Standing}
-use Rattle.box_steps.specs.Moments.{IsBoxMoment, IsNarrowed, moment_at}
-use Rattle.box_steps.specs.Hosts.{own_address}
-use Rattle.box_steps.specs.Passing.{TellsOf, barrier, check_stop, checked_barrier, groups_barrier, groups_stop, passes_groups}
-use Rattle.box_steps.specs.declared.moment.BoxMoment.{BoxMoment}
+use Rattle.box_steps.specs.Terms.{AtPlace, BoxMoment, IsBoxMoment, IsNarrowed, Standing, TellsOf, barrier, check_stop, checked_barrier, groups_barrier, groups_stop, moment_at, own_address, passes_groups}
 
 -- ---- moments of which something is told
 

@@ -1,31 +1,22 @@
 -- What passes groups, for all packets of a moment.
-use Rattle.std.proofs.Common.{◌≡◌, ◌∙◌, Bool, List, None, Option, Some, cond, false, refl, subst, sym, true}
-use Rattle.std.specs.Prelude.{is_some}
-use Rattle.std.specs.List.{flat_map}
+use Rattle.std.proofs.Common.{Bool, List, None, Option, Some, cond, false, flat_map, is_some, refl, subst, sym, true, ◌∙◌, ◌≡◌}
 use Rattle.vpc_base.specs.Cuts.{CutLists, joined_cuts}
 use Rattle.vpc_base.specs.declared.headers.Label.TheVariants as labels
 use Rattle.header_boxes.specs.Boxes.{IsValid}
 use Rattle.box_images.proofs.Reducing.{reduced_by, reduced_nothing, reduced_to}
-use Rattle.box_images.specs.Answers.{Answers}
-use Rattle.box_images.specs.Images.{header_at}
-use Rattle.box_images.specs.declared.images.Image.{Image}
-use Rattle.box_images.specs.declared.images.Part.{Part}
+use Rattle.box_images.specs.Terms.{Answers, header_at}
+use Rattle.image_tests.specs.Types.{Image, Part}
 use Rattle.conn_tracking.specs.OnImages.{TellsTracked, connections_at}
 use Rattle.cut_laws.proofs.Places.{addresses_are_standing}
 use Rattle.cut_laws.specs.Dividing.{DivideAddresses}
 use Rattle.image_tests.proofs.Answering.{answers_more}
 use Rattle.vpc_laws.specs.Types.{Description, Dir, EniNo, Header, RuleRef}
-use Rattle.vpc_model.specs.Connections.{Connection, Passing, answer_passing, is_tracked, label_passing}
-use Rattle.vpc_model.specs.Cuts.{address_cuts, cuts_of_blocks, fixed_cuts}
-use Rattle.vpc_model.specs.Groups.{first_rule}
-use Rattle.vpc_model.specs.Lookup.{addresses_in, interface_at}
+use Rattle.vpc_model.specs.Terms.{Connection, Passing, address_cuts, addresses_in, answer_passing, cuts_of_blocks, first_rule, fixed_cuts, interface_at, is_tracked, label_passing}
 use Rattle.vpc_model.specs.declared.outcomes.By.TheVariants as bys
 use Rattle.vpc_model.specs.declared.places.Place.TheVariants as places
 use Rattle.box_steps.proofs.Telling.{answers_kept}
 use Rattle.box_steps.proofs.Turning.{divide_at_place}
-use Rattle.box_steps.specs.Cuts.{AtPlace}
-use Rattle.box_steps.specs.Passing.{is_passed}
-use Rattle.box_steps.specs.declared.moment.BoxMoment.{BoxMoment}
+use Rattle.box_steps.specs.Terms.{AtPlace, BoxMoment, is_passed}
 
 -- ---- answers
 

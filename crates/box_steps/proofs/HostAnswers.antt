@@ -1,38 +1,23 @@
 -- Which interfaces have the addresses of all headers of a body.
-use Rattle.std.proofs.Common.{◌≡◌, ◌∙◌, ◌==◌, ◌&&◌, ◌∷◌, [], Bool, IfSome, List, None, Option, Some, ap, arith, is_some, option_map, position, refl, subst, sym, true, ℕ}
-use Rattle.std.specs.List.{Contains, flat_map, list_any}
-use Rattle.std.proofs.lemmas.Bool.{and_parts, eqb-true}
-use Rattle.std.proofs.lemmas.List.Elements.{All-from_recursion}
+use Rattle.std.proofs.Common.{Bool, Contains, IfSome, List, None, Option, Some, [], ap, arith, flat_map, is_some, option_map, position, refl, subst, sym, true, ℕ, ◌&&◌, ◌==◌, ◌∙◌, ◌∷◌, ◌≡◌}
+use Rattle.std.specs.List.{list_any}
+use Rattle.vpc_base.proofs.Lemmas.{All-from_recursion, Contains-flat_map, Contains-here, all_members, and_parts, eqb-true, list_any-member, position-at, row-member}
 use Rattle.vpc_base.specs.Cuts.{CutLists, joined_cuts}
-use Rattle.vpc_base.specs.declared.headers.Dir.{Dir}
-use Rattle.vpc_base.specs.declared.headers.Header.{Header}
-use Rattle.vpc_base.proofs.Members.{Contains-flat_map, Contains-here, all_members, list_any-member, row-member}
-use Rattle.vpc_base.proofs.Positions.{position-at}
 use Rattle.header_boxes.proofs.Held.{holds_whole}
 use Rattle.header_boxes.specs.Boxes.{holds, low_of}
-use Rattle.header_boxes.specs.declared.boxes.Box5.{Box5}
 use Rattle.box_images.proofs.LawLemmas.{images_fit}
-use Rattle.box_images.specs.Answers.{Answers}
-use Rattle.box_images.specs.Fields.{number_of}
-use Rattle.box_images.specs.Images.{IsValidImage, header_at}
-use Rattle.box_images.specs.declared.fields.Side.{Side}
-use Rattle.box_images.specs.declared.images.Image.{Image}
-use Rattle.box_images.specs.declared.images.Part.{Part}
-use Rattle.cut_laws.proofs.Among.{among_through, on_sides_among, right_among}
-use Rattle.cut_laws.proofs.Places.{addresses_are_standing}
+use Rattle.box_images.specs.Terms.{Answers, IsValidImage, header_at, number_of}
+use Rattle.image_tests.specs.Types.{Entry, Image, Part, Side}
+use Rattle.cut_laws.proofs.Lemmas.{addresses_are_standing, among_through, on_sides_among, right_among}
 use Rattle.cut_laws.specs.Dividing.{CutOut}
 use Rattle.fabric.specs.Hosts.{AreHosts}
 use Rattle.image_tests.proofs.Answering.{answers_more, answers_same}
 use Rattle.number_tables.specs.Entries.{value_at}
 use Rattle.number_tables.specs.Keys.{key_of}
-use Rattle.number_tables.specs.declared.tables.Entry.{Entry}
-use Rattle.vpc_laws.specs.Types.{Description, EniNo, Interface, VpcNo}
-use Rattle.vpc_model.specs.Cuts.{address_cuts, cuts_of_blocks, fixed_cuts, on_sides, standing_cuts}
-use Rattle.vpc_model.specs.Lookup.{addresses_in, both_addresses, has_address, host_of, interface_at, is_in_vpc, no_interface}
-use Rattle.vpc_model.specs.Sound.{is_eni, is_vpc}
-use Rattle.box_steps.proofs.RouteAnswers.{told_of_low}
-use Rattle.box_steps.specs.Cuts.{Standing}
-use Rattle.box_steps.specs.Hosts.{DivideAddress, DivideOwn, own_address}
+use Rattle.vpc_laws.specs.Types.{Box5, Description, Dir, EniNo, Header, Interface, VpcNo}
+use Rattle.vpc_model.specs.Terms.{address_cuts, addresses_in, both_addresses, cuts_of_blocks, fixed_cuts, has_address, host_of, interface_at, is_eni, is_in_vpc, is_vpc, no_interface, on_sides, standing_cuts}
+use Rattle.box_steps.proofs.ToldOfSome.{told_of_low}
+use Rattle.box_steps.specs.Terms.{DivideAddress, DivideOwn, Standing, own_address}
 
 -- the same answer in other words, for the headers of the part
 pub answers_held : {T : Type 0} (enough : CutLists → Type 0) (f g : Header → T) (part : Box5) (x : Part T) → ((h : Header) → holds h part ≡ true → f h ≡ g h)

@@ -1,31 +1,19 @@
 -- Moments over a body of their part: they stand for the same packets, and remember the same.
 use Rattle.std.proofs.Common.{◌≡◌, ◌∙◌, ◌≤◌, ◌==◌, ◌&&◌, ◌||◌, ◌∷◌, [], All, Bool, List, ap, arith, false, get_or, inl, inr, length, map, refl, subst, sym, true, ℕ}
-use Rattle.std.proofs.lemmas.Bool.Decides.{nat_tests}
-use Rattle.std.proofs.lemmas.List.{length-map}
-use Rattle.std.proofs.lemmas.List.Elements.{All-map}
+use Rattle.vpc_base.proofs.Lemmas.{All-map, length-map, nat_tests}
 use Rattle.vpc_base.specs.Dir.{same_dir}
-use Rattle.vpc_base.specs.declared.headers.Dir.{Dir}
 use Rattle.vpc_base.specs.declared.headers.Dir.TheVariants as dirs
-use Rattle.vpc_base.specs.declared.headers.Header.{Header}
-use Rattle.vpc_base.specs.declared.headers.Label.{Label}
 use Rattle.vpc_base.specs.declared.headers.Label.TheVariants as labels
 use Rattle.header_boxes.specs.Boxes.{IsRangeWithin, IsWithin, in_range}
-use Rattle.header_boxes.specs.declared.boxes.Box5.{Box5}
 use Rattle.box_images.proofs.ImageLemmas.{valid_over_body}
 use Rattle.box_images.specs.Images.{IsValidImage, header_at}
 use Rattle.box_images.specs.declared.images.Image.{Image}
 use Rattle.conn_tracking.specs.OnImages.{connection_at, connections_at}
 use Rattle.conn_tracking.specs.declared.on_images.ImageEntry.{ImageEntry}
-use Rattle.vpc_laws.specs.Types.{Description, EniNo, NatNo, Place}
-use Rattle.vpc_model.specs.Connections.{Connection}
-use Rattle.vpc_model.specs.Lookup.{addresses_in}
-use Rattle.vpc_model.specs.Nat.{Translation}
-use Rattle.vpc_model.specs.Sound.{is_sound}
-use Rattle.vpc_model.specs.Step.Words.{Moment}
+use Rattle.vpc_laws.specs.Types.{Box5, Description, Dir, EniNo, Header, Label, NatNo, Place}
+use Rattle.vpc_model.specs.Terms.{Connection, Moment, Translation, addresses_in, is_sound}
 use Rattle.vpc_model.specs.declared.places.Place.TheVariants as places
-use Rattle.box_steps.specs.Moments.{AreApart, CanRemember, IsBoxMoment, IsImageOf, IsNarrowed, IsOpenOver, IsTranslatedOver, RemembersMore, entry_over, has_conn, has_nat, image_over, moment_at, nat_over, remembers, translation_at, translations_at}
-use Rattle.box_steps.specs.declared.moment.BoxMoment.{BoxMoment}
-use Rattle.box_steps.specs.declared.moment.ImageNat.{ImageNat}
+use Rattle.box_steps.specs.Terms.{AreApart, BoxMoment, CanRemember, ImageNat, IsBoxMoment, IsImageOf, IsNarrowed, IsOpenOver, IsTranslatedOver, RemembersMore, entry_over, has_conn, has_nat, image_over, moment_at, nat_over, remembers, translation_at, translations_at}
 
 -- what is remembered is the same, over the body
 pub record IsKept (body : Box5) (old new : BoxMoment) : Type 0 where

@@ -1,25 +1,13 @@
 -- The addresses of one interface, asked of images.
-use Rattle.std.proofs.Common.{◌≡◌, ◌==◌, ◌+◌, Bool, List, Option, ap, arith, refl, subst, sym, ℕ}
-use Rattle.std.specs.List.{Contains}
-use Rattle.std.specs.Prelude.{nat_le}
-use Rattle.std.proofs.lemmas.Bool.Decides.{nat_tests}
-use Rattle.std.proofs.lemmas.List.Elements.{All-contains}
+use Rattle.std.proofs.Common.{Bool, Contains, List, Option, ap, arith, nat_le, refl, subst, sym, ℕ, ◌+◌, ◌==◌, ◌≡◌}
+use Rattle.vpc_base.proofs.Lemmas.{All-contains, Contains-filter, nat_tests}
 use Rattle.vpc_base.specs.declared.headers.Header.{Header}
-use Rattle.box_images.specs.Answers.{Answers}
-use Rattle.box_images.specs.Bodies.{IsCut}
-use Rattle.box_images.specs.Fields.{number_of}
-use Rattle.box_images.specs.Images.{IsImageOfWalk, IsValidImage, field_of, header_at}
-use Rattle.box_images.specs.declared.fields.Side.{Side}
-use Rattle.box_images.specs.declared.images.Image.{Image}
-use Rattle.box_images.specs.declared.images.Part.{Part}
-use Rattle.image_tests.proofs.Answering.{answers_more, answers_same, between_itself, side_answers}
-use Rattle.image_tests.proofs.Fields.{address_field, address_is_cut, greatest_address}
-use Rattle.image_tests.proofs.Trying.{header_of_rest}
+use Rattle.box_images.specs.Terms.{Answers, IsCut, IsImageOfWalk, IsValidImage, field_of, header_at, number_of}
+use Rattle.image_tests.specs.Types.{Image, Part, Side}
+use Rattle.image_tests.proofs.Lemmas.{address_field, address_is_cut, answers_more, answers_same, between_itself, greatest_address, header_of_rest, side_answers}
 use Rattle.image_tests.specs.Tests.{IsAddressSide, TellsSide}
 use Rattle.vpc_base.specs.Cuts.{CutLists}
-use Rattle.vpc_base.proofs.Members.{Contains-filter}
-use Rattle.vpc_model.specs.Cuts.{address_cuts}
-use Rattle.vpc_model.specs.Filter.{is_between}
+use Rattle.vpc_model.specs.Terms.{address_cuts, is_between}
 use Rattle.box_steps.specs.Hosts.{DivideAddress, DivideOwn}
 
 -- the test of a header

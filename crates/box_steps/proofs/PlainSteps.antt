@@ -1,39 +1,17 @@
 -- Places that change no header and remember nothing: what was told of all headers is one step.
 use Rattle.std.proofs.Common.{◌≡◌, ◌∙◌, ◌||◌, ap, cond, inl, inr, refl, subst, sym, true}
-use Rattle.vpc_base.specs.declared.headers.Header.{Header}
-use Rattle.vpc_base.specs.declared.headers.Label.{Label}
 use Rattle.vpc_base.specs.declared.headers.Label.TheVariants as labels
-use Rattle.box_images.specs.Answers.{Answers}
-use Rattle.box_images.specs.Images.{IsImageOfWalk, header_at}
+use Rattle.box_images.specs.Terms.{Answers, IsImageOfWalk, header_at}
 use Rattle.box_images.specs.declared.images.Part.{Part}
 use Rattle.image_tests.proofs.Answering.{answers_all}
-use Rattle.vpc_laws.specs.Types.{AttNo, Description, PeerNo, Place, SubnetNo, VpcNo}
-use Rattle.vpc_model.specs.Accepted.{IsAccepted}
-use Rattle.vpc_model.specs.Appliances.{Appliances}
-use Rattle.vpc_model.specs.Internet.{is_unroutable, owner_of}
-use Rattle.vpc_model.specs.Lookup.{addresses_in, host_of, peering_at, table_at, table_of}
-use Rattle.vpc_model.specs.Routes.{chosen_route}
-use Rattle.vpc_model.specs.Sound.{is_sound}
-use Rattle.vpc_model.specs.Step.{step_at}
-use Rattle.vpc_model.specs.Step.Enter.{enter_host}
-use Rattle.vpc_model.specs.Step.Internet.{to_owner}
-use Rattle.vpc_model.specs.Step.Peering.{by_pair}
-use Rattle.vpc_model.specs.Step.Router.{by_route}
-use Rattle.vpc_model.specs.Step.Transit.{by_tgw_table, leave_by}
-use Rattle.vpc_model.specs.Step.Words.{Moment, Next, plain, stop}
-use Rattle.vpc_model.specs.Transit.{leave_subnet, table_of_attachment}
-use Rattle.vpc_model.specs.declared.places.Came.{Came}
-use Rattle.vpc_model.specs.declared.places.EnterBy.{EnterBy}
+use Rattle.vpc_laws.specs.Types.{AttNo, Came, Description, EnterBy, Header, Label, PeerNo, Place, SubnetNo, VpcNo}
+use Rattle.vpc_model.specs.Terms.{Appliances, IsAccepted, Moment, Next, addresses_in, by_pair, by_route, by_tgw_table, chosen_route, enter_host, host_of, is_sound, is_unroutable, leave_by, leave_subnet, owner_of, peering_at, plain, step_at, stop, table_at, table_of, table_of_attachment, to_owner}
 use Rattle.vpc_model.specs.declared.places.Place.TheVariants as places
 use Rattle.vpc_model.specs.declared.stops.Stop.TheVariants as stops
 use Rattle.vpc_model.proofs.Nexts.{plain-either}
 use Rattle.box_steps.proofs.Staying.{Stays, by_pair-stays, by_route-stays, by_tgw_table-stays, enter_host-stays, internet-stays, leave_by-stays}
 use Rattle.box_steps.proofs.Turning.{plain_step, standing_answers}
-use Rattle.box_steps.specs.Cuts.{AtPlace, Standing}
-use Rattle.box_steps.specs.Moments.{IsBoxMoment, IsStepOn, IsTurned, moment_at}
-use Rattle.box_steps.specs.Onward.{onward_of}
-use Rattle.box_steps.specs.declared.moment.BoxMoment.{BoxMoment}
-use Rattle.box_steps.specs.declared.onward.Onward.{Onward}
+use Rattle.box_steps.specs.Terms.{AtPlace, BoxMoment, IsBoxMoment, IsStepOn, IsTurned, Onward, Standing, moment_at, onward_of}
 
 -- ---- moments
 

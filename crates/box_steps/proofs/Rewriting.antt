@@ -1,28 +1,16 @@
 -- Steps that leave what is remembered as it is, with whatever header comes next.
 use Rattle.std.proofs.Common.{◌≡◌, ◌∙◌, List, ap, inl, inr, subst, sym, true, ℕ}
 use Rattle.vpc_base.specs.Cuts.{CutLists}
-use Rattle.vpc_base.specs.declared.headers.Header.{Header}
-use Rattle.vpc_base.specs.declared.headers.Label.{Label}
 use Rattle.vpc_base.specs.declared.headers.Label.TheVariants as labels
 use Rattle.header_boxes.proofs.Held.{holds_low, valid_if_within}
-use Rattle.header_boxes.specs.Boxes.{holds, low_of}
-use Rattle.header_boxes.specs.Cells.{IsAligned}
-use Rattle.header_boxes.specs.declared.boxes.Box5.{Box5}
-use Rattle.box_images.specs.Bodies.{IsBody}
-use Rattle.box_images.specs.Images.{IsImageOfWalk, IsValidImage, KeepsKind}
+use Rattle.header_boxes.specs.Terms.{IsAligned, holds, low_of}
+use Rattle.box_images.specs.Terms.{IsBody, IsImageOfWalk, IsValidImage, KeepsKind}
 use Rattle.box_images.specs.declared.images.Image.{Image}
-use Rattle.vpc_laws.specs.Types.{Description}
-use Rattle.vpc_model.specs.Accepted.{IsAccepted}
-use Rattle.vpc_model.specs.Appliances.{Appliances}
-use Rattle.vpc_model.specs.Lookup.{addresses_in}
-use Rattle.vpc_model.specs.Step.{step_of}
-use Rattle.vpc_model.specs.Step.Words.{Next, Step, plain}
+use Rattle.vpc_laws.specs.Types.{Box5, Description, Header, Label}
+use Rattle.vpc_model.specs.Terms.{Appliances, IsAccepted, Next, Step, addresses_in, plain, step_of}
 use Rattle.box_steps.proofs.Narrowing.{IsKept, connections_at-kept, moment-kept, remembers_more-kept, translations_at-kept}
 use Rattle.box_steps.proofs.Turning.{place-sound}
-use Rattle.box_steps.specs.Cuts.{AtPlace}
-use Rattle.box_steps.specs.Moments.{IsBoxMoment, IsImageOf, IsStepOn, IsStepTo, comes_to, moment_at, next_at}
-use Rattle.box_steps.specs.declared.moment.BoxMoment.{BoxMoment}
-use Rattle.box_steps.specs.declared.onward.Onward.{Onward}
+use Rattle.box_steps.specs.Terms.{AtPlace, BoxMoment, IsBoxMoment, IsImageOf, IsStepOn, IsStepTo, Onward, comes_to, moment_at, next_at}
 
 -- the header of a moment is the image of a walk
 pub walk_of_kind : (label : Label) (addresses : List ℕ) (i : Image) → IsImageOf label addresses i → IsImageOfWalk i

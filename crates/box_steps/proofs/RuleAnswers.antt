@@ -1,23 +1,14 @@
 -- What rules of groups allow, for all headers of an image.
-use Rattle.std.proofs.Common.{◌≡◌, ◌∙◌, ◌<◌, ◌^◌, Bool, Option, ap, true}
-use Rattle.std.specs.Prelude.{is_some}
+use Rattle.std.proofs.Common.{Bool, Option, ap, is_some, true, ◌<◌, ◌^◌, ◌∙◌, ◌≡◌}
 use Rattle.vpc_base.specs.Header.{IsHeader}
 use Rattle.vpc_base.specs.declared.headers.Dir.TheVariants as dirs
-use Rattle.header_boxes.proofs.CellNumbers.{aligned_to_more}
-use Rattle.header_boxes.proofs.Held.{holds_whole}
+use Rattle.header_boxes.proofs.Lemmas.{aligned_to_more, holds_whole}
 use Rattle.box_images.proofs.LawLemmas.{images_fit}
-use Rattle.box_images.specs.Answers.{Answers}
-use Rattle.box_images.specs.Images.{IsValidImage, header_at}
-use Rattle.box_images.specs.declared.images.Image.{Image}
-use Rattle.box_images.specs.declared.images.Part.{Part}
-use Rattle.security_groups.specs.Dividing.{DivideAt, HasRuleCuts}
-use Rattle.security_groups.specs.Index.{GroupLists, HasRulesOf, allowed}
+use Rattle.box_images.specs.Terms.{Answers, IsValidImage, header_at}
+use Rattle.image_tests.specs.Types.{Image, Part}
+use Rattle.security_groups.specs.Terms.{DivideAt, GroupLists, HasRuleCuts, HasRulesOf, allowed}
 use Rattle.vpc_laws.specs.Types.{Description, Dir, EniNo, Header, RuleRef}
-use Rattle.vpc_model.specs.Cuts.{cuts_at}
-use Rattle.vpc_model.specs.Filter.{far_address}
-use Rattle.vpc_model.specs.Groups.{first_rule}
-use Rattle.vpc_model.specs.Lookup.{interface_at}
-use Rattle.vpc_model.specs.Sound.{is_eni}
+use Rattle.vpc_model.specs.Terms.{cuts_at, far_address, first_rule, interface_at, is_eni}
 use Rattle.vpc_model.specs.declared.places.Place.TheVariants as places
 use Rattle.box_steps.specs.Cuts.{AtPlace}
 

@@ -5,25 +5,13 @@ use Rattle.vpc_base.specs.declared.headers.Label.TheVariants as labels
 use Rattle.vpc_laws.proofs.Flow.{header_stays, taken_by}
 use Rattle.vpc_laws.specs.Step.{SendsSame}
 use Rattle.vpc_laws.specs.Types.{AttNo, Box5, Description, EniNo, Header, PeerNo, Place, SubnetNo, VpcNo}
-use Rattle.vpc_model.specs.Appliances.{Appliances, boxes_at, passes}
-use Rattle.vpc_model.specs.Internet.{is_unroutable, owner_of}
-use Rattle.vpc_model.specs.Lookup.{gateway_of, has_address, host_of, interface_at, peering_at, table_at, table_of}
-use Rattle.vpc_model.specs.Routes.{chosen_route}
-use Rattle.vpc_model.specs.Step.Enter.{enter_host}
-use Rattle.vpc_model.specs.Step.Interface.{forwarded, taken_in}
-use Rattle.vpc_model.specs.Step.Internet.{to_owner}
-use Rattle.vpc_model.specs.Step.Peering.{by_pair}
-use Rattle.vpc_model.specs.Step.Router.{by_route}
-use Rattle.vpc_model.specs.Step.Transit.{by_tgw_table, leave_by}
-use Rattle.vpc_model.specs.Step.Words.{Moment, Next, arrive, go, stop}
-use Rattle.vpc_model.specs.Transit.{leave_subnet, table_of_attachment}
+use Rattle.vpc_model.specs.Terms.{Appliances, Moment, Next, arrive, boxes_at, by_pair, by_route, by_tgw_table, chosen_route, enter_host, forwarded, gateway_of, go, has_address, host_of, interface_at, is_unroutable, leave_by, leave_subnet, owner_of, passes, peering_at, stop, table_at, table_of, table_of_attachment, taken_in, to_owner}
 use Rattle.vpc_model.specs.declared.places.Came.TheVariants as from
 use Rattle.vpc_model.specs.declared.places.End.TheVariants as ends
 use Rattle.vpc_model.specs.declared.places.EnterBy.TheVariants as through
 use Rattle.vpc_model.specs.declared.places.Place.TheVariants as places
 use Rattle.vpc_model.specs.declared.stops.Stop.TheVariants as stops
-use Rattle.box_steps.specs.Onward.{onward_of}
-use Rattle.box_steps.specs.declared.onward.Onward.{Onward}
+use Rattle.box_steps.specs.Terms.{Onward, onward_of}
 use Rattle.box_steps.specs.declared.onward.Onward.TheVariants as onwards
 
 -- a packet that goes on has this header

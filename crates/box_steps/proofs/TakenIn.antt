@@ -1,30 +1,21 @@
 -- What becomes of packets that an interface has taken in, for all headers of a body.
-use Rattle.std.proofs.Common.{◌≡◌, ◌∙◌, Bool, None, Option, Some, ap, cond, false, refl, subst, sym, true, ℕ}
-use Rattle.std.specs.Prelude.{slice_get}
+use Rattle.std.proofs.Common.{Bool, None, Option, Some, ap, cond, false, refl, slice_get, subst, sym, true, ℕ, ◌∙◌, ◌≡◌}
 use Rattle.header_boxes.specs.Boxes.{IsValid}
 use Rattle.appliances.proofs.Forwarding.{taken_in-drops, taken_in-none, taken_in-own, taken_in-passes}
 use Rattle.appliances.proofs.Standing.{boxes_are_standing}
 use Rattle.appliances.specs.Passing.{boxes_of, number_of, passes_at}
-use Rattle.box_images.specs.Answers.{Answers}
-use Rattle.box_images.specs.Images.{header_at}
-use Rattle.box_images.specs.declared.images.Image.{Image}
-use Rattle.box_images.specs.declared.images.Part.{Part}
+use Rattle.box_images.specs.Terms.{Answers, header_at}
+use Rattle.image_tests.specs.Types.{Image, Part}
 use Rattle.cut_laws.proofs.Among.{among_through}
 use Rattle.cut_laws.specs.Dividing.{Divide}
 use Rattle.image_tests.proofs.Answering.{answers_all, answers_more}
 use Rattle.vpc_laws.specs.Types.{Description, EniNo, Header}
-use Rattle.vpc_model.specs.Appliances.{Appliances, appliances_of}
-use Rattle.vpc_model.specs.Cuts.{all_cuts, cuts_of_box, on_sides, standing_cuts}
-use Rattle.vpc_model.specs.Lookup.{has_address, interface_at}
-use Rattle.vpc_model.specs.Step.Interface.{taken_in}
-use Rattle.vpc_model.specs.Step.Words.{Next, go, stop}
+use Rattle.vpc_model.specs.Terms.{Appliances, Next, all_cuts, appliances_of, cuts_of_box, go, has_address, interface_at, on_sides, standing_cuts, stop, taken_in}
 use Rattle.vpc_model.specs.declared.places.End.TheVariants as ends
 use Rattle.vpc_model.specs.declared.places.Place.TheVariants as places
 use Rattle.vpc_model.specs.declared.stops.Stop.TheVariants as stops
 use Rattle.box_steps.proofs.Telling.{answers_then, answers_told}
-use Rattle.box_steps.specs.Cuts.{Standing}
-use Rattle.box_steps.specs.Onward.{onward_of}
-use Rattle.box_steps.specs.declared.onward.Onward.{Onward}
+use Rattle.box_steps.specs.Terms.{Onward, Standing, onward_of}
 use Rattle.box_steps.specs.declared.onward.Onward.TheVariants as onwards
 
 -- the number is that of an appliance of the description

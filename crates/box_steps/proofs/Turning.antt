@@ -1,40 +1,20 @@
 -- Steps of all packets of a moment.
-use Rattle.std.proofs.Common.{◌≡◌, ◌∙◌, ap, refl, subst, sym, true}
-use Rattle.std.specs.List.{flat_map}
+use Rattle.std.proofs.Common.{ap, flat_map, refl, subst, sym, true, ◌∙◌, ◌≡◌}
 use Rattle.vpc_base.specs.Cuts.{CutLists, joined_cuts}
-use Rattle.vpc_base.specs.declared.headers.Header.{Header}
-use Rattle.vpc_base.specs.declared.headers.Label.{Label}
 use Rattle.header_boxes.proofs.Held.{holds_low, valid_if_within}
-use Rattle.header_boxes.specs.Boxes.{holds, low_of}
-use Rattle.header_boxes.specs.Cells.{IsAligned}
-use Rattle.header_boxes.specs.declared.boxes.Box5.{Box5}
-use Rattle.box_images.specs.Answers.{Answers}
-use Rattle.box_images.specs.Bodies.{IsBody}
-use Rattle.box_images.specs.Images.{IsValidImage, header_at}
-use Rattle.box_images.specs.declared.images.Image.{Image}
-use Rattle.box_images.specs.declared.images.Part.{Part}
-use Rattle.cut_laws.proofs.Among.{among_through}
-use Rattle.cut_laws.proofs.Rows.{places_have_their_cuts}
-use Rattle.cut_laws.proofs.Places.{addresses_are_standing}
+use Rattle.header_boxes.specs.Terms.{IsAligned, holds, low_of}
+use Rattle.box_images.specs.Terms.{Answers, IsBody, IsValidImage, header_at}
+use Rattle.image_tests.specs.Types.{Image, Part}
+use Rattle.cut_laws.proofs.Lemmas.{addresses_are_standing, among_through, places_have_their_cuts}
 use Rattle.cut_laws.specs.Dividing.{Divide, DivideAddresses}
 use Rattle.image_tests.proofs.Answering.{answers_all}
 use Rattle.vpc_laws.proofs.Sounding.{steps_are_sound}
 use Rattle.vpc_laws.specs.Sound.{LeadsWell}
-use Rattle.vpc_laws.specs.Types.{Description, Place, Stop}
-use Rattle.vpc_model.specs.Accepted.{IsAccepted}
-use Rattle.vpc_model.specs.Appliances.{Appliances}
-use Rattle.vpc_model.specs.Cuts.{address_cuts, cuts_at, cuts_of_blocks, fixed_cuts, on_sides, standing_cuts}
-use Rattle.vpc_model.specs.Lookup.{addresses_in}
-use Rattle.vpc_model.specs.Sound.{is_sound}
-use Rattle.vpc_model.specs.Step.{step_of}
-use Rattle.vpc_model.specs.Step.Words.{Next, Step, go, plain, stop}
+use Rattle.vpc_laws.specs.Types.{Box5, Description, Header, Label, Place, Stop}
+use Rattle.vpc_model.specs.Terms.{Appliances, IsAccepted, Next, Step, address_cuts, addresses_in, cuts_at, cuts_of_blocks, fixed_cuts, go, is_sound, on_sides, plain, standing_cuts, step_of, stop}
 use Rattle.box_steps.proofs.Narrowing.{IsKept, connections_at-kept, moment-kept, moment-over, remembers_more-kept, translations_at-kept}
 use Rattle.box_steps.proofs.Staying.{Stays, next_of_onward, next_onto}
-use Rattle.box_steps.specs.Cuts.{AtPlace, Standing}
-use Rattle.box_steps.specs.Moments.{IsBoxMoment, IsImageOf, IsRewritten, IsStepOn, IsStepTo, IsTurned, comes_to, moment_at, next_at}
-use Rattle.box_steps.specs.Onward.{onward_of}
-use Rattle.box_steps.specs.declared.moment.BoxMoment.{BoxMoment}
-use Rattle.box_steps.specs.declared.onward.Onward.{Onward}
+use Rattle.box_steps.specs.Terms.{AtPlace, BoxMoment, IsBoxMoment, IsImageOf, IsRewritten, IsStepOn, IsStepTo, IsTurned, Onward, Standing, comes_to, moment_at, next_at, onward_of}
 use Rattle.box_steps.specs.declared.onward.Onward.TheVariants as onwards
 
 -- ---- cuts

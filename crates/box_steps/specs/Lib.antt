@@ -5,3 +5,4 @@ pub mod Publics
 pub mod Moments
 pub mod Passing
 pub mod Missing
+pub mod Terms

@@ -1,30 +1,16 @@
 -- Packets at a place, one for each header of a part of the request's box, with what the network remembers of each.
 use Rattle.std.specs.Prelude.{◌≡◌, ◌≤◌, ◌<◌, ◌+◌, ◌⊎◌, ◌==◌, ◌&&◌, ◌∷◌, [], All, Bool, List, false, length, map, true, ℕ}
 use Rattle.std.specs.List.{list_any}
-use Rattle.vpc_base.specs.Cuts.{CutLists}
-use Rattle.vpc_base.specs.Dir.{same_dir}
-use Rattle.vpc_base.specs.declared.headers.Dir.{Dir}
+use Rattle.vpc_base.specs.Terms.{CutLists, same_dir}
 use Rattle.vpc_base.specs.declared.headers.Dir.TheVariants as dirs
-use Rattle.vpc_base.specs.declared.headers.Header.{Header}
-use Rattle.vpc_base.specs.declared.headers.Label.{Label}
 use Rattle.vpc_base.specs.declared.headers.Label.TheVariants as labels
-use Rattle.header_boxes.specs.Boxes.{holds}
-use Rattle.header_boxes.specs.Cells.{IsAligned}
-use Rattle.header_boxes.specs.declared.boxes.Box5.{Box5}
-use Rattle.box_images.specs.Bodies.{IsBody}
-use Rattle.box_images.specs.Images.{IsImageOfAnswer, IsImageOfOpen, IsValidImage, header_at}
-use Rattle.box_images.specs.declared.images.Image.{Image}
-use Rattle.box_images.specs.declared.images.Part.{Part}
+use Rattle.header_boxes.specs.Terms.{IsAligned, holds}
+use Rattle.box_images.specs.Terms.{IsBody, IsImageOfAnswer, IsImageOfOpen, IsValidImage, header_at}
+use Rattle.image_tests.specs.Types.{Image, Part}
 use Rattle.conn_tracking.specs.OnImages.{connections_at}
 use Rattle.conn_tracking.specs.declared.on_images.ImageEntry.{ImageEntry}
-use Rattle.vpc_laws.specs.Types.{Description, End, EniNo, NatNo, Place, Stop}
-use Rattle.vpc_model.specs.Appliances.{Appliances}
-use Rattle.vpc_model.specs.Lookup.{addresses_in}
-use Rattle.vpc_model.specs.Nat.{Translation}
-use Rattle.vpc_model.specs.Sound.{is_sound}
-use Rattle.vpc_model.specs.Step.{step_of}
-use Rattle.vpc_model.specs.Step.Words.{Moment, Next, Step, arrive, go, stop}
-use Rattle.vpc_model.specs.Walk.{same_place}
+use Rattle.vpc_laws.specs.Types.{Box5, Description, Dir, End, EniNo, Header, Label, NatNo, Place, Stop}
+use Rattle.vpc_model.specs.Terms.{Appliances, Moment, Next, Step, Translation, addresses_in, arrive, go, is_sound, same_place, step_of, stop}
 use Rattle.vpc_model.specs.declared.places.Place.TheVariants as places
 use Rattle.box_steps.specs.Cuts.{AtPlace}
 use Rattle.box_steps.specs.declared.moment.BoxMoment.{BoxMoment}

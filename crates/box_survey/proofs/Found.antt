@@ -1,21 +1,12 @@
 -- What a look at a cell adds to what was found.
-use Rattle.std.proofs.Common.{◌≡◌, ℕ, ◌≤◌, ◌<◌, ◌&&◌, ◌⊎◌, true, false, Option, None, Some, List, [], refl, arith, sym, subst, ◌∙◌, length, slice_get, get_or, inl, inr, ⊎_elim}
-use Rattle.std.proofs.lemmas.Bool.{both_ways, cases_lt}
-use Rattle.std.proofs.lemmas.List.{get_or_default}
-use Rattle.std.proofs.lemmas.List.Kept.{AllPairs-from_increasing}
-use Rattle.std.proofs.lemmas.Option.{get_or_from_slice_get}
-use Rattle.std.specs.List.{Any, Contains, list_any}
-use Rattle.std.specs.Option.{IfSome, IsSome, IsSomeAnd, MatchOption, is_some}
+use Rattle.std.proofs.Common.{Any, Contains, IfSome, IsSome, IsSomeAnd, List, MatchOption, None, Option, Some, [], arith, false, get_or, inl, inr, is_some, length, refl, slice_get, subst, sym, true, ℕ, ⊎_elim, ◌&&◌, ◌<◌, ◌∙◌, ◌≡◌, ◌≤◌, ◌⊎◌}
+use Rattle.vpc_base.proofs.Lemmas.{AllPairs-from_increasing, both_ways, cases_lt, get_or_default, get_or_from_slice_get}
+use Rattle.std.specs.List.{list_any}
 use Rattle.vpc_base.specs.Header.{IsBefore}
 use Rattle.vpc_base.specs.declared.headers.Header.{Header}
 use Rattle.header_boxes.specs.declared.boxes.Box5.{Box5}
 use Rattle.header_boxes.specs.Boxes.{holds}
-use Rattle.box_survey.specs.Survey.{HoldsAt, IsFirstIn}
-use Rattle.box_survey.specs.Cells.{AreHalves, AreMeeting, HoldsCell, meets_at}
-use Rattle.box_survey.specs.Findings.{AreThere, IsSurveyed, IsUncovered, OverlapsLater}
-use Rattle.box_survey.specs.Slices.{AreSlices}
-use Rattle.box_survey.specs.declared.sides.Cut.{Cut}
-use Rattle.box_survey.specs.declared.findings.Findings.{Findings}
+use Rattle.box_survey.specs.Terms.{AreHalves, AreMeeting, AreSlices, AreThere, Cut, Findings, HoldsAt, HoldsCell, IsFirstIn, IsSurveyed, IsUncovered, OverlapsLater, meets_at}
 use Rattle.box_survey.proofs.Meeting.{held_if_meets, meets_if_held}
 use Rattle.box_survey.proofs.Numbers.{first-held, first-least}
 use Rattle.box_survey.proofs.Order.{not_before_trans}

@@ -1,22 +1,15 @@
 -- Which of a few boxes share a header.
-use Rattle.std.proofs.Common.{◌≡◌, ◌<◌, ◌≤◌, ◌⊎◌, ◌∷◌, ℕ, Option, None, Some, List, [], true, zero, suc, ◌-◌, ap, drop, take, arith, get_or, inr, length, refl, slice_get, subst, sym, ⊎_elim}
+use Rattle.std.proofs.Common.{Any, Contains, IfSome, IsSomeAnd, List, None, Option, Some, [], ap, arith, drop, get_or, inr, length, refl, slice_get, subst, suc, sym, take, true, zero, ℕ, ⊎_elim, ◌-◌, ◌<◌, ◌∷◌, ◌≡◌, ◌≤◌, ◌⊎◌}
 use native.Mathlib.Numerals.{unary_clauses}
-use Rattle.std.proofs.lemmas.Bool.{cases_lt}
-use Rattle.std.proofs.lemmas.List.{take_all}
-use Rattle.std.proofs.lemmas.List.Folds.{Any-from_list_any, list_any-from_Any}
-use Rattle.std.proofs.lemmas.List.Kept.{AllPairs-from_increasing}
-use Rattle.std.specs.List.{Any, Contains, list_any}
+use Rattle.vpc_base.proofs.Lemmas.{AllPairs-from_increasing, Any-from_list_any, cases_lt, list_any-from_Any, take_all}
+use Rattle.std.specs.List.{list_any}
 use Rattle.std.specs.List.Sorted.{IsStrictlyIncreasing}
-use Rattle.std.specs.Option.{IfSome, IsSomeAnd}
 use Rattle.header_boxes.specs.Boxes.{holds}
 use Rattle.header_boxes.specs.declared.boxes.Box5.{Box5}
 use Rattle.vpc_base.specs.declared.headers.Header.{Header}
 use Rattle.vpc_base.specs.Header.{IsBefore}
-use Rattle.box_survey.specs.Cells.{AreMeeting, meets_at}
-use Rattle.box_survey.specs.Findings.{AreThere, IsCompared, IsUncovered, IsFirstSharing, IsPast, IsSurveyed, OverlapsLater}
+use Rattle.box_survey.specs.Terms.{AreMeeting, AreThere, Findings, HoldsAt, IsCompared, IsFirstSharing, IsPast, IsSurveyed, IsUncovered, OverlapsLater, ShareAt, meets_at}
 use Rattle.box_survey.specs.Findings as findings
-use Rattle.box_survey.specs.Survey.{HoldsAt, ShareAt}
-use Rattle.box_survey.specs.declared.findings.Findings.{Findings}
 use Rattle.box_survey.proofs.Kept.{no_greater_itself, outside_itself}
 use Rattle.box_survey.proofs.Meeting.{held_if_meets, meets_if_held}
 use Rattle.box_survey.proofs.Numbers.{first-least}

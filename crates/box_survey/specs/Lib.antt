@@ -3,3 +3,4 @@ pub mod Cells
 pub mod Cuts
 pub mod Findings
 pub mod Slices
+pub mod Terms

@@ -4,32 +4,19 @@ use Rattle.box_steps.specs.Moments.{moment_at}
 use Rattle.box_steps.specs.declared.moment.BoxMoment.{BoxMoment}
 use Rattle.header_boxes.proofs.BoxLaws.{within_holds}
 use Rattle.header_boxes.specs.Boxes.{holds, low_of}
-use Rattle.vpc_base.specs.Cuts.{AreAmong, CutLists}
-use Rattle.vpc_base.specs.Header.{reply_of}
-use Rattle.vpc_base.specs.declared.headers.Header.{Header}
+use Rattle.vpc_base.specs.Terms.{AreAmong, CutLists, reply_of}
 use Rattle.vpc_base.specs.declared.headers.Label.TheVariants as labels
-use Rattle.vpc_laws.proofs.Same.{ends_are_told_apart}
-use Rattle.vpc_laws.proofs.Telling.{walks_are_sound}
+use Rattle.vpc_laws.proofs.Lemmas.{ends_are_told_apart, walks_are_sound}
 use Rattle.vpc_laws.specs.Sound.{EndsWell}
-use Rattle.vpc_laws.specs.Types.{Description, End, Outcome, Phase, Stop, Verdict}
-use Rattle.vpc_model.specs.Accepted.{IsAccepted}
-use Rattle.vpc_model.specs.Appliances.{Appliances}
-use Rattle.vpc_model.specs.Near.{cuts_of_hops, near_cuts}
-use Rattle.vpc_model.specs.Sound.{is_end, is_sound}
-use Rattle.vpc_model.specs.Verdict.{request_walk, same_end, verdict_of, verdict_of_arrival, verdict_of_request}
-use Rattle.vpc_model.specs.Walk.{Walk, walk_of}
+use Rattle.vpc_laws.specs.Types.{Description, End, Header, Outcome, Phase, Stop, Verdict}
+use Rattle.vpc_model.specs.Terms.{Appliances, IsAccepted, Walk, cuts_of_hops, is_end, is_sound, near_cuts, request_walk, same_end, verdict_of, verdict_of_arrival, verdict_of_request, walk_of}
 use Rattle.vpc_model.specs.declared.outcomes.Outcome.TheVariants as outcomes
 use Rattle.vpc_model.specs.declared.outcomes.Phase.TheVariants as phases
 use Rattle.vpc_model.specs.declared.outcomes.Verdict.TheVariants as verdicts
 use Rattle.vpc_model.specs.declared.stops.Stop.TheVariants as stops
 use Rattle.box_images.proofs.BodyLemmas.{low_in_body}
 use Rattle.box_walk.proofs.Telling.{request_among, request_arrives, request_led}
-use Rattle.box_walk.specs.Asking.{stop_of, whether}
-use Rattle.box_walk.specs.Goal.{goal_unless}
-use Rattle.box_walk.specs.Journeys.{JourneysAreVerdicts, TellsJourney, arrived_at, journey_after, journey_by, journey_of, open_cuts, reached_end, toward}
-use Rattle.box_walk.specs.Told.{AreRequests, DivideArrival, Tells, word_of_arrival}
-use Rattle.box_walk.specs.Walks.{IsWalkOn, IsWalkTo}
-use Rattle.box_walk.specs.declared.journeys.Journey.{Journey}
+use Rattle.box_walk.specs.Terms.{AreRequests, DivideArrival, IsWalkOn, IsWalkTo, Journey, JourneysAreVerdicts, Tells, TellsJourney, arrived_at, goal_unless, journey_after, journey_by, journey_of, open_cuts, reached_end, stop_of, toward, whether, word_of_arrival}
 use Rattle.box_walk.specs.declared.journeys.Journey.TheVariants as journeys
 use Rattle.box_walk.specs.declared.walks.Ending.TheVariants as endings
 

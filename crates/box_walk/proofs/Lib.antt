@@ -1,7 +1,17 @@
+pub mod OneRest
+pub mod Remembering
 pub mod Rests
+pub mod TellingAll
+pub mod TellingReplies
+pub mod TellingArrivals
 pub mod Telling
 pub mod Texts
 pub mod Missed
+pub mod MissedRests
+pub mod MissedRequests
 pub mod JourneyLemmas
 pub mod WayLemmas
+pub mod WayOn
+pub mod WayBack
+pub mod ComingInto
 pub mod ArrivingLemmas

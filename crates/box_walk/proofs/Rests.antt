@@ -1,157 +1,23 @@
--- The rest of a walk by its first step.
-use Rattle.std.proofs.Common.{◌≡◌, ◌∙◌, ◌++◌, ◌+◌, ◌<◌, ◌≤◌, ◌||◌, ◌∷◌, ◌⊎◌, [], Bool, List, ap, arith, false, inl, inr, length, length-append, refl, subst, suc, sym, true, zero, ⊎_elim, ℕ}
-use Rattle.std.proofs.lemmas.Bool.{false_from_ne_true, false≢true}
-use Rattle.std.proofs.lemmas.List.Elements.{Contains-append_left, Contains-push}
-use Rattle.std.proofs.lemmas.List.Folds.{list_any-append}
-use Rattle.std.specs.List.{Contains}
-use Rattle.box_images.proofs.BodyLemmas.{body_through}
-use Rattle.box_images.proofs.ImageLemmas.{valid_over_body}
-use Rattle.box_images.specs.Images.{header_at}
+-- The rest of all walks by its first step.
+use Rattle.std.proofs.Common.{List, [], ap, false, refl, subst, sym, true, ℕ, ◌++◌, ◌+◌, ◌∙◌, ◌∷◌, ◌≡◌}
+use Rattle.box_images.proofs.Lemmas.{body_through, valid_over_body}
+use Rattle.box_walk.specs.Terms.{Ending, IsBoxMoment, IsRestOn, IsStepOn, IsWalkOn, IsWalkTo, connections_at, header_at, image_over, is_among, moment_at, next_at, rest_of, translations_at}
 use Rattle.box_steps.proofs.Narrowing.{kind-over}
-use Rattle.box_steps.specs.Moments.{CanRemember, IsBoxMoment, IsStepOn, RemembersMore, has_conn, has_nat, image_over, moment_at, next_at, remembers, translations_at}
 use Rattle.box_steps.specs.declared.moment.BoxMoment.{BoxMoment}
-use Rattle.box_steps.specs.declared.moment.ImageNat.{ImageNat}
 use Rattle.box_steps.specs.declared.onward.Onward.{Onward}
 use Rattle.box_steps.specs.declared.onward.Onward.TheVariants as onwards
-use Rattle.box_walk.specs.Rests.{IsLeftAt, IsRestOn, is_among, rest_of}
-use Rattle.box_walk.specs.Walks.{BeginsFresh, IsWalkOn, IsWalkTo}
-use Rattle.box_walk.specs.declared.walks.Ending.{Ending}
 use Rattle.box_walk.specs.declared.walks.Ending.TheVariants as endings
-use Rattle.conn_tracking.specs.OnImages.{connections_at}
-use Rattle.conn_tracking.specs.declared.on_images.ImageEntry.{ImageEntry}
-use Rattle.cut_laws.proofs.Among.{among_through, row_among}
-use Rattle.header_boxes.proofs.BoxLaws.{within_holds}
-use Rattle.header_boxes.proofs.CellNumbers.{aligned_through}
-use Rattle.header_boxes.proofs.Held.{holds_low, valid_if_within}
-use Rattle.header_boxes.specs.Boxes.{holds, low_of}
-use Rattle.header_boxes.specs.Cells.{IsAligned}
-use Rattle.header_boxes.specs.declared.boxes.Box5.{Box5}
+use Rattle.cut_laws.proofs.Among.{among_through}
+use Rattle.header_boxes.proofs.Lemmas.{aligned_through, holds_low, valid_if_within, within_holds}
+use Rattle.header_boxes.specs.Terms.{IsAligned, holds, low_of}
 use Rattle.vpc_base.specs.Cuts.{AreAmong, CutLists}
-use Rattle.vpc_base.specs.declared.headers.Dir.TheVariants as dirs
-use Rattle.vpc_base.specs.declared.headers.Header.{Header}
-use Rattle.vpc_base.specs.declared.headers.Label.TheVariants as labels
-use Rattle.vpc_laws.proofs.Walking.{hop_at, places_of-push, walk_on-goes_far, walk_on-goes_on, walk_on-keeps, walk_on-loops}
-use Rattle.vpc_laws.specs.Types.{Description, End, Hop, Label, Place, Stop}
+use Rattle.vpc_laws.proofs.Walking.{hop_at, walk_on-goes_far, walk_on-loops}
+use Rattle.vpc_laws.specs.Types.{Box5, Description, End, Header, Hop, Label, Place, Stop}
 use Rattle.vpc_laws.specs.Walk.{places_of}
-use Rattle.vpc_model.specs.Appliances.{Appliances}
-use Rattle.vpc_model.specs.Connections.{Connection}
-use Rattle.vpc_model.specs.Cuts.{cuts_at}
-use Rattle.vpc_model.specs.Nat.{Translation}
-use Rattle.vpc_model.specs.Near.{cuts_of_hops}
-use Rattle.vpc_model.specs.Step.{step_of}
-use Rattle.vpc_model.specs.Lookup.{addresses_in}
-use Rattle.vpc_model.specs.Step.Words.{Moment, Next, arrive, go}
-use Rattle.vpc_model.specs.Walk.{Walk, is_visited, same_place, walk_of, walk_on}
+use Rattle.vpc_model.specs.Terms.{Appliances, Moment, Walk, addresses_in, arrive, cuts_at, cuts_of_hops, is_visited, walk_of, walk_on}
 use Rattle.vpc_model.specs.declared.outcomes.Outcome.TheVariants as outcomes
-use Rattle.vpc_model.specs.declared.places.Place.TheVariants as places
 use Rattle.vpc_model.specs.declared.stops.Stop.TheVariants as stops
-
--- ---- places of hops
-
-is_among-places_of : (hops : List Hop) (p : Place) → is_among (places_of hops) p ≡ is_visited hops p
-is_among-places_of [] p = refl
-is_among-places_of (x ∷ hops) p = ap (λ (b : Bool). same_place x.place p || b) (is_among-places_of hops p)
-
-pub is_visited-at : (hops : List Hop) (places : List Place) (p : Place) (v : Bool) → places_of hops ≡ places → is_among places p ≡ v → is_visited hops p ≡ v
-is_visited-at hops places p v at e = sym (is_among-places_of hops p) ∙ (ap (λ (ps : List Place). is_among ps p) at ∙ e)
-
--- one more hop
-pub pushed_at : (d : Description) (a : Appliances) (label : Label) (hops : List Hop) (places : List Place) (m : Moment) → places_of hops ≡ places
-    → places_of (hops ++ hop_at d a label m ∷ []) ≡ places ++ m.place ∷ []
-pushed_at d a label hops places m at = places_of-push hops (hop_at d a label m) ∙ ap (λ (ps : List Place). ps ++ m.place ∷ []) at
-
--- ---- the rest of one walk
-
--- the header of the last hop doesn't count where the packet goes on
-walk_on-last : (d : Description) (a : Appliances) (label : Label) (n : ℕ) (hops : List Hop) (h other k : Header) (p : Place) (conns : List Connection) (nats : List Translation)
-    → walk_on d a label n hops h (go p k) conns nats ≡ walk_on d a label n hops other (go p k) conns nats
-walk_on-last d a label zero hops h other k p conns nats = refl
-walk_on-last d a label (suc n) hops h other k p conns nats = refl
-
--- the rest by what its first step leads to
-rest_of-step : (d : Description) (a : Appliances) (label : Label) (left n : ℕ) (hops : List Hop) (m : Moment) (next : Next) (conns : List Connection) (nats : List Translation)
-    → left ≡ n + 1 → is_visited hops m.place ≡ false
-    → (let s = step_of d a label m in s.next ≡ next) → (let s = step_of d a label m in s.conns ≡ conns) → (let s = step_of d a label m in s.nats ≡ nats)
-    → rest_of d a label left hops m ≡ walk_on d a label n (hops ++ hop_at d a label m ∷ []) m.header next conns nats
-rest_of-step d a label left n hops m next conns nats one new next_is conns_are nats_are =
-    let s = step_of d a label m in
-    let longer = hops ++ hop_at d a label m ∷ [] in
-    walk_on-goes_on d a label left n hops m.header m one new
-    ∙ ap (λ (x : Next). walk_on d a label n longer m.header x s.conns s.nats) next_is
-    ∙ ap (λ (c : List Connection). walk_on d a label n longer m.header next c s.nats) conns_are
-    ∙ ap (λ (t : List Translation). walk_on d a label n longer m.header next conns t) nats_are
-
--- the hops so far are among those of the whole walk
-walk_on-hops : (d : Description) (a : Appliances) (label : Label) (n : ℕ) (hops : List Hop) (h : Header) (next : Next) (conns : List Connection) (nats : List Translation) (hop : Hop)
-    → Contains hops hop → let w = walk_on d a label n hops h next conns nats in Contains w.hops hop
-walk_on-hops d a label n hops h next conns nats hop has =
-    (walk_on-keeps d a label (λ x hs cs ts. Contains hs hop) (λ hs m new there. Contains-append_left hs (hop_at d a label m ∷ []) hop there) n hops h next conns nats has).1
-
--- so the cuts of the first place are among those of the rest
-pub first_among : (d : Description) (a : Appliances) (label : Label) (left n : ℕ) (hops : List Hop) (m : Moment) → left ≡ n + 1 → is_visited hops m.place ≡ false
-    → let w = rest_of d a label left hops m in AreAmong (cuts_at d m.place) (cuts_of_hops d w.hops)
-first_among d a label left n hops m one new =
-    let s = step_of d a label m in
-    let hop = hop_at d a label m in
-    let w = walk_on d a label n (hops ++ hop ∷ []) m.header s.next s.conns s.nats in
-    subst (λ (v : Walk). AreAmong (cuts_at d m.place) (cuts_of_hops d v.hops)) (sym (walk_on-goes_on d a label left n hops m.header m one new))
-    (row_among (λ (x : Hop). cuts_at d x.place) w.hops hop (walk_on-hops d a label n (hops ++ hop ∷ []) m.header s.next s.conns s.nats hop (Contains-push hops hop)))
-
--- ---- what is remembered
-
--- the place of the step besides
-left_known : (b c : Bool) → (b ≡ true) ⊎ (c ≡ true) → (b || (c || false)) ≡ true
-left_known true c k = refl
-left_known false true k = refl
-left_known false false k = absurd (⊎_elim (λ e. false≢true e) (λ e. false≢true e) k)
-
--- a step leaves something at its place at most
-pub left_after_step : (label : Label) (places : List Place) (old mid : BoxMoment) → IsLeftAt label places old → RemembersMore old mid → IsLeftAt label (places ++ old.place ∷ []) mid
-left_after_step labels.Opening places old mid was more = record {
-  conns = let few = was.conns in let one = more.conns in let longer = length-append places (old.place ∷ []) in omega (arith, few, one, longer, at_one old.place);
-  nats = let few = was.nats in let one = more.nats in let longer = length-append places (old.place ∷ []) in omega (arith, few, one, longer, at_one old.place);
-  known = λ p has.
-      list_any-append (λ q. same_place q p) places (old.place ∷ [])
-      ∙ left_known (is_among places p) (same_place old.place p) (⊎_elim (λ e. inl (was.known p e)) (λ e. inr e) (more.known p has));
-}
-  where
-    at_one : (p : Place) → length (p ∷ []) ≡ 1
-    at_one p = refl
-left_after_step labels.Answer places old mid was more = tt
-
-nothing_remembered : (m : BoxMoment) (p : Place) → m.conns.items ≡ [] → m.nats.items ≡ [] → remembers m p ≡ false
-nothing_remembered m (places.OutOf i) conns nats = ap (λ (es : List ImageEntry). has_conn es i dirs.Outward) conns
-nothing_remembered m (places.Into i) conns nats = ap (λ (es : List ImageEntry). has_conn es i dirs.Inward) conns
-nothing_remembered m (places.NatOut n) conns nats = ap (λ (ts : List ImageNat). has_nat ts n) nats
-nothing_remembered m (places.Router s came) conns nats = refl
-nothing_remembered m (places.Enter v by) conns nats = refl
-nothing_remembered m (places.IgwOut v) conns nats = refl
-nothing_remembered m places.Internet conns nats = refl
-nothing_remembered m (places.IgwIn v) conns nats = refl
-nothing_remembered m (places.NatIn n) conns nats = refl
-nothing_remembered m (places.Peer x v) conns nats = refl
-nothing_remembered m (places.Tgw a entered) conns nats = refl
-nothing_remembered m (places.TgwLeave a entered) conns nats = refl
-
--- nothing is remembered
-pub left_fresh : (label : Label) (m : BoxMoment) → BeginsFresh label m → IsLeftAt label [] m
-left_fresh labels.Opening m fresh = record {
-  conns = let e : length m.conns.items ≡ 0 = ap length fresh.0 in omega (arith, e);
-  nats = let e : length m.nats.items ≡ 0 = ap length fresh.1 in omega (arith, e);
-  known = λ p has. absurd (false≢true (sym (nothing_remembered m p fresh.0 fresh.1) ∙ has));
-}
-left_fresh labels.Answer m fresh = tt
-
--- what was left at other places leaves room at a new one
-pub has_room : (label : Label) (places : List Place) (left : ℕ) (m : BoxMoment) → IsLeftAt label places m → is_among places m.place ≡ false → 0 < left → length places + left ≤ 64 → CanRemember label m
-has_room labels.Opening places left m was new some few = record {
-  conns = let k = was.conns in omega (arith, k, some, few);
-  nats = let k = was.nats in omega (arith, k, some, few);
-  fresh = false_from_ne_true (remembers m m.place) (λ e. false≢true (sym new ∙ was.known m.place e));
-}
-has_room labels.Answer places left m was new some few = tt
-
--- ---- the rest of all walks
+use Rattle.box_walk.proofs.OneRest.{first_among, is_visited-at, pushed_at, rest_of-step, walk_on-last}
 
 -- an aligned step
 step_aligned : (d : Description) (a : Appliances) (label : Label) (left n : ℕ) (places : List Place) (old mid : BoxMoment) (onward : Onward)

@@ -9,3 +9,4 @@ pub mod Open
 pub mod Goal
 pub mod Ways
 pub mod Arriving
+pub mod Terms

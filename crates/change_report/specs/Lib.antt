@@ -3,3 +3,4 @@ pub mod Told
 pub mod Texts
 pub mod Walked
 pub mod Answered
+pub mod Terms

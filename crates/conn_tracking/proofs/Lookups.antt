@@ -1,23 +1,16 @@
 -- Look-ups among connections.
-use Rattle.std.proofs.Common.{◌≡◌, ◌<◌, ◌+◌, ◌||◌, ◌==◌, ◌&&◌, ℕ, Bool, true, false, List, [], ◌∷◌, ◌++◌, Some, None, cond, refl, sym, ap, ◌∙◌, get_or, length, length-append, take, drop, arith}
+use Rattle.std.proofs.Common.{Bool, List, None, Some, [], ap, arith, cond, drop, false, get_or, is_eq, length, length-append, nat_cmp, refl, sym, take, true, ℕ, ◌&&◌, ◌++◌, ◌+◌, ◌<◌, ◌==◌, ◌||◌, ◌∙◌, ◌∷◌, ◌≡◌}
 use Rattle.std.specs.Cmp.{eq_by_cmp_equiv}
 use Rattle.std.specs.List.{list_any}
-use Rattle.std.specs.Ordering.{bool_cmp, is_eq, nat_cmp, ordering_then}
+use Rattle.std.specs.Ordering.{bool_cmp, ordering_then}
 use Rattle.std.specs.declared.cmp.Ordering.{Ordering}
 use Rattle.std.specs.declared.cmp.Ordering.TheVariants.{Equal, Greater, Less}
-use Rattle.std.proofs.lemmas.Bool.Decides.{nat_tests}
-use Rattle.std.proofs.lemmas.List.{take-append-le}
-use Rattle.std.proofs.lemmas.List.Folds.{list_any_more}
-use Rattle.std.proofs.Math.Bool.{and_comm}
-use Rattle.vpc_base.specs.Dir.{opposite, same_dir}
-use Rattle.vpc_base.specs.Header.{reply_of}
+use Rattle.vpc_base.proofs.Lemmas.{and_comm, eqb-comm, list_any-agree, list_any-take-drop, list_any_more, nat_tests, take-append-le}
+use Rattle.vpc_base.specs.Terms.{opening_of, opposite, reply_of, same_dir}
 use Rattle.vpc_base.specs.declared.headers.Dir.TheVariants.{Inward, Outward}
 use Rattle.vpc_model.specs.declared.numbers.EniNo.{EniNo}
 use Rattle.vpc_model.specs.Types.{Dir, Header}
 use Rattle.vpc_model.specs.Connections.{Connection, is_header, is_tracked, same_connection, same_header}
-use Rattle.vpc_base.specs.Header.{opening_of}
-use Rattle.vpc_base.proofs.Numbers.{eqb-comm}
-use Rattle.vpc_base.proofs.Tests.{list_any-agree, list_any-take-drop}
 use Rattle.conn_tracking.specs.Order.{dir_is_outward, order_by_ports, order_of_connections, order_of_connections_total, order_of_ports}
 use Rattle.conn_tracking.specs.Tracked.{AreFirst}
 

@@ -1,21 +1,15 @@
 -- Connections on images, asked one after the other.
 use Rattle.std.proofs.Common.{◌≡◌, ◌<◌, ◌+◌, ◌==◌, ◌&&◌, ◌||◌, Bool, List, true, false, ap, drop, get_or, length, refl, subst, sym, take, ◌∙◌, ℕ}
 use Rattle.std.specs.List.{list_any}
-use Rattle.std.proofs.lemmas.List.Folds.{list_any_more}
-use Rattle.std.proofs.lemmas.Bool.{or_right}
-use Rattle.vpc_base.specs.Dir.{opposite, same_dir}
-use Rattle.vpc_base.specs.Header.{reply_of}
+use Rattle.vpc_base.proofs.Lemmas.{and-fails_early, list_any-map, list_any-take-drop, list_any_more, or_right}
+use Rattle.vpc_base.specs.Terms.{opposite, reply_of, same_dir}
 use Rattle.vpc_base.specs.declared.headers.Header.{Header}
-use Rattle.vpc_base.proofs.Bools.{and-fails_early}
-use Rattle.vpc_base.proofs.Tests.{list_any-map, list_any-take-drop}
 use Rattle.header_boxes.specs.declared.boxes.Box5.{Box5}
-use Rattle.header_boxes.proofs.CellNumbers.{aligned_to_itself}
-use Rattle.header_boxes.proofs.Held.{holds_whole}
+use Rattle.header_boxes.proofs.Lemmas.{aligned_to_itself, holds_whole}
 use Rattle.box_images.specs.Images.{IsValidImage, header_at}
 use Rattle.box_images.specs.declared.images.Image.{Image}
 use Rattle.box_images.specs.declared.images.Part.{Part}
-use Rattle.box_images.proofs.BodyLemmas.{body_of_itself}
-use Rattle.box_images.proofs.LawLemmas.{answers_follow}
+use Rattle.box_images.proofs.Lemmas.{answers_follow, body_of_itself}
 use Rattle.cut_laws.specs.Dividing.{DivideAddresses}
 use Rattle.vpc_model.specs.Connections.{Connection, is_header, is_tracked}
 use Rattle.vpc_model.specs.Types.{Dir}

@@ -1,24 +1,11 @@
 -- The interfaces that belong to no gateway, and their order.
-use Rattle.std.proofs.Common.{◌≡◌, ◌∙◌, ◌+◌, ◌++◌, ◌<◌, ◌^◌, ◌∷◌, [], Bool, List, bytes_eq, ap, append-nil, arith, cond, false, filter, get_or, is_lt, length, map, subst, sym, true, ℕ, All}
+use Rattle.std.proofs.Common.{All, AllPairs, Bool, IsPermutation, IsSortedByKey, List, [], ap, append-nil, arith, bytes_eq, cond, false, filter, get_or, is_lt, length, map, nat_cmp, subst, sym, true, ℕ, ◌++◌, ◌+◌, ◌<◌, ◌^◌, ◌∙◌, ◌∷◌, ◌≡◌}
 use Rattle.std.specs.Cmp.Lexicographic.{slice_cmp}
-use Rattle.std.specs.List.{AllPairs, IsDistinct, range_with_len}
-use Rattle.std.specs.List.Sorted.{IsPermutation, IsSortedByKey}
-use Rattle.std.specs.Ordering.{nat_cmp}
-use Rattle.std.proofs.lemmas.Bool.{false_from_ne_true, lt-ltb}
-use Rattle.std.proofs.lemmas.Cmp.{nat_list_cmp_total, nat_list_eq_equiv}
-use Rattle.std.proofs.lemmas.List.{get_or_default}
-use Rattle.std.proofs.lemmas.List.Elements.{All-filter}
-use Rattle.std.proofs.lemmas.List.FromFn.{filter_of_map_range_with_len_more, get_or-map-range_with_len, length-map-range_with_len}
-use Rattle.std.proofs.lemmas.List.Kept.{AllPairs-filter}
-use Rattle.std.proofs.lemmas.List.Sorted.{All-permutation, ranks_by, sorted_far}
-use Rattle.std.proofs.lemmas.Map.Keys.{IsDistinct-IsPermutation, IsDistinct-from_apart, apart_from_distinct}
-use Rattle.vpc_base.proofs.Bytes.{comes-before, same_bytes}
-use Rattle.vpc_laws.proofs.Lengths.{accepted_has_short_lists}
-use Rattle.vpc_laws.proofs.Numbering.{accepted_numbers_are_own}
+use Rattle.std.specs.List.{IsDistinct, range_with_len}
+use Rattle.vpc_base.proofs.Lemmas.{All-filter, All-permutation, AllPairs-filter, IsDistinct-IsPermutation, IsDistinct-from_apart, apart_from_distinct, comes-before, false_from_ne_true, filter_of_map_range_with_len_more, get_or-map-range_with_len, get_or_default, length-map-range_with_len, lt-ltb, nat_list_cmp_total, nat_list_eq_equiv, ranks_by, same_bytes, sorted_far}
+use Rattle.vpc_laws.proofs.Lemmas.{accepted_has_short_lists, accepted_numbers_are_own}
 use Rattle.vpc_laws.specs.Types.{Description, EniNo, Interface}
-use Rattle.vpc_model.specs.Accepted.{IsAccepted}
-use Rattle.vpc_model.specs.Lookup.{eni_no, interface_at, no_interface}
-use Rattle.vpc_model.specs.Sound.{is_eni}
+use Rattle.vpc_model.specs.Terms.{IsAccepted, eni_no, interface_at, is_eni, no_interface}
 use Rattle.described_hosts.specs.Hosts.{AreHostsById, ComesBefore, hosts_of, id_of, is_host, numbered}
 
 -- ---- in the order of the description

@@ -1,27 +1,12 @@
 -- What peerings carry, by the lists of the maps.
 use Rattle.std.proofs.Common.{◌≡◌, ◌∙◌, ◌&&◌, ◌<◌, ◌==◌, [], ℕ, Bool, List, None, Option, Some, ap, bytes_eq, cond, false, get_or, inl, inr, length, map, refl, true}
 use Rattle.std.specs.List.{AllZip}
-use Rattle.std.proofs.lemmas.Bool.{cases_Bool, cases_lt, eq-eqb, ltb-true, or_cases, or_left, or_right}
-use Rattle.std.proofs.lemmas.List.{get_or-map, get_or_past}
-use Rattle.vpc_base.proofs.Bytes.{same_bytes}
-use Rattle.vpc_base.proofs.Zips.{zip_at}
-use Rattle.address_sets.specs.declared.sets.Run.{Run}
-use Rattle.number_tables.specs.declared.tables.Entry.{Entry}
-use Rattle.vpc_model.specs.declared.numbers.PeerNo.{PeerNo}
-use Rattle.vpc_model.specs.declared.numbers.VpcNo.{VpcNo}
-use Rattle.vpc_model.specs.declared.rows.Description.{Description}
-use Rattle.vpc_model.specs.declared.rows.Peering.{Peering}
-use Rattle.vpc_model.specs.Accepted.{IsAccepted}
-use Rattle.vpc_model.specs.Lookup.{has_vpc, peering_at, vpc_at, vpc_no}
-use Rattle.vpc_model.specs.Peerings.{has_block, other_side}
-use Rattle.vpc_model.specs.Sound.{is_vpc}
+use Rattle.vpc_base.proofs.Lemmas.{cases_Bool, cases_lt, eq-eqb, get_or-map, get_or_past, ltb-true, or_cases, or_left, or_right, same_bytes, zip_at}
+use Rattle.image_tests.specs.Types.{Entry, Run}
+use Rattle.vpc_laws.specs.Types.{Description, PeerNo, Peering, VpcNo}
+use Rattle.vpc_model.specs.Terms.{IsAccepted, has_block, has_vpc, is_vpc, other_side, peering_at, vpc_at, vpc_no}
 use Rattle.vpc_laws.proofs.Numbering.{accepted_numbers_are_own, ids_are_found}
-use Rattle.edge_gateways.specs.declared.pairs.Owner.{Owner}
-use Rattle.edge_gateways.specs.declared.sides.Sides.{Sides}
-use Rattle.edge_gateways.specs.Carry.{carry_if}
-use Rattle.edge_gateways.specs.Edges.{AreEdgesOf, CanCarry}
-use Rattle.edge_gateways.specs.Pairs.{HasPairsOf}
-use Rattle.edge_gateways.specs.Sides.{HasBlocksOf, HasPeeringsOf, has_address, is_one_of, other_of, sides_if, sides_of}
+use Rattle.edge_gateways.specs.Terms.{AreEdgesOf, CanCarry, HasBlocksOf, HasPairsOf, HasPeeringsOf, Owner, Sides, carry_if, has_address, is_one_of, other_of, sides_if, sides_of}
 use Rattle.reference_check.proofs.VpcIds.{ids_agree}
 
 -- the blocks of a described VPC

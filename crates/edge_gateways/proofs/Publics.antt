@@ -1,27 +1,16 @@
 -- The public addresses of VPCs, found in tables.
-use Rattle.std.proofs.Common.{◌≡◌, ◌∙◌, ◌++◌, ◌<◌, ◌==◌, ◌∷◌, ◌^◌, [], ℕ, All, Bool, Contains, IfSome, List, None, Option, Some, ap, arith, cond, false, find, inl, inr, map, option_map, refl, subst, sym, true}
-use Rattle.std.specs.List.{AllByRecursion, filter, flat_map}
+use Rattle.std.proofs.Common.{All, Bool, Contains, IfSome, List, None, Option, Some, [], ap, arith, cond, false, filter, find, flat_map, inl, inr, map, option_map, refl, subst, sym, true, ℕ, ◌++◌, ◌<◌, ◌==◌, ◌^◌, ◌∙◌, ◌∷◌, ◌≡◌}
+use Rattle.std.specs.List.{AllByRecursion}
 use Rattle.std.specs.Option.{option_or}
-use Rattle.std.proofs.lemmas.Bool.{cases_Bool, cases_eq, eq-eqb, eqb-true, eqb-false, ne_eqb}
-use Rattle.std.proofs.lemmas.List.Elements.{recursion_from_All}
-use Rattle.std.proofs.lemmas.List.Folds.{find-append}
-use Rattle.vpc_base.proofs.Members.{Contains-cases, Contains-none, all_members, find-member, flat_map-member}
-use Rattle.vpc_base.proofs.Options.{option_map-map, option_map-or}
+use Rattle.vpc_base.proofs.Lemmas.{Contains-cases, Contains-none, all_members, cases_Bool, cases_eq, eq-eqb, eqb-false, eqb-true, find-append, find-member, flat_map-member, ne_eqb, option_map-map, option_map-or, recursion_from_All}
 use Rattle.number_tables.specs.Keys.{key_of}
 use Rattle.number_tables.proofs.KeyLemmas.{key_of-other}
 use Rattle.number_tables.specs.Entries.{value_at}
 use Rattle.number_tables.specs.declared.tables.Entry.{Entry}
-use Rattle.vpc_model.specs.declared.numbers.VpcNo.{VpcNo}
-use Rattle.vpc_model.specs.declared.rows.Description.{Description}
-use Rattle.vpc_model.specs.declared.rows.Interface.{Interface}
-use Rattle.vpc_model.specs.Accepted.{IsAccepted}
-use Rattle.vpc_model.specs.Internet.{owned_by, pairs_of, private_of}
-use Rattle.vpc_model.specs.Lookup.{is_in_vpc, vpc_no, vpc_of_interface}
-use Rattle.vpc_model.specs.Sound.{is_vpc}
+use Rattle.vpc_laws.specs.Types.{Description, Interface, VpcNo}
+use Rattle.vpc_model.specs.Terms.{IsAccepted, is_in_vpc, is_vpc, owned_by, pairs_of, private_of, vpc_no, vpc_of_interface}
 use Rattle.vpc_laws.proofs.Numbering.{ids_are_found}
-use Rattle.edge_gateways.specs.declared.pairs.Owner.{Owner}
-use Rattle.edge_gateways.specs.declared.pairs.Pair.{Pair}
-use Rattle.edge_gateways.specs.Pairs.{HasPairsOf, all_pairs, in_vpc, owner_entry, pairs_with, public_entry}
+use Rattle.edge_gateways.specs.Terms.{HasPairsOf, Owner, Pair, all_pairs, in_vpc, owner_entry, pairs_with, public_entry}
 use Rattle.reference_check.proofs.VpcIds.{ids_agree, vpc_described}
 
 -- ---- searches

@@ -1,30 +1,14 @@
 -- The standing cuts of a description, and its edges.
-use Rattle.std.proofs.Common.{◌≡◌, ◌∙◌, ◌+◌, ◌==◌, ◌∷◌, [], ℕ, Bool, Contains, List, None, Option, Some, ap, arith, cond, find, is_some, not, option_map, refl, subst, suc, sym, true, false, zero}
-use Rattle.std.specs.List.{flat_map}
-use Rattle.std.specs.Prelude.{filter}
-use Rattle.std.proofs.lemmas.Bool.{eqb-true}
-use Rattle.std.proofs.lemmas.List.Elements.{Contains-append_left, Contains-append_right}
+use Rattle.std.proofs.Common.{Bool, Contains, List, None, Option, Some, [], ap, arith, cond, false, filter, find, flat_map, is_some, not, option_map, refl, subst, suc, sym, true, zero, ℕ, ◌+◌, ◌==◌, ◌∙◌, ◌∷◌, ◌≡◌}
+use Rattle.vpc_base.proofs.Lemmas.{Contains-append_left, Contains-append_right, eqb-true, filter-member, filter_map-member, find-member, flat_map-member, map-member, row-member}
 use Rattle.vpc_base.specs.Cuts.{CutLists}
-use Rattle.vpc_base.proofs.Members.{filter-member, filter_map-member, find-member, flat_map-member, map-member, row-member}
-use Rattle.cut_laws.proofs.Among.{among_through, on_sides_among}
-use Rattle.cut_laws.proofs.Rows.{interfaces_are_standing, vpcs_are_standing}
+use Rattle.cut_laws.proofs.Lemmas.{among_through, blocks-divide, interfaces_are_standing, on_sides_among, vpcs_are_standing}
 use Rattle.cut_laws.specs.Dividing.{Divide, DivideTurns}
 use Rattle.vpc_laws.proofs.Numbering.{ids_are_found}
-use Rattle.vpc_model.specs.Cuts.{address_cuts, cuts_of_blocks, cuts_of_interface, cuts_of_vpc, on_sides, pair_cuts, standing_cuts}
-use Rattle.vpc_model.specs.Internet.{owned_by, owner_of, pair_of, pairs_in, pairs_of, public_of}
-use Rattle.vpc_model.specs.Lookup.{is_in_vpc, vpc_at, vpc_no, vpc_of_interface}
-use Rattle.vpc_model.specs.Peerings.{has_block}
-use Rattle.vpc_model.specs.Sound.{is_vpc}
-use Rattle.vpc_model.specs.declared.numbers.VpcNo.{VpcNo}
-use Rattle.vpc_model.specs.declared.rows.Description.{Description}
-use Rattle.vpc_model.specs.declared.rows.Interface.{Interface}
-use Rattle.edge_gateways.specs.Edges.{AreEdgesOf, EdgeLists}
-use Rattle.edge_gateways.specs.Laws.{OwnersAreCutOut, PublicsAreCutOut, SidesAreDivided}
-use Rattle.edge_gateways.specs.Pairs.{owner_at}
-use Rattle.edge_gateways.specs.Sides.{has_address, other_of}
-use Rattle.edge_gateways.specs.declared.sides.Sides.{Sides}
+use Rattle.vpc_model.specs.Terms.{address_cuts, cuts_of_blocks, cuts_of_interface, cuts_of_vpc, has_block, is_in_vpc, is_vpc, on_sides, owned_by, owner_of, pair_cuts, pair_of, pairs_in, pairs_of, public_of, standing_cuts, vpc_at, vpc_no, vpc_of_interface}
+use Rattle.vpc_laws.specs.Types.{Description, Interface, VpcNo}
+use Rattle.edge_gateways.specs.Terms.{AreEdgesOf, EdgeLists, OwnersAreCutOut, PublicsAreCutOut, Sides, SidesAreDivided, has_address, other_of, owner_at}
 use Rattle.edge_gateways.proofs.Carrying.{has_address-is, numbers_of, sides-at}
-use Rattle.cut_laws.proofs.Turning.{blocks-divide}
 
 -- ---- the addresses of interfaces
 

@@ -4,3 +4,4 @@ pub mod Carry
 pub mod Edges
 pub mod OnImages
 pub mod Laws
+pub mod Terms

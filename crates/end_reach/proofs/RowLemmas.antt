@@ -1,26 +1,16 @@
 -- The rows of one start: the ends that they reach are described.
 use Rattle.std.proofs.Common.{◌≡◌, [], All, Bool, IfSome, List, None, Option, Some, cond, false, get_or, subst, sym, true, ℕ}
 use Rattle.box_gather.specs.Over.{AreRowsOver, IsPartOf}
-use Rattle.box_walk.specs.Journeys.{journey_after, journey_by, reached_end, reached_of}
-use Rattle.box_walk.specs.Open.{Starting}
-use Rattle.box_walk.specs.Asking.{Asking}
+use Rattle.box_walk.specs.Terms.{Asking, Starting, journey_after, journey_by, reached_end, reached_of}
 use Rattle.header_boxes.proofs.Held.{holds_low, valid_if_within}
 use Rattle.header_boxes.specs.Boxes.{low_of}
-use Rattle.header_boxes.specs.declared.boxes.Box5.{Box5}
-use Rattle.header_boxes.specs.declared.rows.Row.{Row}
 use Rattle.ordered_cover.specs.declared.rows.Gathered.{Gathered}
 use Rattle.vpc_base.specs.Header.{reply_of}
 use Rattle.vpc_base.specs.declared.headers.Label.TheVariants as labels
 use Rattle.vpc_laws.proofs.Telling.{start-sound, walks_are_sound}
 use Rattle.vpc_laws.specs.Sound.{EndsWell}
-use Rattle.vpc_laws.specs.Types.{Description, End, Header, Outcome, Verdict}
-use Rattle.vpc_model.specs.Accepted.{IsAccepted}
-use Rattle.vpc_model.specs.Appliances.{Appliances}
-use Rattle.vpc_model.specs.Cuts.{cuts_of}
-use Rattle.vpc_model.specs.Place.{start_of}
-use Rattle.vpc_model.specs.Sound.{is_end}
-use Rattle.vpc_model.specs.Verdict.{request_walk, same_end, verdict_of, verdict_of_arrival}
-use Rattle.vpc_model.specs.Walk.{Walk}
+use Rattle.vpc_laws.specs.Types.{Box5, Description, End, Header, Outcome, Row, Verdict}
+use Rattle.vpc_model.specs.Terms.{Appliances, IsAccepted, Walk, cuts_of, is_end, request_walk, same_end, start_of, verdict_of, verdict_of_arrival}
 use Rattle.vpc_model.specs.declared.outcomes.Outcome.TheVariants as outcomes
 use Rattle.vpc_model.specs.declared.outcomes.Phase.TheVariants as phases
 use Rattle.vpc_model.specs.declared.outcomes.Verdict.TheVariants as verdicts

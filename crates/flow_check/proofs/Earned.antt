@@ -1,26 +1,14 @@
 -- What the network remembers passed by rules.
-use Rattle.std.proofs.Common.{◌≡◌, ◌++◌, ◌∷◌, [], List, None, Option, Some, ap, inl, inr, map, refl, subst, sym}
-use Rattle.std.specs.List.{Contains, list_any, zip}
-use Rattle.std.proofs.lemmas.Bool.{cond_both}
-use Rattle.std.proofs.lemmas.List.Elements.{Contains-push_cases}
+use Rattle.std.proofs.Common.{Contains, List, None, Option, Some, [], ap, inl, inr, map, refl, subst, sym, zip, ◌++◌, ◌∷◌, ◌≡◌}
+use Rattle.std.specs.List.{list_any}
+use Rattle.vpc_base.proofs.Lemmas.{Contains-none, Contains-push_cases, cond_both}
 use Rattle.replay_laws.specs.Interleaved.{Comes}
 use Rattle.replay_laws.proofs.Moments.{cons-tail, cons-head, nil≢middle}
 use Rattle.vpc_base.specs.declared.headers.Label.TheVariants.{Answer, Opening}
-use Rattle.vpc_base.proofs.Members.{Contains-none}
-use Rattle.vpc_laws.specs.Step.{AsksGroups, own_connection, remembered}
+use Rattle.vpc_laws.specs.Terms.{AsksGroups, Follows, hop_of, last_moment, own_connection, remembered}
 use Rattle.vpc_laws.specs.Types.{By, Description, Event, Hop, Label, RuleRef}
-use Rattle.vpc_laws.specs.Walk.{Follows, hop_of, last_moment}
-use Rattle.vpc_laws.proofs.Passing.{packets_pass_by_groups, rules_are_remembered}
-use Rattle.vpc_laws.proofs.Stepping.{walks_are_of_steps}
-use Rattle.vpc_model.specs.Appliances.{Appliances}
-use Rattle.vpc_model.specs.Connections.{Connection, added, same_connection}
-use Rattle.vpc_model.specs.Groups.{first_rule}
-use Rattle.vpc_model.specs.Lookup.{interface_at}
-use Rattle.vpc_model.specs.Nat.{Translation}
-use Rattle.vpc_model.specs.Replay.{moment_of, walks_after}
-use Rattle.vpc_model.specs.Step.{step_of}
-use Rattle.vpc_model.specs.Step.Words.{Moment, go}
-use Rattle.vpc_model.specs.Walk.{Walk, walk_of}
+use Rattle.vpc_laws.proofs.Lemmas.{packets_pass_by_groups, rules_are_remembered, walks_are_of_steps}
+use Rattle.vpc_model.specs.Terms.{Appliances, Connection, Moment, Translation, Walk, added, first_rule, go, interface_at, moment_of, same_connection, step_of, walk_of, walks_after}
 use Rattle.vpc_model.specs.declared.outcomes.By.TheVariants.{NoGroups, Nothing, Rule, Tracked}
 
 -- a rule of the interface's groups let the connection's first packet pass

@@ -1,3 +1,5 @@
+pub mod AgreeingSteps
+pub mod AgreeingWalks
 pub mod Agreeing
 pub mod Cuts
 pub mod Decided

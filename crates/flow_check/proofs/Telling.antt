@@ -1,36 +1,16 @@
 -- What differs can be told.
-use Rattle.std.proofs.Common.{◌≡◌, ◌∷◌, ◌||◌, [], All, Bool, IfSome, List, None, Ok, Option, Some, is_some, not, option_map, refl, subst, true, ℕ}
-use Rattle.std.specs.List.{AllByRecursion, cons_option, filter_map}
-use Rattle.std.proofs.lemmas.Bool.{cond_both}
-use Rattle.std.proofs.lemmas.List.Elements.{All-from_recursion}
+use Rattle.std.proofs.Common.{All, Bool, IfSome, List, None, Ok, Option, Some, [], filter_map, is_some, not, option_map, refl, subst, true, ℕ, ◌||◌, ◌∷◌, ◌≡◌}
+use Rattle.std.specs.List.{AllByRecursion, cons_option}
+use Rattle.vpc_base.proofs.Lemmas.{All-from_recursion, cond_both}
 use Rattle.vpc_base.specs.declared.headers.Dir.TheVariants as dirs
-use Rattle.vpc_laws.proofs.Numbering.{accepted_numbers_are_in_range, ids_are_found}
-use Rattle.vpc_laws.proofs.Sounding.{IfFound, first_rule-found}
+use Rattle.vpc_laws.proofs.Lemmas.{IfFound, accepted_numbers_are_in_range, first_rule-found, ids_are_found}
 use Rattle.vpc_laws.specs.Types.{By, Description, Dir, EniNo, Header, RuleRef, Stop}
-use Rattle.vpc_model.specs.Accepted.{IsAccepted}
-use Rattle.vpc_model.specs.Acls.{acl_verdict}
-use Rattle.vpc_model.specs.Choice.{or_else}
-use Rattle.vpc_model.specs.Filter.{far_address}
-use Rattle.vpc_model.specs.Groups.{first_rule}
-use Rattle.vpc_model.specs.Lookup.{acl_at, acl_of, eni_no, has_interface, interface_at, subnet_of}
-use Rattle.vpc_model.specs.Sound.{has_rule, has_text, is_acl, is_eni, is_rule}
-use Rattle.vpc_model.specs.Step.Crossing.{is_gateway}
+use Rattle.vpc_model.specs.Terms.{IsAccepted, acl_at, acl_of, acl_verdict, eni_no, far_address, first_rule, has_interface, has_rule, has_text, interface_at, is_acl, is_eni, is_gateway, is_rule, or_else, subnet_of}
 use Rattle.vpc_model.specs.declared.outcomes.By.TheVariants as bys
 use Rattle.vpc_model.specs.declared.stops.Stop.TheVariants as stops
-use Rattle.flow_check.specs.Flows.{FlowList, bad_line, differing, flows_of, sorted_lines, told_of, told_unless}
-use Rattle.flow_check.specs.Lines.{numbered_lines}
-use Rattle.flow_check.specs.Records.{has_ports, record_of}
-use Rattle.flow_check.specs.Rules.{acl_stop, border_stop, by_groups, connection_stop, direction_of, groups_pass, groups_stop, is_neighbour, met_first, other_way_passes}
-use Rattle.flow_check.specs.Sorts.{accepted_by, header_of, judged_at, refused_by, rejected_by, sort_at, sort_between, sort_of, sort_towards}
-use Rattle.flow_check.specs.Told.{is_told}
-use Rattle.flow_check.specs.declared.kinds.FlowLine.{FlowLine}
-use Rattle.flow_check.specs.declared.records.Action.{Action}
+use Rattle.flow_check.specs.Terms.{Action, Flow, FlowLine, FlowList, Ports, Record, Sort, accepted_by, acl_stop, bad_line, border_stop, by_groups, connection_stop, differing, direction_of, flows_of, groups_pass, groups_stop, has_ports, header_of, is_neighbour, is_told, judged_at, met_first, numbered_lines, other_way_passes, record_of, refused_by, rejected_by, sort_at, sort_between, sort_of, sort_towards, sorted_lines, told_of, told_unless}
 use Rattle.flow_check.specs.declared.records.Action.TheVariants as actions
-use Rattle.flow_check.specs.declared.records.Flow.{Flow}
-use Rattle.flow_check.specs.declared.records.Ports.{Ports}
-use Rattle.flow_check.specs.declared.records.Record.{Record}
 use Rattle.flow_check.specs.declared.records.Record.TheVariants as records
-use Rattle.flow_check.specs.declared.sorts.Sort.{Sort}
 use Rattle.flow_check.specs.declared.sorts.Sort.TheVariants as sorts
 
 -- a stop that has a text, a rule that is there

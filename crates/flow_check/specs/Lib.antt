@@ -10,3 +10,4 @@ pub mod Steps
 pub mod Texts
 pub mod Told
 pub mod Walked
+pub mod Terms

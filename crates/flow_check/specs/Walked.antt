@@ -3,14 +3,7 @@ use Rattle.std.specs.Prelude.{◌==◌, ◌++◌, ◌∷◌, ◌≡◌, ◌≢�
 use Rattle.replay_laws.specs.Interleaved.{Comes}
 use Rattle.vpc_base.specs.declared.headers.Dir.TheVariants as dirs
 use Rattle.vpc_laws.specs.Types.{Description, Dir, EniNo, Event, Header, Hop, NatNo, Place, Stop, SubnetNo}
-use Rattle.vpc_model.specs.Accepted.{IsAccepted}
-use Rattle.vpc_model.specs.Appliances.{Appliances}
-use Rattle.vpc_model.specs.Filter.{far_address}
-use Rattle.vpc_model.specs.Lookup.{acl_of, interface_at, nat_at, subnet_no, subnet_of}
-use Rattle.vpc_model.specs.Sound.{is_eni}
-use Rattle.vpc_model.specs.Step.Crossing.{is_gateway}
-use Rattle.vpc_model.specs.Step.Nat.{own_subnet}
-use Rattle.vpc_model.specs.Walk.{Walk}
+use Rattle.vpc_model.specs.Terms.{Appliances, IsAccepted, Walk, acl_of, far_address, interface_at, is_eni, is_gateway, nat_at, own_subnet, subnet_no, subnet_of}
 use Rattle.vpc_model.specs.declared.outcomes.By.TheVariants as bys
 use Rattle.vpc_model.specs.declared.outcomes.Outcome.TheVariants as outcomes
 use Rattle.vpc_model.specs.declared.places.Place.TheVariants as places

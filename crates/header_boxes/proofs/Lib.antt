@@ -8,3 +8,4 @@ pub mod Pieces
 pub mod CellNumbers
 pub mod BoxLaws
 pub mod Codes
+pub mod Lemmas

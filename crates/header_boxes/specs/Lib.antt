@@ -4,3 +4,4 @@ pub mod Rest
 pub mod Minus
 pub mod Laws
 pub mod Rows
+pub mod Terms

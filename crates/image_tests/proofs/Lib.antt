@@ -5,3 +5,4 @@ pub mod Trying
 pub mod KeyStretches
 pub mod Stretches
 pub mod PieceLemmas
+pub mod Lemmas

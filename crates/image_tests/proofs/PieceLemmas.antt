@@ -1,29 +1,17 @@
 -- Bodies on which pieces tell one value of the destination.
-use Rattle.std.proofs.Common.{◌≡◌, ℕ, ◌≤◌, ◌<◌, ◌+◌, ◌-◌, ◌^◌, ◌⊎◌, ◌∷◌, [], List, Option, Bool, true, refl, sym, subst, ◌∙◌, arith, inl, inr, ⊎_elim}
-use Rattle.std.proofs.lemmas.Bool.Decides.{nat_tests}
-use Rattle.std.proofs.lemmas.List.Elements.{All-cons, All-contains, All-nil}
-use Rattle.std.specs.List.{Contains}
-use Rattle.std.specs.Prelude.{nat_le}
+use Rattle.std.proofs.Common.{Bool, Contains, List, Option, [], arith, inl, inr, nat_le, refl, subst, sym, true, ℕ, ⊎_elim, ◌+◌, ◌-◌, ◌<◌, ◌^◌, ◌∙◌, ◌∷◌, ◌≡◌, ◌≤◌, ◌⊎◌}
+use Rattle.vpc_base.proofs.Lemmas.{All-cons, All-contains, All-nil, Contains-filter, nat_tests}
 use Rattle.vpc_base.specs.Cuts.{CutLists}
 use Rattle.vpc_base.specs.declared.headers.Header.{Header}
-use Rattle.vpc_base.proofs.Members.{Contains-filter}
-use Rattle.header_boxes.specs.Boxes.{holds, in_range, low_of}
-use Rattle.header_boxes.specs.Cells.{IsAligned}
-use Rattle.header_boxes.specs.declared.boxes.Box5.{Box5}
+use Rattle.header_boxes.specs.Terms.{IsAligned, holds, in_range, low_of}
+use Rattle.image_tests.specs.Types.{Box5, Field, Image, Part}
 use Rattle.header_boxes.proofs.Held.{holds_low, valid_if_within}
 use Rattle.piece_table.specs.Pieces.{ArePieces, PieceLists, first_at, last_at, told_at}
 use Rattle.piece_table.proofs.PieceLemmas.{found_is_aligned, told_at-found}
-use Rattle.box_images.specs.Answers.{Answers}
-use Rattle.box_images.specs.Bodies.{EndsAtEdges, IsBody, IsCutInside, range_edges}
-use Rattle.box_images.specs.Fields.{greatest_of, value_of}
-use Rattle.box_images.specs.Images.{IsImageOfWalk, IsValidImage}
-use Rattle.box_images.specs.declared.fields.Field.{Field}
+use Rattle.box_images.specs.Terms.{Answers, EndsAtEdges, IsBody, IsCutInside, IsImageOfWalk, IsValidImage, greatest_of, range_edges, value_of}
 use Rattle.box_images.specs.declared.fields.Field.TheVariants.{Fixed, Of}
 use Rattle.box_images.specs.declared.fields.Side.TheVariants.{Proto, Src, Dst, P, Q}
-use Rattle.box_images.specs.declared.images.Image.{Image}
-use Rattle.box_images.specs.declared.images.Part.{Part}
-use Rattle.box_images.proofs.LawLemmas.{bodies_are_aligned}
-use Rattle.box_images.proofs.TranslateLemmas.{range_of_value}
+use Rattle.box_images.proofs.Lemmas.{bodies_are_aligned, range_of_value}
 use Rattle.cut_laws.specs.Dividing.{Divide, DivideFirsts}
 use Rattle.vpc_model.specs.Cuts.{on_sides}
 use Rattle.image_tests.proofs.Fields.{ReadsAddress, address_field}

@@ -1,31 +1,19 @@
 -- Bodies that end where a stretch of addresses does, and the answers for them.
-use Rattle.std.proofs.Common.{◌≡◌, ℕ, ◌≤◌, ◌<◌, ◌+◌, ◌⊎◌, ◌∷◌, ◌∙◌, [], Bool, List, Option, is_some, map, not, true, ap, sym, subst, arith, inl, inr, refl}
-use Rattle.std.specs.List.{Contains}
-use Rattle.std.proofs.lemmas.Bool.Decides.{nat_tests}
-use Rattle.std.proofs.lemmas.List.Elements.{All-cons, All-nil}
+use Rattle.std.proofs.Common.{Bool, Contains, List, Option, [], ap, arith, inl, inr, is_some, map, not, refl, subst, sym, true, ℕ, ◌+◌, ◌<◌, ◌∙◌, ◌∷◌, ◌≡◌, ◌≤◌, ◌⊎◌}
+use Rattle.vpc_base.proofs.Lemmas.{All-cons, All-nil, nat_tests}
 use Rattle.vpc_base.specs.Cuts.{CutLists}
 use Rattle.vpc_base.specs.declared.headers.Header.{Header}
 use Rattle.header_boxes.proofs.Held.{holds_low, valid_if_within}
 use Rattle.header_boxes.specs.Boxes.{holds, in_range, low_of}
-use Rattle.header_boxes.specs.declared.boxes.Box5.{Box5}
+use Rattle.image_tests.specs.Types.{Box5, Entry, Field, Image, Part, Run, Side}
 use Rattle.address_sets.specs.Runs.{IsStretch, is_in}
-use Rattle.address_sets.specs.declared.sets.Run.{Run}
-use Rattle.box_images.proofs.LawLemmas.{bodies_are_aligned, cuts_are_inside, value_of-le-greatest_of}
-use Rattle.box_images.proofs.SideLemmas.{number_in_side}
-use Rattle.box_images.specs.Answers.{Answers}
-use Rattle.box_images.specs.Bodies.{EndsAtEdges, IsBody, IsCut, IsCutInside, range_edges}
-use Rattle.box_images.specs.Fields.{greatest_of, number_of, side_of, value_of}
-use Rattle.box_images.specs.Images.{IsImageOfWalk, IsValidImage, field_of, header_at}
-use Rattle.box_images.specs.declared.fields.Field.{Field}
+use Rattle.box_images.proofs.Lemmas.{bodies_are_aligned, cuts_are_inside, number_in_side, value_of-le-greatest_of}
+use Rattle.box_images.specs.Terms.{Answers, EndsAtEdges, IsBody, IsCut, IsCutInside, IsImageOfWalk, IsValidImage, field_of, greatest_of, header_at, number_of, range_edges, side_of, value_of}
 use Rattle.box_images.specs.declared.fields.Field.TheVariants.{Fixed, Of}
-use Rattle.box_images.specs.declared.fields.Side.{Side}
 use Rattle.box_images.specs.declared.fields.Side.TheVariants.{Proto, Src, Dst, P, Q}
-use Rattle.box_images.specs.declared.images.Image.{Image}
-use Rattle.box_images.specs.declared.images.Part.{Part}
 use Rattle.cut_laws.specs.Dividing.{CutOut, DivideTurns}
 use Rattle.number_tables.specs.Entries.{value_at}
 use Rattle.number_tables.specs.Keys.{key_of}
-use Rattle.number_tables.specs.declared.tables.Entry.{Entry}
 use Rattle.image_tests.proofs.Fields.{address_field, address_is_cut, greatest_address}
 use Rattle.image_tests.proofs.KeyStretches.{is_some-value_at, stretch-cut, value-in}
 use Rattle.image_tests.specs.Keys.{EndsBy, IsKeyStretch, has_key, low_on}

@@ -5,28 +5,17 @@ use Rattle.box_walk.specs.declared.journeys.Journey.{Journey}
 use Rattle.box_walk.specs.declared.journeys.Journey.TheVariants as journeys
 use Rattle.box_walk.proofs.JourneyLemmas.{same-itself}
 use Rattle.vpc_base.specs.Header.{reply_of}
-use Rattle.vpc_base.specs.declared.headers.Header.{Header}
 use Rattle.vpc_base.specs.declared.headers.Label.TheVariants as labels
 use Rattle.vpc_laws.proofs.Telling.{start-sound, verdicts_are_told, walks_are_sound}
 use Rattle.vpc_laws.specs.Sound.{EndsWell, IsTold}
-use Rattle.vpc_laws.specs.Types.{Description, End, Outcome, Verdict}
-use Rattle.vpc_model.specs.Accepted.{IsAccepted}
-use Rattle.vpc_model.specs.Appliances.{Appliances, appliances_of}
-use Rattle.vpc_model.specs.Place.{start_of}
-use Rattle.vpc_model.specs.Sound.{has_text, is_end}
-use Rattle.vpc_model.specs.Verdict.{request_walk, same_end, verdict_of, verdict_of_arrival, verdict_of_request}
-use Rattle.vpc_model.specs.Walk.{Walk}
+use Rattle.vpc_laws.specs.Types.{Description, End, Header, Outcome, Verdict}
+use Rattle.vpc_model.specs.Terms.{Appliances, IsAccepted, Walk, appliances_of, has_text, is_end, request_walk, same_end, start_of, verdict_of, verdict_of_arrival, verdict_of_request}
 use Rattle.vpc_model.specs.declared.outcomes.Outcome.TheVariants as outcomes
 use Rattle.vpc_model.specs.declared.outcomes.Phase.TheVariants as phases
 use Rattle.vpc_model.specs.declared.outcomes.Verdict.TheVariants as verdicts
 use Rattle.vpc_model.specs.declared.stops.Stop.TheVariants as stops
-use Rattle.journey_changes.specs.Changes.{change_by, have_one_id}
-use Rattle.journey_changes.specs.Fates.{Fate, fate_by, fate_from, fate_of, missing_by}
-use Rattle.journey_changes.specs.Sent.{IsToward, fate}
-use Rattle.journey_changes.specs.Telling.{CanBeTold, ChangesAreTellable, IsTellable}
-use Rattle.journey_changes.specs.declared.changes.Change.{Change}
+use Rattle.journey_changes.specs.Terms.{CanBeTold, Change, ChangesAreTellable, Fate, IsTellable, IsToward, Toward, change_by, fate, fate_by, fate_from, fate_of, have_one_id, missing_by}
 use Rattle.journey_changes.specs.declared.changes.Change.TheVariants as changes
-use Rattle.journey_changes.specs.declared.fates.Toward.{Toward}
 use Rattle.journey_changes.specs.declared.fates.Toward.TheVariants as towards
 
 -- ---- journeys

@@ -6,3 +6,4 @@ pub mod Joined
 pub mod Telling
 pub mod Laws
 pub mod Alike
+pub mod Terms

@@ -1,7 +1,6 @@
 -- What is answered to a listing is decided by its rows, and tells of no device.
 use Rattle.std.proofs.Common.{◌≡◌, ◌∙◌, ◌↔◌, Bool, Err, List, Ok, ap, arith, length, refl, subst, sym, ℕ}
-use Rattle.std.proofs.lemmas.List.{length-map}
-use Rattle.std.proofs.lemmas.Option.{slice_get_within}
+use Rattle.vpc_base.proofs.Lemmas.{length-map, slice_get_within}
 use Rattle.command_job.proofs.Devices.{no_device, no_is_none, query_is_none, yes_is_none}
 use Rattle.command_job.specs.Status.{IsOfDevice}
 use Rattle.command_job.specs.declared.status.Status.{Status}
@@ -13,12 +12,8 @@ use Rattle.report_check.specs.Certified.{IsFaultTold}
 use Rattle.report_reader.specs.Reports.{IsRead}
 use Rattle.report_reader.specs.declared.report.ReportFault.{ReportFault}
 use Rattle.report_reader.specs.declared.report.ReportFault.TheVariants as faults
-use Rattle.listing_check.specs.Answered.{IsListingChecked, IsVerdict, found_status, origins_of}
+use Rattle.listing_check.specs.Terms.{Asked, Found, IsFound, IsListingChecked, IsTrueListing, IsVerdict, NamesStart, found_status, listed_of, origins_of}
 use Rattle.listing_check.specs.Answered as answers
-use Rattle.listing_check.specs.Asked.{Asked, IsTrueListing, listed_of}
-use Rattle.listing_check.specs.Found.{IsFound}
-use Rattle.listing_check.specs.Passed.{NamesStart}
-use Rattle.listing_check.specs.declared.found.Found.{Found}
 use Rattle.listing_check.specs.declared.found.Found.TheVariants as found
 use Rattle.listing_check.proofs.Counted.{length-listed}
 use Rattle.listing_check.proofs.Truths.{yes_is_truth}

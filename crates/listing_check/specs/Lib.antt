@@ -5,3 +5,4 @@ pub mod Due
 pub mod Passed
 pub mod Texts
 pub mod Answered
+pub mod Terms

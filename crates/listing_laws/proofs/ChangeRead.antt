@@ -1,12 +1,7 @@
 -- The words of `diff`, read with `max N` behind them or without.
-use Rattle.std.proofs.Common.{◌≡◌, ◌∙◌, ◌+◌, ◌<◌, ◌≤◌, Bool, Err, List, None, Ok, Option, Result, Some, ap, arith, codes, false, if◌then◌else◌, refl, subst, sym, true, ℕ}
-use Rattle.std.specs.Str.{bytes_eq}
-use Rattle.std.proofs.lemmas.Bool.{cond-false}
-use Rattle.vpc_base.proofs.Bytes.{same_bytes}
-use Rattle.query_words.specs.ChangeQuery.{before_of, change_query_of, change_sourced, changed_end_of, end_in, given_changed_end, in_either, internet_in_both, named_end}
-use Rattle.query_words.specs.ReachQuery.{apart, reach_pairs_of}
-use Rattle.query_words.specs.Refusal.{◌>>=◌}
-use Rattle.query_words.specs.Words.{word_at}
+use Rattle.std.proofs.Common.{Bool, Err, List, None, Ok, Option, Result, Some, ap, arith, bytes_eq, codes, false, if◌then◌else◌, refl, subst, sym, true, ℕ, ◌+◌, ◌<◌, ◌∙◌, ◌≡◌, ◌≤◌}
+use Rattle.vpc_base.proofs.Lemmas.{cond-false, same_bytes}
+use Rattle.query_words.specs.Terms.{apart, before_of, change_query_of, change_sourced, changed_end_of, end_in, given_changed_end, in_either, internet_in_both, named_end, reach_pairs_of, word_at, ◌>>=◌}
 use Rattle.query_words.specs.declared.changes.ChangeQuery.{ChangeQuery}
 use Rattle.query_words.specs.declared.changes.ChangedEnd.{ChangedEnd}
 use Rattle.query_words.specs.declared.reaches.ReachPairs.{ReachPairs}

@@ -1,24 +1,12 @@
 -- What the words of pairs say: words without blanks, and numbers of their fields.
-use Rattle.std.proofs.Common.{◌≡◌, ◌≢◌, ◌<◌, ◌≤◌, ◌^◌, ◌==◌, ◌++◌, [], All, Bool, Err, IfSome, List, None, Ok, Option, Result, Some, ap, arith, codes, decimal, false, if◌then◌else◌, length-append, lit<, nat_le, ne_eqb, ok_or, refl, subst, sym, true, ℕ}
-use Rattle.std.specs.Option.{option_map}
-use Rattle.std.specs.Str.{bytes_eq}
-use Rattle.std.proofs.lemmas.Fmt.{length-decimal-le}
-use Rattle.std.proofs.lemmas.Option.{same_Some}
-use Rattle.std.proofs.lemmas.List.Elements.{All-append, All-cons, All-nil}
-use Rattle.vpc_base.proofs.Bytes.{same_bytes}
+use Rattle.std.proofs.Common.{All, Bool, Err, IfSome, List, None, Ok, Option, Result, Some, [], ap, arith, bytes_eq, codes, decimal, false, if◌then◌else◌, length-append, lit<, nat_le, ne_eqb, ok_or, option_map, refl, subst, sym, true, ℕ, ◌++◌, ◌<◌, ◌==◌, ◌^◌, ◌≡◌, ◌≢◌, ◌≤◌}
+use Rattle.vpc_base.proofs.Lemmas.{All-append, All-cons, All-nil, length-decimal-le, same_Some, same_bytes}
 use Rattle.prefix_text.proofs.AddrLaws.{All-addr_text, length-addr_text-le}
 use Rattle.prefix_text.proofs.BlockLaws.{prefix_of-Some}
 use Rattle.prefix_text.proofs.NumberLaws.{All-decimal, number_of-Some, two_digits}
 use Rattle.prefix_text.proofs.RangeLaws.{length-range_text-le, range_of-Some}
-use Rattle.prefix_text.specs.Addr.{addr_text}
-use Rattle.prefix_text.specs.Block.{Block, cidr_text, prefix_of}
-use Rattle.prefix_text.specs.Number.{number_of}
-use Rattle.prefix_text.specs.Range.{range_of, range_text}
-use Rattle.query_words.specs.Ends.{end_at, end_of}
-use Rattle.query_words.specs.Pairs.{read_ports, read_side, side_of, some_ports}
-use Rattle.query_words.specs.ReachQuery.{given_end, read_given_ports, read_given_proto}
-use Rattle.query_words.specs.Refusal.{◌>>=◌}
-use Rattle.query_words.specs.Words.{proto_of, read_as, word_at}
+use Rattle.prefix_text.specs.Terms.{Block, addr_text, cidr_text, number_of, prefix_of, range_of, range_text}
+use Rattle.query_words.specs.Terms.{end_at, end_of, given_end, proto_of, read_as, read_given_ports, read_given_proto, read_ports, read_side, side_of, some_ports, word_at, ◌>>=◌}
 use Rattle.query_words.specs.declared.refusal.QueryRefusal.{QueryRefusal}
 use Rattle.query_words.specs.declared.refusal.QueryRefusal.TheVariants as refusals
 use Rattle.report_reader.proofs.AskedEnds.{ok_is, was_taken}

@@ -1,20 +1,12 @@
 -- What is told of a stop is on one line.
-use Rattle.std.proofs.Common.{◌≡◌, ◌+◌, ◌/◌, ◌%◌, ◌≤◌, ◌==◌, ◌++◌, ◌∷◌, [], All, Bool, IfSome, List, None, Option, Some, arith, codes, decimal, false, if◌then◌else◌, length, length-append, ne_eqb, nat_lt, refl, suc, true, unwrap_or, zero, ℕ}
+use Rattle.std.proofs.Common.{All, Bool, IfSome, List, None, Option, Some, [], arith, codes, decimal, false, if◌then◌else◌, length, length-append, nat_lt, ne_eqb, refl, slice_index_or, suc, true, unwrap_or, zero, ℕ, ◌%◌, ◌++◌, ◌+◌, ◌/◌, ◌==◌, ◌∷◌, ◌≡◌, ◌≤◌}
 use Rattle.std.specs.Fmt.{digit_glyph, digits, digits_onto}
-use Rattle.std.specs.List.{slice_index_or}
 use Rattle.std.proofs.lemmas.List.Elements.{All-append, All-cons, All-head, All-nil, All-tail}
-use Rattle.block_report.specs.Words.{word}
-use Rattle.block_report.specs.Walks.{phase_text, stop_text}
+use Rattle.block_report.specs.Terms.{phase_text, stop_text, word}
 use Rattle.listing_reader.specs.ReadsBack.{IsOneLine}
-use Rattle.prefix_text.specs.Addr.{addr_text}
-use Rattle.prefix_text.specs.Block.{Block, block_text}
+use Rattle.prefix_text.specs.Terms.{Block, addr_text, block_text}
 use Rattle.vpc_laws.specs.Types.{Acl, AclNo, AttNo, Attachment, Component, Description, End, EniNo, Foreign, IgwNo, InternetGateway, NatGateway, NatNo, PeerNo, Peering, Subnet, SubnetNo, Vpc, Phase, Place, Reach, Route, RouteTable, Stop, StopRule, TableNo, TgwRoute, TgwTable, TgwTableNo, VpcNo}
-use Rattle.vpc_model.specs.Id.{is_id}
-use Rattle.vpc_model.specs.Lookup.{acl_at, attachment_at, igw_at, interface_at, nat_at, peering_at, subnet_at, table_at, tgw_table_at, vpc_at}
-use Rattle.vpc_model.specs.Names.{name_text}
-use Rattle.vpc_model.specs.Step.Router.{no_route}
-use Rattle.vpc_model.specs.Step.Transit.{no_tgw_route}
-use Rattle.vpc_model.specs.Told.{component_id, component_of, end_id, foreign_id, name_of, place_id, reach_text, route_target_id, rule_of, rule_text, stop_id, stop_rule, target_id, tgw_route_attachment}
+use Rattle.vpc_model.specs.Terms.{acl_at, attachment_at, component_id, component_of, end_id, foreign_id, igw_at, interface_at, is_id, name_of, name_text, nat_at, no_route, no_tgw_route, peering_at, place_id, reach_text, route_target_id, rule_of, rule_text, stop_id, stop_rule, subnet_at, table_at, target_id, tgw_route_attachment, tgw_table_at, vpc_at}
 use Rattle.vpc_model.specs.declared.outcomes.Phase.TheVariants as phases
 use Rattle.vpc_model.specs.declared.places.Place.TheVariants as places
 use Rattle.vpc_model.specs.declared.rows.Reach.TheVariants as reaches

@@ -1,13 +1,6 @@
 -- Printed rows read as what they were.
-use Rattle.std.proofs.Common.{◌≡◌, ◌≢◌, ◌∙◌, ◌+◌, ◌-◌, ◌<◌, ◌≤◌, ◌^◌, ◌==◌, ◌&&◌, ◌++◌, ◌∷◌, [], All, Bool, List, None, Ok, Option, Some, ap, append_assoc, arith, codes, decimal, drop, false, get_or, length, nat_le, refl, suc, sym, take, true, ℕ}
-use Rattle.std.specs.List.{AllPairs}
-use Rattle.std.specs.Str.{bytes_eq}
-use Rattle.std.proofs.lemmas.Bool.{and_right, cond-false, cond-true, false_from_ne_true, le-ltb}
-use Rattle.std.proofs.lemmas.List.{drop_at}
-use Rattle.std.proofs.lemmas.List.Elements.{All-head, All-tail}
-use Rattle.std.proofs.lemmas.List.Sums.{sum_by-cons}
-use Rattle.vpc_base.proofs.Bytes.{bytes_self, same_bytes}
-use Rattle.vpc_base.proofs.Pairs.{AllPairs-tail}
+use Rattle.std.proofs.Common.{All, AllPairs, Bool, List, None, Ok, Option, Some, [], ap, append_assoc, arith, bytes_eq, codes, decimal, drop, false, get_or, length, nat_le, refl, suc, sym, take, true, ℕ, ◌&&◌, ◌++◌, ◌+◌, ◌-◌, ◌<◌, ◌==◌, ◌^◌, ◌∙◌, ◌∷◌, ◌≡◌, ◌≢◌, ◌≤◌}
+use Rattle.vpc_base.proofs.Lemmas.{All-head, All-tail, AllPairs-tail, and_right, bytes_self, cond-false, cond-true, drop_at, false_from_ne_true, le-ltb, same_bytes, sum_by-cons}
 use Rattle.prefix_text.specs.Range.{range_text}
 use Rattle.vpc_laws.specs.Types.{Box5, Row}
 use Rattle.block_report.specs.Reports.{addresses_text}
@@ -17,11 +10,7 @@ use Rattle.report_reader.specs.Reports.{is_ended, lines_of, pieces_of, row_limit
 use Rattle.report_reader.proofs.ReadLines.{box_words}
 use Rattle.report_reader.proofs.ReadReports.{is_ended-ended, lines_of-ended}
 use Rattle.report_reader.proofs.ReadWords.{box_of-texts}
-use Rattle.listing_reader.specs.declared.origins.Origin.{Origin}
-use Rattle.listing_reader.specs.Listings.{end_after, is_row, lists_at, lists_before, lists_in, row_before, row_count, row_of, rows_at}
-use Rattle.listing_reader.specs.Printed.{Printed, end_line, lines_from, lists_of, origins_of}
-use Rattle.listing_reader.specs.ReadsBack.{ArePrintable, HasNoBlank, IsOneLine, IsPrintable, IsPrintableRow}
-use Rattle.listing_reader.specs.Reading.{asked_part, row_with}
+use Rattle.listing_reader.specs.Terms.{ArePrintable, HasNoBlank, IsOneLine, IsPrintable, IsPrintableRow, Origin, Printed, asked_part, end_after, end_line, is_row, lines_from, lists_at, lists_before, lists_in, lists_of, origins_of, row_before, row_count, row_of, row_with, rows_at}
 use Rattle.listing_reader.proofs.CutLemmas.{some_parts}
 use Rattle.listing_reader.proofs.ListLemmas.{finished}
 use Rattle.listing_reader.proofs.PrintedLines.{end_text, length-row_texts, length-texts_from, pieces_of-line, pieces_of-printed, row_text, row_texts, texts_from, words_of-end_text, words_of-row_text}

@@ -3,3 +3,4 @@ pub mod Listings
 pub mod Printed
 pub mod Reading
 pub mod ReadsBack
+pub mod Terms

@@ -1,8 +1,6 @@
 -- What is told of starts decides the status, whatever order they are asked in.
 use Rattle.std.proofs.Common.{◌≡◌, ◌≢◌, ◌∙◌, ◌<◌, ◌≤◌, ◌+◌, ◌∷◌, [], All, Contains, List, None, ap, arith, inl, inr, length, map, refl, subst, suc, sum_by, sym, true, zero, ℕ}
-use Rattle.std.proofs.lemmas.List.Elements.{All-contains, All-head, All-tail}
-use Rattle.std.proofs.lemmas.List.Folds.{list_any_at}
-use Rattle.std.proofs.lemmas.List.Sums.{sum_by-append, sum_by-cons}
+use Rattle.vpc_base.proofs.Lemmas.{All-contains, All-head, All-tail, Contains-map, list_any_at, some_not_none, sum_by-append, sum_by-cons}
 use Rattle.box_gather.specs.Over.{IsPartOf, cells_over, is_in}
 use Rattle.command_job.proofs.Devices.{more_is_none, no_device}
 use Rattle.command_job.specs.Status.{IsOfDevice}
@@ -10,20 +8,15 @@ use Rattle.command_job.specs.declared.status.Status.{Status}
 use Rattle.command_job.specs.declared.status.Status.TheVariants as ends
 use Rattle.cut_points.proofs.Increasing.{same_list}
 use Rattle.header_boxes.proofs.Held.{holds_low, holds_whole, valid_if_within}
-use Rattle.header_boxes.specs.Boxes.{holds, low_of}
-use Rattle.header_boxes.specs.Rows.{HasWord, is_covered}
+use Rattle.header_boxes.specs.Terms.{HasWord, holds, is_covered, low_of}
 use Rattle.header_boxes.specs.declared.boxes.Box5.{Box5}
 use Rattle.header_boxes.specs.declared.rows.Row.{Row}
 use Rattle.vpc_base.specs.Cuts.{AreAmong, CutLists}
 use Rattle.vpc_base.specs.declared.headers.Header.{Header}
-use Rattle.vpc_base.proofs.Members.{Contains-map}
-use Rattle.vpc_base.proofs.Options.{some_not_none}
 use Rattle.listing_text.proofs.BodyLemmas.{last_among}
 use Rattle.listing_text.proofs.Orders.{AreAlike}
-use Rattle.listing_text.specs.Answered.{IsDecidedBy, IsTold}
+use Rattle.listing_text.specs.Terms.{AreEachAlone, AreToldAll, AreToldInPart, FewCells, IsDecidedBy, IsTold, IsToldFrom, SomeTold, StartRows, Wanted, alone, row_count}
 use Rattle.listing_text.specs.Answered as answered
-use Rattle.listing_text.specs.Sides.{AreEachAlone, alone}
-use Rattle.listing_text.specs.Told.{AreToldAll, AreToldInPart, FewCells, IsToldFrom, SomeTold, StartRows, Wanted, row_count}
 
 -- addresses have one list of sides
 pub same_alone : (addresses : List ℕ) (xs ys : List (ℕ × ℕ)) → AreEachAlone addresses xs → AreEachAlone addresses ys → xs ≡ ys

@@ -3,3 +3,4 @@ pub mod Told
 pub mod Texts
 pub mod Bodies
 pub mod Answered
+pub mod Terms

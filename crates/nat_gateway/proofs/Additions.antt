@@ -1,31 +1,17 @@
 -- One more translation in each table, and look-ups in a table and the rest of its list.
-use Rattle.std.proofs.Common.{◌≡◌, ◌≤◌, ◌<◌, ◌+◌, ◌-◌, ◌||◌, ◌==◌, ◌&&◌, ℕ, Bool, true, false, List, [], ◌∷◌, ◌++◌, Option, Some, None, Result, Ok, Err, cond, refl, sym, ap, ◌∙◌, drop, inl, inr, is_some, min, nat_le, subst, take, unwrap_or, arith}
-use Rattle.std.specs.List.{count_by, find}
-use Rattle.std.specs.Option.{option_and_then, option_map}
-use Rattle.std.specs.Prelude.{OnErr, OnOk}
-use Rattle.std.proofs.lemmas.Bool.{cases_Bool}
-use Rattle.std.proofs.lemmas.Bool.Decides.{nat_tests}
-use Rattle.std.proofs.lemmas.List.Folds.{list_any-append}
+use Rattle.std.proofs.Common.{Bool, Err, List, None, Ok, OnErr, OnOk, Option, Result, Some, [], ap, arith, cond, count_by, drop, false, find, inl, inr, is_some, min, nat_le, option_and_then, option_map, refl, subst, sym, take, true, unwrap_or, ℕ, ◌&&◌, ◌++◌, ◌+◌, ◌-◌, ◌<◌, ◌==◌, ◌||◌, ◌∙◌, ◌∷◌, ◌≡◌, ◌≤◌}
+use Rattle.vpc_base.proofs.Lemmas.{cases_Bool, count_by-push, list_any-append, list_any-take-drop, nat_tests}
 use Rattle.vpc_base.specs.Header.{opening_of}
 use Rattle.conn_tracking.proofs.Lookups.{answers_open}
-use Rattle.nat_gateway.specs.declared.sent.Sent.{Sent}
-use Rattle.nat_gateway.specs.Sent.{flow_of, same_sent, with_port}
-use Rattle.nat_gateway.specs.declared.parts.Afters.{Afters}
-use Rattle.nat_gateway.specs.declared.parts.Befores.{Befores}
-use Rattle.nat_gateway.specs.declared.parts.Counts.{Counts}
-use Rattle.nat_gateway.specs.Parts.{HasAfters, HasBefores, HasCounts, IsKept}
-use Rattle.nat_gateway.specs.Tables.{AllUsed, AreCounts, ArePorts, AreValues, IsFirst, SameUsed, is_taken_beside, is_used, made_into, value_at}
+use Rattle.nat_gateway.specs.Terms.{Afters, AllUsed, AreCounts, ArePorts, AreValues, Befores, Counts, HasAfters, HasBefores, HasCounts, IsFirst, IsKept, SameUsed, Sent, flow_of, is_taken_beside, is_used, made_into, same_sent, value_at, with_port}
 use Rattle.nat_gateway.proofs.Lists.{count_by-take-drop, first_free-alike, first_free-nothing, first_free-over, found-take-drop, free_here, free_later}
 use Rattle.nat_gateway.proofs.Runs.{IsPut}
 use Rattle.nat_gateway.proofs.Values.{first-longer, same_sent-true}
 use Rattle.vpc_laws.proofs.Books.{IsBook-nil}
 use Rattle.vpc_laws.specs.Translations.{IsBook}
-use Rattle.vpc_base.specs.declared.headers.Header.{Header}
+use Rattle.vpc_laws.specs.Types.{Header, NatNo}
 use Rattle.vpc_base.specs.Header.{reply_of}
-use Rattle.vpc_base.proofs.Tests.{count_by-push, list_any-take-drop}
-use Rattle.vpc_model.specs.declared.numbers.NatNo.{NatNo}
-use Rattle.vpc_model.specs.Connections.{is_header, same_header}
-use Rattle.vpc_model.specs.Nat.{Translation, first_free, inward, is_full, is_taken, shares}
+use Rattle.vpc_model.specs.Terms.{Translation, first_free, inward, is_full, is_header, is_taken, same_header, shares}
 
 -- ---- taken ports
 

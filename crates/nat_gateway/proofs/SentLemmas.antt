@@ -1,34 +1,22 @@
 -- Opens and answers on images at a NAT gateway.
-use Rattle.std.proofs.Common.{◌≡◌, ◌<◌, ◌+◌, ◌-◌, ◌==◌, ◌&&◌, ◌∷◌, [], ℕ, suc, zero, Bool, List, None, Option, Some, true, false, arith, ap, cond, count_by, if◌then◌else◌, find, option_and_then, refl, subst, sym, ◌∙◌, ⊎_elim}
-use Rattle.std.specs.List.{Contains, list_any}
-use Rattle.std.proofs.lemmas.Bool.{eq-eqb, or_parts}
-use Rattle.std.proofs.lemmas.List.Elements.{All-cons, All-nil}
-use Rattle.std.proofs.lemmas.Bool.Decides.{nat_tests}
-use Rattle.vpc_base.specs.Cuts.{CutLists}
-use Rattle.vpc_base.specs.Header.{reply_of}
-use Rattle.vpc_base.specs.declared.headers.Header.{Header}
-use Rattle.vpc_model.specs.Nat.{Translation, first_free, first_port, free_port, inward, is_taken, is_translatable}
-use Rattle.vpc_model.specs.Connections.{is_header, same_header}
-use Rattle.vpc_model.specs.declared.numbers.NatNo.{NatNo}
-use Rattle.header_boxes.specs.Boxes.{holds, in_range}
-use Rattle.header_boxes.specs.Cells.{IsAligned}
-use Rattle.header_boxes.specs.declared.boxes.Box5.{Box5}
-use Rattle.header_boxes.proofs.CellNumbers.{aligned_through}
-use Rattle.header_boxes.proofs.Held.{holds_whole}
-use Rattle.box_images.specs.Answers.{Answers, AnswersImage}
-use Rattle.box_images.specs.Bodies.{AreCutInside, EndsAtEdges, IsBody, IsCutInside, range_edges, shift_edges}
-use Rattle.box_images.specs.Images.{IsPort, IsValidImage, header_at, shifted}
+use Rattle.std.proofs.Common.{Bool, Contains, List, None, Option, Some, [], ap, arith, cond, count_by, false, find, if◌then◌else◌, option_and_then, refl, subst, suc, sym, true, zero, ℕ, ⊎_elim, ◌&&◌, ◌+◌, ◌-◌, ◌<◌, ◌==◌, ◌∙◌, ◌∷◌, ◌≡◌}
+use Rattle.std.specs.List.{list_any}
+use Rattle.vpc_base.proofs.Lemmas.{All-cons, All-nil, eq-eqb, nat_tests, or_parts}
+use Rattle.vpc_base.specs.Terms.{CutLists, reply_of}
+use Rattle.vpc_laws.specs.Types.{Box5, Header, NatNo}
+use Rattle.vpc_model.specs.Terms.{Translation, first_free, first_port, fixed_cuts, free_port, inward, is_header, is_taken, is_translatable, same_header}
+use Rattle.header_boxes.specs.Terms.{IsAligned, holds, in_range}
+use Rattle.header_boxes.proofs.Lemmas.{aligned_through, holds_whole}
+use Rattle.box_images.specs.Terms.{Answers, AnswersImage, AreCutInside, EndsAtEdges, IsBody, IsCutInside, IsPort, IsValidImage, header_at, range_edges, shift_edges, shifted}
 use Rattle.box_images.specs.declared.fields.Field.{Field}
 use Rattle.box_images.specs.declared.fields.Field.TheVariants.{Fixed, Of}
 use Rattle.box_images.specs.declared.fields.Side.TheVariants.{P, Proto}
 use Rattle.box_images.specs.declared.images.Image.{Image}
 use Rattle.box_images.specs.declared.images.Part.{Part}
-use Rattle.box_images.proofs.BodyLemmas.{body_through}
-use Rattle.box_images.proofs.LawLemmas.{bodies_are_aligned}
+use Rattle.box_images.proofs.Lemmas.{bodies_are_aligned, body_through}
 use Rattle.conn_tracking.specs.OnImages.{GivesReply, TellsReply}
 use Rattle.conn_tracking.proofs.ReplyCuts.{cut_inside, range_inside}
 use Rattle.cut_laws.specs.Dividing.{Divide, DivideAddresses}
-use Rattle.vpc_model.specs.Cuts.{fixed_cuts}
 use Rattle.nat_gateway.specs.OnImages.{FirstOpenIsSent, GivesInward, GivesSent, HasNone, from_gateway, sent_first, translation_at}
 
 -- ---- a list without a translation of the gateway

@@ -1,25 +1,14 @@
 -- Look-ups in tables, and what they have of the first entries of a list.
-use Rattle.std.proofs.Common.{◌≡◌, ◌<◌, ◌+◌, ◌==◌, ℕ, Bool, true, false, List, [], ◌∷◌, ◌++◌, Option, Some, None, cond, refl, sym, ap, ◌∙◌, get_or, inl, inr, is_some, length, length-append, subst, take, add-one, arith, ap₂}
-use Rattle.std.specs.List.{find}
+use Rattle.std.proofs.Common.{Bool, List, None, Option, Some, [], add-one, ap, ap₂, arith, cond, false, find, get_or, inl, inr, is_eq, is_some, length, length-append, nat_cmp, option_map, refl, subst, sym, take, true, ℕ, ◌++◌, ◌+◌, ◌<◌, ◌==◌, ◌∙◌, ◌∷◌, ◌≡◌}
 use Rattle.std.specs.Map.{lookup}
-use Rattle.std.specs.Option.{option_map, option_or}
-use Rattle.std.specs.Ordering.{is_eq, nat_cmp}
-use Rattle.std.proofs.Math.Bool.{and_comm}
-use Rattle.std.proofs.Math.Seq.{take-suc}
-use Rattle.std.proofs.lemmas.Bool.{and_parts, cases_Bool}
-use Rattle.std.proofs.lemmas.List.{take-append-le}
-use Rattle.std.proofs.lemmas.List.Folds.{find-append}
+use Rattle.std.specs.Option.{option_or}
+use Rattle.vpc_base.proofs.Lemmas.{and_comm, and_parts, cases_Bool, find-append, none_if, take-append-le, take-suc}
 use Rattle.conn_tracking.specs.Order.{order_by_ports}
 use Rattle.conn_tracking.proofs.Lookups.{is_eq-number, is_eq-then, order_by_ports_is_same}
-use Rattle.nat_gateway.specs.declared.sent.Sent.{Sent}
-use Rattle.nat_gateway.specs.Sent.{order_of_sent, same_sent}
-use Rattle.nat_gateway.specs.Tables.{AreValues, IsFirst, value_at}
-use Rattle.vpc_base.specs.declared.headers.Header.{Header}
-use Rattle.vpc_base.proofs.Options.{none_if}
+use Rattle.nat_gateway.specs.Terms.{AreValues, IsFirst, Sent, order_of_sent, same_sent, value_at}
+use Rattle.vpc_laws.specs.Types.{Header, NatNo}
 use Rattle.vpc_laws.proofs.Same.{NatNo-same, same_header-true}
-use Rattle.vpc_model.specs.declared.numbers.NatNo.{NatNo}
-use Rattle.vpc_model.specs.Connections.{same_header}
-use Rattle.vpc_model.specs.Nat.{Translation}
+use Rattle.vpc_model.specs.Terms.{Translation, same_header}
 
 lookup-alike : {K X : Type 0} (p q : K → Bool) → ((k : K) → p k ≡ q k) → (es : List (K × X)) → lookup p es ≡ lookup q es
 lookup-alike p q alike [] = refl

@@ -3,3 +3,4 @@ pub mod OnImages
 pub mod Parts
 pub mod Sent
 pub mod Tables
+pub mod Terms

@@ -1,32 +1,19 @@
 -- Rows asked of images.
-use Rattle.std.proofs.Common.{◌≡◌, ◌<◌, ◌&&◌, ◌∷◌, [], Bool, true, false, List, Option, Some, ℕ, ap, nat_le, refl, subst, sym, arith, ◌∙◌}
-use Rattle.std.specs.List.{Contains, find}
-use Rattle.std.proofs.lemmas.Bool.{lt-leb}
-use Rattle.std.proofs.Math.Bool.{and_comm}
-use Rattle.vpc_base.specs.declared.headers.Dir.{Dir}
+use Rattle.std.proofs.Common.{Bool, Contains, List, Option, Some, [], ap, arith, false, find, nat_le, refl, subst, sym, true, ℕ, ◌&&◌, ◌<◌, ◌∙◌, ◌∷◌, ◌≡◌}
+use Rattle.vpc_base.proofs.Lemmas.{and_comm, lt-leb}
+use Rattle.vpc_laws.specs.Types.{AclRow, Box5, Dir, Header}
 use Rattle.vpc_base.specs.declared.headers.Dir.TheVariants as dirs
-use Rattle.vpc_base.specs.declared.headers.Header.{Header}
 use Rattle.header_boxes.specs.Boxes.{holds as holds_header, low_of}
-use Rattle.header_boxes.specs.declared.boxes.Box5.{Box5}
-use Rattle.box_images.specs.Answers.{Answers}
-use Rattle.box_images.specs.Fields.{greatest_of, number_of}
-use Rattle.box_images.specs.Images.{field_of, header_at}
-use Rattle.box_images.specs.declared.fields.Side.{Side}
+use Rattle.box_images.specs.Terms.{Answers, field_of, greatest_of, header_at, number_of}
+use Rattle.image_tests.specs.Types.{Image, Part, Side}
 use Rattle.box_images.specs.declared.fields.Side.TheVariants.{Dst, Q, Src}
-use Rattle.box_images.specs.declared.images.Image.{Image}
-use Rattle.box_images.specs.declared.images.Part.{Part}
 use Rattle.cut_laws.proofs.Among.{among_through, on_sides_among, row_among}
 use Rattle.cut_laws.specs.Dividing.{Divide}
-use Rattle.image_tests.proofs.Answering.{answers_more, answers_refused, answers_rule, answers_same}
-use Rattle.image_tests.proofs.Stretches.{least-number, low-is-least, number-greatest}
-use Rattle.image_tests.proofs.Trying.{header_of_rest}
+use Rattle.image_tests.proofs.Lemmas.{answers_more, answers_refused, answers_rule, answers_same, header_of_rest, least-number, low-is-least, number-greatest}
 use Rattle.image_tests.specs.Keys.{low_on}
 use Rattle.image_tests.specs.Tests.{cuts_of_block, fits_rule}
 use Rattle.prefix_text.specs.Block.{holds, last_of}
-use Rattle.vpc_model.specs.Cuts.{all_cuts, cuts_of_acl_row, cuts_of_rule, on_sides}
-use Rattle.vpc_model.specs.Filter.{far_address, is_between, matches_proto}
-use Rattle.vpc_model.specs.declared.rows.AclRow.{AclRow}
-use Rattle.vpc_model.specs.Acls.{acl_verdict, verdict_of_row}
+use Rattle.vpc_model.specs.Terms.{acl_verdict, all_cuts, cuts_of_acl_row, cuts_of_rule, far_address, is_between, matches_proto, on_sides, verdict_of_row}
 use Rattle.network_acls.proofs.Directions.{decided}
 use Rattle.network_acls.specs.Tried.{AreTried, DivideRows, MatchesNone, TriedRows, row_matches, rows_tried}
 

@@ -1,26 +1,14 @@
 -- A request that gets through arrives at the target, and its reply at the start.
-use Rattle.std.proofs.Common.{◌≡◌, ◌∙◌, ◌++◌, ◌&&◌, [], Bool, List, None, Option, Some, ap, append_assoc, codes, cond, false, refl, subst, sym, true, ℕ}
-use Rattle.std.specs.List.{All, AllByRecursion}
-use Rattle.std.specs.Prelude.{option_and_then}
-use Rattle.std.proofs.lemmas.Bool.{and_parts}
-use Rattle.std.proofs.lemmas.List.Elements.{All-from_recursion}
+use Rattle.std.proofs.Common.{All, Bool, List, None, Option, Some, [], ap, append_assoc, codes, cond, false, option_and_then, refl, subst, sym, true, ℕ, ◌&&◌, ◌++◌, ◌∙◌, ◌≡◌}
+use Rattle.std.specs.List.{AllByRecursion}
+use Rattle.vpc_base.proofs.Lemmas.{All-from_recursion, and_parts}
 use Rattle.vpc_base.specs.Header.{reply_of}
 use Rattle.vpc_base.specs.declared.headers.Label.TheVariants as labels
-use Rattle.block_report.specs.Hops.{hop_lines}
-use Rattle.block_report.specs.Reports.{arrived_header, lines_of_walk, reachable_text, reply_lines}
-use Rattle.block_report.specs.Walks.{outcome_line}
-use Rattle.block_report.specs.Words.{header_text, line_end, word}
+use Rattle.block_report.specs.Terms.{arrived_header, header_text, hop_lines, line_end, lines_of_walk, outcome_line, reachable_text, reply_lines, word}
 use Rattle.vpc_laws.proofs.Telling.{start-sound, walks_are_sound}
 use Rattle.vpc_laws.specs.Sound.{IsSoundHop}
 use Rattle.vpc_laws.specs.Types.{Description, End, Header, Hop, Outcome, Phase, Stop, Verdict}
-use Rattle.vpc_model.specs.Accepted.{IsAccepted}
-use Rattle.vpc_model.specs.Appliances.{Appliances}
-use Rattle.vpc_model.specs.Connections.{is_header}
-use Rattle.vpc_model.specs.Place.{start_of}
-use Rattle.vpc_model.specs.Report.{ending_of}
-use Rattle.vpc_model.specs.Sound.{is_end}
-use Rattle.vpc_model.specs.Verdict.{hops_after, hops_of_reply, reply_hops, reply_walk, request_walk, same_end, verdict_of, verdict_of_arrival, verdict_of_reply, verdict_of_request}
-use Rattle.vpc_model.specs.Walk.{Walk}
+use Rattle.vpc_model.specs.Terms.{Appliances, IsAccepted, Walk, ending_of, hops_after, hops_of_reply, is_end, is_header, reply_hops, reply_walk, request_walk, same_end, start_of, verdict_of, verdict_of_arrival, verdict_of_reply, verdict_of_request}
 use Rattle.vpc_model.specs.declared.outcomes.Outcome.TheVariants as outcomes
 use Rattle.vpc_model.specs.declared.outcomes.Phase.TheVariants as phases
 use Rattle.vpc_model.specs.declared.outcomes.Verdict.TheVariants as verdicts

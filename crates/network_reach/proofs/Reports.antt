@@ -1,13 +1,9 @@
 -- What a search answers about the stops of requests is a report about their verdicts.
-use Rattle.std.proofs.Common.{◌≡◌, ◌∙◌, ◌<◌, Err, IfOk, List, None, Ok, Option, Result, Some, ap, refl, subst, sym, ℕ}
+use Rattle.std.proofs.Common.{Err, IfOk, List, None, Ok, Option, Result, Some, ap, option_map, refl, slice_index_or, subst, sym, ℕ, ◌<◌, ◌∙◌, ◌≡◌}
 use Rattle.std.specs.Global.{Vec}
-use Rattle.std.specs.Prelude.{option_map, slice_index_or}
 use Rattle.std.proofs.lemmas.List.{length-map}
 use Rattle.header_boxes.proofs.Held.{holds_low, valid_if_within}
-use Rattle.header_boxes.specs.Boxes.{low_of}
-use Rattle.header_boxes.specs.Rows.{AreTrueRows, IsFirst, IsFirstThrough, NoneThrough}
-use Rattle.header_boxes.specs.declared.boxes.Box5.{Box5}
-use Rattle.header_boxes.specs.declared.rows.Row.{Row}
+use Rattle.header_boxes.specs.Terms.{AreTrueRows, IsFirst, IsFirstThrough, NoneThrough, low_of}
 use Rattle.block_report.specs.Reports.{HaveText, told_row, told_rows}
 use Rattle.box_walk.proofs.Texts.{ending_of-stop, stop_told}
 use Rattle.box_walk.specs.Asking.{Asking, asked, stopped_of, whether, word_of}
@@ -16,13 +12,8 @@ use Rattle.ordered_cover.specs.declared.rows.Searched.{Searched}
 use Rattle.ordered_cover.specs.declared.rows.Searched.TheVariants as searches
 use Rattle.query_words.specs.declared.queries.Query.{Query}
 use Rattle.vpc_laws.proofs.Telling.{verdicts_are_told}
-use Rattle.vpc_laws.specs.Types.{Description, Header, Phase, Stop, StopText}
-use Rattle.vpc_model.specs.Accepted.{IsAccepted}
-use Rattle.vpc_model.specs.Appliances.{appliances_of}
-use Rattle.vpc_model.specs.Cuts.{cuts_of}
-use Rattle.vpc_model.specs.Report.{IsCellCount}
-use Rattle.vpc_model.specs.Told.{told_stop}
-use Rattle.vpc_model.specs.Verdict.{verdict_of}
+use Rattle.vpc_laws.specs.Types.{Box5, Description, Header, Phase, Row, Stop, StopText}
+use Rattle.vpc_model.specs.Terms.{IsAccepted, IsCellCount, appliances_of, cuts_of, told_stop, verdict_of}
 use Rattle.network_reach.proofs.Told.{Tells, begun_told, first_told, none_through_told, ordered_told, outside_told, true_told, whole_told}
 use Rattle.network_reach.specs.Reached.{IsPartReportIn, IsQueryIn, IsReached, IsReportIn, meaning_in}
 use Rattle.network_reach.specs.declared.reach.Reached.TheVariants as answers

@@ -1,23 +1,13 @@
 -- Rows that are joined.
 use Rattle.std.proofs.Common.{◌≡◌, ◌≤◌, ◌+◌, ◌&&◌, ◌⊎◌, ℕ, Bool, true, false, List, [], ◌∷◌, ◌++◌, Option, Some, All, inl, inr, refl, ap, sym, ◌∙◌, subst, arith}
-use Rattle.std.proofs.lemmas.Bool.Decides.{nat_tests}
-use Rattle.std.proofs.lemmas.Grind.{common_steps}
-use Rattle.std.proofs.lemmas.List.Elements.{All-push}
-use Rattle.std.proofs.lemmas.List.Quantifiers.{all_pairs_push}
-use Rattle.std.proofs.lemmas.List.Sums.{sum_by-append}
-use Rattle.vpc_base.specs.Header.{IsBefore}
-use Rattle.vpc_base.specs.Cuts.{CutLists}
+use Rattle.vpc_base.proofs.Lemmas.{All-push, all_pairs_push, common_steps, nat_tests, sum_by-append}
+use Rattle.vpc_base.specs.Terms.{CutLists, IsBefore}
 use Rattle.vpc_base.specs.declared.headers.Header.{Header}
-use Rattle.header_boxes.specs.Boxes.{in_range, holds, IsRangeWithin, IsValid, IsWithin, AreDisjoint, low_of}
-use Rattle.header_boxes.specs.Cells.{IsAligned}
-use Rattle.header_boxes.specs.Rows.{HasWord}
+use Rattle.header_boxes.specs.Terms.{AreDisjoint, HasWord, IsAligned, IsRangeWithin, IsValid, IsWithin, holds, in_range, low_of}
 use Rattle.header_boxes.specs.declared.boxes.Box5.{Box5}
 use Rattle.header_boxes.specs.declared.rows.Row.{Row}
 use Rattle.header_boxes.proofs.Held.{valid_if_within}
-use Rattle.ordered_cover.specs.Joined.{AreJoined, CanJoin, GoesOn, GoesOnInP}
-use Rattle.ordered_cover.specs.Kept.{GoesOnBy, IsOneWithLast, KeepsSplit, joined_row, span}
-use Rattle.ordered_cover.specs.Open.{one_if, row_holders, AreSplit}
-use Rattle.ordered_cover.specs.declared.joining.Along.{Along}
+use Rattle.ordered_cover.specs.Terms.{Along, AreJoined, AreSplit, CanJoin, GoesOn, GoesOnBy, GoesOnInP, IsOneWithLast, KeepsSplit, joined_row, one_if, row_holders, span}
 use Rattle.ordered_cover.specs.declared.joining.Along.TheVariants as by_sides
 use Rattle.ordered_cover.proofs.Lists.{adjacent_before, adjacent_one, adjacent_push, all_before, of_last, pairs_before, pairs_with_last}
 

@@ -1,27 +1,12 @@
 -- Open boxes and rows that split the sides.
-use Rattle.std.proofs.Common.{◌≡◌, ◌≢◌, ◌≤◌, ◌<◌, ◌+◌, ℕ, Bool, true, false, List, [], ◌∷◌, ◌++◌, Option, Some, None, All, get_or, length, refl, sym, ap, ◌∙◌, subst, arith, sum_by}
-use Rattle.std.proofs.lemmas.List.Elements.{All-nil, All-cons, All-push, All-head, All-tail, All-append, All-weaker}
-use Rattle.std.proofs.lemmas.List.Folds.{Any-from_list_any}
-use Rattle.std.proofs.lemmas.List.Quantifiers.{all_pairs_push}
-use Rattle.std.proofs.lemmas.List.Sorted.{All-permutation, sum_by-IsPermutation}
-use Rattle.std.proofs.lemmas.List.Sums.{sum_by-append, sum_by-cons}
-use Rattle.std.specs.Option.{is_some}
-use Rattle.std.specs.List.Sorted.{IsPermutation}
-use Rattle.vpc_base.specs.Header.{IsBefore}
-use Rattle.vpc_base.specs.Cuts.{AreAmong, CutLists}
+use Rattle.std.proofs.Common.{All, Bool, IsPermutation, List, None, Option, Some, [], ap, arith, false, get_or, is_some, length, refl, subst, sum_by, sym, true, ℕ, ◌++◌, ◌+◌, ◌<◌, ◌∙◌, ◌∷◌, ◌≡◌, ◌≢◌, ◌≤◌}
+use Rattle.vpc_base.proofs.Lemmas.{All-append, All-cons, All-head, All-nil, All-permutation, All-push, All-tail, All-weaker, Any-from_list_any, all_pairs_push, some_if, some_not_none, sum_by-IsPermutation, sum_by-append, sum_by-cons}
+use Rattle.vpc_base.specs.Terms.{AreAmong, CutLists, IsBefore}
 use Rattle.vpc_base.specs.declared.headers.Header.{Header}
-use Rattle.vpc_base.proofs.Options.{some_if, some_not_none}
-use Rattle.header_boxes.specs.Boxes.{holds, IsValid, IsWithin, AreDisjoint, low_of, volume_of}
-use Rattle.header_boxes.specs.Cells.{IsAligned, cells_of}
+use Rattle.header_boxes.specs.Terms.{AreDisjoint, HasWord, IsAligned, IsFirstThrough, IsValid, IsWithin, NoneThrough, cells_of, holds, is_covered, low_of, volume_of}
 use Rattle.header_boxes.specs.declared.boxes.Box5.{Box5}
-use Rattle.header_boxes.proofs.BoxLaws.{aligned_grows, low_is_least, volume_is_positive}
-use Rattle.header_boxes.proofs.CellNumbers.{aligned_through, aligned_to_itself}
-use Rattle.header_boxes.proofs.Held.{holds_low, holds_whole, valid_if_within, within_itself, within_trans}
-use Rattle.header_boxes.specs.Rows.{IsFirstThrough, NoneThrough, HasWord, is_covered}
-use Rattle.ordered_cover.specs.Cover.{IsBlocked, IsMore}
-use Rattle.ordered_cover.specs.Gathered.{HoldAllTold, LeaveSomeOut}
-use Rattle.ordered_cover.specs.Joined.{AreJoined, GoesOn, GoesOnEitherWay}
-use Rattle.ordered_cover.specs.Open.{one_if, every, told, holders, row_holders, IsLeast, IsAsked, AreSplit, AreSplitBySome}
+use Rattle.header_boxes.proofs.Lemmas.{aligned_grows, aligned_through, aligned_to_itself, holds_low, holds_whole, low_is_least, valid_if_within, volume_is_positive, within_itself, within_trans}
+use Rattle.ordered_cover.specs.Terms.{AreJoined, AreSplit, AreSplitBySome, GoesOn, GoesOnEitherWay, HoldAllTold, IsAsked, IsBlocked, IsLeast, IsMore, LeaveSomeOut, every, holders, one_if, row_holders, told}
 use Rattle.header_boxes.specs.declared.rows.Row.{Row}
 use Rattle.ordered_cover.proofs.Lists.{one_at, any_from_one, none_from_zero, zero_from_all, zero_for, at_most_one}
 use Rattle.ordered_cover.proofs.Order.{before_trans, before_upto, before_other}

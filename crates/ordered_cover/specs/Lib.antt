@@ -6,3 +6,4 @@ pub mod Joined
 pub mod Kept
 pub mod Ports
 pub mod Passed
+pub mod Terms

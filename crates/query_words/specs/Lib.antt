@@ -9,3 +9,4 @@ pub mod Sides
 pub mod Unbounded
 pub mod Words
 pub mod ChangeQuery
+pub mod Terms

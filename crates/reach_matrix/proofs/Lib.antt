@@ -1,3 +1,4 @@
+pub mod PairRanges
 pub mod AnswerLemmas
 pub mod LineLemmas
 pub mod NamingLemmas

@@ -1,24 +1,15 @@
 -- The words of `ask` about a pair give the query about it.
-use Rattle.std.proofs.Common.{◌≡◌, ◌∙◌, ◌<◌, ◌≤◌, ◌&&◌, ◌^◌, Bool, Err, List, None, Ok, Option, Result, Some, ap, arith, bytes_eq, codes, false, is_some, nat_le, refl, true, unwrap_or, ℕ}
-use Rattle.std.specs.Prelude.{if◌then◌else◌, ok_or}
-use Rattle.std.proofs.lemmas.Bool.{le-leb, not-true}
-use Rattle.vpc_base.proofs.Bytes.{bytes_self}
-use Rattle.vpc_base.proofs.Members.{member-list_any, row-member}
+use Rattle.std.proofs.Common.{Bool, Err, List, None, Ok, Option, Result, Some, ap, arith, bytes_eq, codes, false, if◌then◌else◌, is_some, nat_le, ok_or, refl, true, unwrap_or, ℕ, ◌&&◌, ◌<◌, ◌^◌, ◌∙◌, ◌≡◌, ◌≤◌}
+use Rattle.vpc_base.proofs.Lemmas.{bytes_self, le-leb, member-list_any, not-true, row-member}
 use Rattle.prefix_text.specs.Range.{range_of, range_text}
 use Rattle.prefix_text.proofs.RangeLaws.{range_of-range_text}
-use Rattle.query_words.specs.Ends.{end_at, end_of, ends_of, not_both}
-use Rattle.query_words.specs.Pairs.{pairs_of, some_ports}
-use Rattle.query_words.specs.Query.{query_of}
-use Rattle.query_words.specs.Refusal.{◌>>=◌}
-use Rattle.query_words.specs.Sides.{primary_side, sides_of}
+use Rattle.query_words.specs.Terms.{end_at, end_of, ends_of, not_both, pairs_of, primary_side, query_of, sides_of, some_ports, ◌>>=◌}
 use Rattle.query_words.specs.declared.queries.Query.{Query}
 use Rattle.query_words.specs.declared.refusal.QueryRefusal.{QueryRefusal}
 use Rattle.query_words.specs.declared.refusal.QueryRefusal.TheVariants as refusals
 use Rattle.vpc_laws.proofs.Numbering.{accepted_numbers_are_own}
 use Rattle.vpc_laws.specs.Types.{Box5, Description, End, EniNo, Interface}
-use Rattle.vpc_model.specs.Accepted.{IsAccepted}
-use Rattle.vpc_model.specs.Lookup.{eni_no, has_interface, interface_at, no_interface}
-use Rattle.vpc_model.specs.Step.Crossing.{is_gateway}
+use Rattle.vpc_model.specs.Terms.{IsAccepted, eni_no, has_interface, interface_at, is_gateway, no_interface}
 use Rattle.vpc_model.specs.declared.places.End.TheVariants as places
 use Rattle.described_hosts.specs.Hosts.{id_of}
 use Rattle.reach_matrix.specs.Naming.{CanBeAsked, words_about}

@@ -4,3 +4,4 @@ pub mod Nat
 pub mod Peerings
 pub mod Transit
 pub mod Gateways
+pub mod Terms

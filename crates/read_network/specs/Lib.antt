@@ -6,3 +6,4 @@ pub mod Tables
 pub mod PrefixLists
 pub mod Network
 pub mod Appliances
+pub mod Terms

@@ -1,19 +1,9 @@
 -- The interface that has an address.
-use Rattle.std.proofs.Common.{◌*◌, ◌+◌, ◌++◌, ◌<◌, ◌==◌, ◌≡◌, ◌∙◌, ◌∷◌, ◌^◌, ◌&&◌, ◌||◌, [], Bool, List, None, Some, add-zero, ap, append_assoc, arith, bytes_eq, cond, drop, false, get_or, length, map, nat_lt, not, position, refl, replicate, suc, sym, true, zero, zero-add, ℕ}
-use Rattle.std.specs.List.{flat_map, list_any, position_or_len}
-use Rattle.std.proofs.lemmas.Bool.Decides.{nat_tests}
-use Rattle.std.proofs.lemmas.List.{drop_more, get_or-append-add, get_or-map, get_or-replicate, get_or_append_left, length-append, length-map, length-replicate}
-use Rattle.std.proofs.lemmas.List.Folds.{list_any-append, list_any_at}
-use Rattle.std.proofs.lemmas.Slice.Eq.{bytes_eq-Decides}
-use Rattle.vpc_base.proofs.Bytes.{bytes_eq-comm}
-use Rattle.vpc_base.proofs.Positions.{list_any-position, missing_number, position-nowhere, position-there}
-use Rattle.vpc_base.proofs.Tests.{list_any_map}
-use Rattle.vpc_model.specs.Accepted.{duplicate_ids, private_addresses, same_address}
-use Rattle.vpc_model.specs.Lookup.{has_address, has_vpc, is_in_vpc, vpc_at, vpc_of_interface}
-use Rattle.vpc_model.specs.declared.numbers.VpcNo.{VpcNo}
-use Rattle.vpc_model.specs.declared.rows.Description.{Description}
-use Rattle.vpc_model.specs.declared.rows.Interface.{Interface}
-use Rattle.vpc_model.specs.declared.rows.Vpc.{Vpc}
+use Rattle.std.proofs.Common.{Bool, List, None, Some, [], add-zero, ap, append_assoc, arith, bytes_eq, cond, drop, false, flat_map, get_or, length, map, nat_lt, not, position, refl, replicate, suc, sym, true, zero, zero-add, ℕ, ◌&&◌, ◌*◌, ◌++◌, ◌+◌, ◌<◌, ◌==◌, ◌^◌, ◌||◌, ◌∙◌, ◌∷◌, ◌≡◌}
+use Rattle.std.specs.List.{list_any, position_or_len}
+use Rattle.vpc_base.proofs.Lemmas.{bytes_eq-Decides, bytes_eq-comm, drop_more, get_or-append-add, get_or-map, get_or-replicate, get_or_append_left, length-append, length-map, length-replicate, list_any-append, list_any-position, list_any_at, list_any_map, missing_number, nat_tests, position-nowhere, position-there}
+use Rattle.vpc_model.specs.Terms.{duplicate_ids, has_address, has_vpc, is_in_vpc, private_addresses, same_address, vpc_at, vpc_of_interface}
+use Rattle.vpc_laws.specs.Types.{Description, Interface, Vpc, VpcNo}
 use Rattle.reference_check.specs.Hosts.{owners_from}
 use Rattle.reference_check.specs.Keys.{AreKeys, AreKnown, addresses_of, key_of}
 use Rattle.reference_check.proofs.Described.{vpcs-differ}

@@ -1,37 +1,18 @@
 -- What lets the answers of a replay through.
-use Rattle.std.proofs.Common.{◌≡◌, ◌==◌, ◌&&◌, ◌⊎◌, ◌∙◌, ◌∷◌, ◌++◌, [], List, None, Option, Some, ap, inl, inr, not, refl, subst, sym, true, ℕ}
-use Rattle.std.specs.List.{Contains}
-use Rattle.std.proofs.lemmas.Bool.{and_parts, cond_both}
-use Rattle.std.proofs.lemmas.Option.{none-some, same_Some}
-use Rattle.vpc_base.specs.Dir.{same_dir}
-use Rattle.vpc_base.specs.Header.{reply_of}
+use Rattle.std.proofs.Common.{Contains, List, None, Option, Some, [], ap, inl, inr, not, refl, subst, sym, true, ℕ, ◌&&◌, ◌++◌, ◌==◌, ◌∙◌, ◌∷◌, ◌≡◌, ◌⊎◌}
+use Rattle.vpc_base.proofs.Lemmas.{and_parts, cond_both, list_any-member, none-some, same_Some}
+use Rattle.vpc_base.specs.Terms.{reply_of, same_dir}
 use Rattle.vpc_base.specs.declared.headers.Dir.TheVariants.{Inward, Outward}
 use Rattle.vpc_base.specs.declared.headers.Label.TheVariants.{Answer}
-use Rattle.vpc_base.proofs.Members.{list_any-member}
 use Rattle.vpc_model.specs.declared.outcomes.By.TheVariants.{NoGroups, Nothing, Rule, Tracked}
 use Rattle.vpc_model.specs.declared.outcomes.Outcome.TheVariants.{Stopped}
 use Rattle.vpc_model.specs.declared.places.Place.TheVariants.{OutOf, Router, Enter, Into, IgwOut, Internet, IgwIn, NatOut, NatIn, Peer, Tgw, TgwLeave}
 use Rattle.vpc_model.specs.declared.stops.Stop.TheVariants.{DestCheck, Detached, GroupsIn, NatUnsolicited}
 use Rattle.vpc_laws.specs.Types.{By, Description, Dir, EniNo, Event, Header, Hop, Label, NatNo, Place, RuleRef, Stop}
-use Rattle.vpc_model.specs.Appliances.{Appliances}
-use Rattle.vpc_model.specs.Connections.{Connection, Passing, answer_passing, is_header, is_tracked, label_passing, passing_groups, passing_of}
-use Rattle.vpc_model.specs.Groups.{first_rule}
-use Rattle.vpc_model.specs.Lookup.{has_address, interface_at}
-use Rattle.vpc_model.specs.Nat.{Translation, inward}
-use Rattle.vpc_model.specs.Replay.{moment_of}
-use Rattle.vpc_model.specs.Step.{step_at, step_of}
-use Rattle.vpc_model.specs.Step.Interface.{in_passing, step_into}
-use Rattle.vpc_model.specs.Step.Nat.{from_inward}
-use Rattle.vpc_model.specs.Step.Words.{Moment, Step, stop}
-use Rattle.vpc_model.specs.Walk.{Walk, walk_of}
+use Rattle.vpc_model.specs.Terms.{Appliances, Connection, Moment, Passing, Step, Translation, Walk, answer_passing, first_rule, from_inward, has_address, in_passing, interface_at, inward, is_header, is_tracked, label_passing, moment_of, passing_groups, passing_of, step_at, step_into, step_of, stop, walk_of}
 use Rattle.vpc_model.proofs.Nexts.{go-header}
-use Rattle.vpc_laws.specs.Step.{AsksGroups, LetsPass, own_connection}
-use Rattle.vpc_laws.specs.Walk.{IsWalk}
-use Rattle.vpc_laws.proofs.Gateways.{inward_answers_opens}
-use Rattle.vpc_laws.proofs.Passing.{packets_pass_by_groups}
-use Rattle.vpc_laws.proofs.Replies.{is_header-some}
-use Rattle.vpc_laws.proofs.Same.{EniNo-same, same_dir-true, same_header-true, three}
-use Rattle.vpc_laws.proofs.Stepping.{walks_are_of_steps}
+use Rattle.vpc_laws.specs.Terms.{AsksGroups, IsWalk, LetsPass, own_connection}
+use Rattle.vpc_laws.proofs.Lemmas.{EniNo-same, inward_answers_opens, is_header-some, packets_pass_by_groups, same_dir-true, same_header-true, three, walks_are_of_steps}
 use Rattle.replay_laws.specs.Interleaved.{AnswersAreLetIn, AnswersAreToOpens, GoesOnAs, IsLetIn, IsStoppedInto, IsStopInto, PassedOutward, SentOut}
 use Rattle.replay_laws.proofs.Moments.{IsBefore, IsHopAt, befores_at, hops_at}
 use Rattle.replay_laws.proofs.Remembered.{IsOpened, IsTranslated}

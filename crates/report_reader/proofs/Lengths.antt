@@ -1,22 +1,15 @@
 -- How long printed reports are.
 use Rattle.std.proofs.Common.{◌≡◌, ◌+◌, ◌*◌, ◌≤◌, ◌<◌, ◌^◌, ◌++◌, ◌∷◌, [], All, List, arith, codes, decimal, length, length-append, lit<, suc, true, ℕ}
-use Rattle.std.proofs.lemmas.Bool.{and_parts, leb-true}
-use Rattle.std.proofs.lemmas.Fmt.{length-decimal-le}
-use Rattle.std.proofs.lemmas.List.Elements.{All-head, All-tail}
+use Rattle.vpc_base.proofs.Lemmas.{All-head, All-tail, and_parts, leb-true, length-decimal-le}
 use Rattle.header_boxes.specs.Boxes.{IsValid}
 use Rattle.header_boxes.proofs.Held.{valid_if_within}
 use Rattle.prefix_text.proofs.AddrLaws.{length-addr_text-le}
 use Rattle.prefix_text.proofs.RangeLaws.{length-range_text-le}
-use Rattle.prefix_text.specs.Addr.{addr_text}
-use Rattle.prefix_text.specs.Range.{range_text}
+use Rattle.prefix_text.specs.Terms.{addr_text, range_text}
 use Rattle.vpc_laws.specs.Types.{Box5, Description, Row, StopText}
-use Rattle.vpc_model.specs.Accepted.{IsAccepted}
-use Rattle.vpc_model.specs.Id.{is_id}
-use Rattle.vpc_model.specs.Told.{end_id}
-use Rattle.block_report.specs.Reports.{addresses_text, box_line, box_text, ends_line, report_of, report_text, row_line, row_lines_from}
-use Rattle.vpc_model.specs.Names.{name_text}
+use Rattle.vpc_model.specs.Terms.{IsAccepted, end_id, is_id, name_text}
+use Rattle.block_report.specs.Terms.{addresses_text, box_line, box_text, ends_line, phase_text, report_of, report_text, row_line, row_lines_from}
 use Rattle.vpc_model.proofs.Names.{visible_name}
-use Rattle.block_report.specs.Walks.{phase_text}
 use Rattle.report_reader.specs.declared.report.Report.{Report}
 use Rattle.report_reader.specs.ReadsBack.{Fits, IsPrintable, length_limit}
 use Rattle.report_reader.proofs.RowsOf.{IsRowOf, rows_of}

@@ -1,25 +1,16 @@
 -- The blocks of routes tell the route that the table chooses.
-use Rattle.std.proofs.Common.{◌≡◌, ℕ, ◌≤◌, ◌<◌, ◌+◌, ◌-◌, ◌*◌, ◌^◌, ◌&&◌, ◌⊎◌, Bool, List, None, Option, Some, [], ◌∷◌, ◌++◌, ap, arith, false, if◌then◌else◌, inl, inr, length, length-append, map, nat_le, not, refl, subst, suc, sym, true, zero, ◌∙◌}
-use Rattle.std.specs.Prelude.{is_some, option_map, unwrap_or}
-use Rattle.std.specs.List.{All, Contains, filter, flat_map, list_any, slice_get}
-use Rattle.std.proofs.lemmas.Bool.{and_cases, and_from, and_left, and_parts, and_right, both_ways, cases_Bool, cases_lt, cond_both, false_from_ne_true, le-leb, leb-true, not-false, not_from_false, not_from_true}
-use Rattle.std.proofs.lemmas.List.{length-map}
-use Rattle.std.proofs.lemmas.List.Elements.{All-contains, Contains-append_cases, Contains-append_left, Contains-append_right}
-use Rattle.std.proofs.lemmas.List.Folds.{Any-from_list_any}
-use Rattle.std.proofs.lemmas.Option.{get_or_from_slice_get, slice_get-get_or, slice_get_within}
-use Rattle.vpc_base.proofs.Members.{Contains-cases, Contains-filter, Contains-flat_map, Contains-here, Contains-map, Contains-none, filter-member, flat_map-member, length-filter-le, list_any-fails, map-member}
+use Rattle.std.proofs.Common.{All, Bool, Contains, List, None, Option, Some, [], ap, arith, false, filter, flat_map, if◌then◌else◌, inl, inr, is_some, length, length-append, map, nat_le, not, option_map, refl, slice_get, subst, suc, sym, true, unwrap_or, zero, ℕ, ◌&&◌, ◌*◌, ◌++◌, ◌+◌, ◌-◌, ◌<◌, ◌^◌, ◌∙◌, ◌∷◌, ◌≡◌, ◌≤◌, ◌⊎◌}
+use Rattle.std.specs.List.{list_any}
+use Rattle.vpc_base.proofs.Lemmas.{All-contains, Any-from_list_any, Contains-append_cases, Contains-append_left, Contains-append_right, Contains-cases, Contains-filter, Contains-flat_map, Contains-here, Contains-map, Contains-none, and_cases, and_from, and_left, and_parts, and_right, both_ways, cases_Bool, cases_lt, cond_both, false_from_ne_true, filter-member, flat_map-member, get_or_from_slice_get, le-leb, leb-true, length-filter-le, length-map, list_any-fails, map-member, not-false, not_from_false, not_from_true, slice_get-get_or, slice_get_within}
 use Rattle.prefix_text.specs.Block.{Block, IsBlock, holds, last_of}
 use Rattle.piece_table.specs.Pieces.{PieceLists, told_at}
 use Rattle.vpc_laws.specs.Choice.{Chooses, IsLongest, RouteYields, length_of}
 use Rattle.vpc_laws.specs.Types.{Description, Reach, Route}
 use Rattle.vpc_laws.proofs.Rows.{lists_match_by_longest, routes_are_chosen, unrouted_match_nothing}
 use Rattle.vpc_model.specs.declared.rows.Reach.TheVariants as reaches
-use Rattle.vpc_model.specs.Cuts.{all_cuts, block_cuts, blocks_of_reach, cuts_of_route}
-use Rattle.vpc_model.specs.Lookup.{entries_of}
-use Rattle.vpc_model.specs.Routes.{chosen_route, is_candidate, is_local, kind_of, kind_of_reach, match_length, matches}
+use Rattle.vpc_model.specs.Terms.{all_cuts, block_cuts, blocks_of_reach, chosen_route, cuts_of_route, entries_of, is_candidate, is_local, kind_of, kind_of_reach, match_length, matches}
 use Rattle.block_pieces.specs.declared.rows.BlockRow.{BlockRow}
-use Rattle.block_pieces.specs.Laws.{IsAsGood}
-use Rattle.block_pieces.specs.Told.{borders_of, told_by}
+use Rattle.block_pieces.specs.Terms.{IsAsGood, borders_of, told_by}
 use Rattle.block_pieces.proofs.Borders.{told-best, told-nothing}
 use Rattle.block_pieces.proofs.Nested.{nested}
 use Rattle.block_pieces.proofs.ToldLemmas.{best_is_told, none_is_told}

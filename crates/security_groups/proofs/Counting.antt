@@ -1,28 +1,11 @@
 -- Which groups count, and rows whose ids differ.
 use Rattle.std.proofs.Common.{◌≡◌, ◌∙◌, ◌&&◌, ◌++◌, ◌+◌, ◌<◌, ◌||◌, ◌∷◌, [], ℕ, Bool, List, None, Option, Some, ap, arith, bytes_eq, cond, false, get_or, inl, inr, length, map, not, option_and_then, option_map, position, refl, subst, suc, sym, take, true, zero}
 use Rattle.std.specs.List.{AllByRecursion, IsDistinct, list_any}
-use Rattle.std.proofs.lemmas.Bool.{cases_Bool, or_from}
-use Rattle.std.proofs.lemmas.List.{get_or-map, take-map}
-use Rattle.std.proofs.lemmas.List.Elements.{Contains-get_or}
-use Rattle.std.proofs.lemmas.Map.Keys.{IsDistinct-head, IsDistinct-tail}
-use Rattle.std.proofs.Math.Bool.{or-false}
-use Rattle.vpc_base.proofs.Bytes.{bytes_eq-comm, bytes_self, same_bytes}
-use Rattle.vpc_base.proofs.Members.{AllByRecursion-at, member-list_any, row-member}
-use Rattle.vpc_base.proofs.Positions.{position-at}
-use Rattle.vpc_model.specs.declared.numbers.GroupNo.{GroupNo}
-use Rattle.vpc_model.specs.declared.numbers.VpcNo.{VpcNo}
-use Rattle.vpc_model.specs.declared.rows.Description.{Description}
-use Rattle.vpc_model.specs.declared.rows.Group.{Group}
-use Rattle.vpc_model.specs.declared.rows.PrefixList.{PrefixList}
-use Rattle.vpc_model.specs.declared.rows.Vpc.{Vpc}
-use Rattle.vpc_model.specs.Accepted.{IsAccepted}
-use Rattle.vpc_model.specs.Groups.{are_peers, reference_counts}
-use Rattle.vpc_model.specs.Lookup.{group_at, group_of_id, has_vpc, no_group, vpc_at, vpc_no}
-use Rattle.vpc_model.specs.Sound.{is_vpc}
-use Rattle.vpc_laws.proofs.Accepting.{accepted_has_all_named, accepted_has_nothing_twice}
-use Rattle.vpc_laws.proofs.Numbering.{accepted_numbers_are_own}
-use Rattle.security_groups.specs.Peers.{ArePeers, are_joined}
-use Rattle.security_groups.specs.Resolved.{counted}
+use Rattle.vpc_base.proofs.Lemmas.{AllByRecursion-at, Contains-get_or, IsDistinct-head, IsDistinct-tail, bytes_eq-comm, bytes_self, cases_Bool, get_or-map, member-list_any, or-false, or_from, position-at, row-member, same_bytes, take-map}
+use Rattle.vpc_laws.specs.Types.{Description, Group, GroupNo, PrefixList, Vpc, VpcNo}
+use Rattle.vpc_model.specs.Terms.{IsAccepted, are_peers, group_at, group_of_id, has_vpc, is_vpc, no_group, reference_counts, vpc_at, vpc_no}
+use Rattle.vpc_laws.proofs.Lemmas.{accepted_has_all_named, accepted_has_nothing_twice, accepted_numbers_are_own}
+use Rattle.security_groups.specs.Terms.{ArePeers, are_joined, counted}
 use Rattle.security_groups.proofs.Numbered.{position-cons}
 use Rattle.security_groups.proofs.PeerPairs.{joined-is}
 use Rattle.security_groups.proofs.Steps.{map-next}

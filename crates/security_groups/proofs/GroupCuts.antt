@@ -1,34 +1,14 @@
 -- The cuts of an interface's place divide enough for the rules of its groups.
-use Rattle.std.proofs.Common.{◌≡◌, ◌∙◌, ◌+◌, ◌<◌, ◌∷◌, [], ℕ, Contains, List, None, Option, Some, ap, bytes_eq, get_or, inl, inr, length, option_map, position, subst}
-use Rattle.std.specs.List.{filter_map}
-use Rattle.std.proofs.lemmas.Bool.{ltb-true}
-use Rattle.std.proofs.lemmas.List.{get_or-map}
-use Rattle.std.proofs.lemmas.List.Elements.{Contains-append_left, Contains-append_right}
-use Rattle.std.proofs.lemmas.List.Sorted.{Contains-permutation, IsPermutation-sym}
-use Rattle.cut_laws.proofs.Among.{among_through, on_sides_among, row_among}
-use Rattle.cut_laws.proofs.Rows.{places_have_their_cuts}
+use Rattle.std.proofs.Common.{Contains, List, None, Option, Some, [], ap, bytes_eq, filter_map, get_or, inl, inr, length, option_map, position, subst, ℕ, ◌+◌, ◌<◌, ◌∙◌, ◌∷◌, ◌≡◌}
+use Rattle.vpc_base.proofs.Lemmas.{Contains-append_left, Contains-append_right, Contains-cases, Contains-here, Contains-later, Contains-none, Contains-permutation, IsPermutation-sym, filter_map-member, get_or-map, ltb-true, position-at, zip_at}
+use Rattle.cut_laws.proofs.Lemmas.{among_through, on_sides_among, places_have_their_cuts, row_among}
 use Rattle.cut_laws.specs.Dividing.{Divide}
 use Rattle.vpc_base.specs.Cuts.{AreAmong, CutLists, no_cuts}
-use Rattle.vpc_base.specs.declared.headers.Dir.{Dir}
+use Rattle.vpc_laws.specs.Types.{Description, Dir, Group, GroupNo, Permission}
 use Rattle.vpc_base.specs.declared.headers.Dir.TheVariants as dirs
-use Rattle.vpc_base.proofs.Members.{Contains-cases, Contains-here, Contains-later, Contains-none, filter_map-member}
-use Rattle.vpc_base.proofs.Positions.{position-at}
-use Rattle.vpc_base.proofs.Zips.{zip_at}
-use Rattle.vpc_model.specs.Cuts.{all_permissions, cuts_at, cuts_at_interface, cuts_of_group, cuts_of_group_id, cuts_of_permission, on_sides, standing_cuts}
-use Rattle.vpc_model.specs.Groups.{permissions_of}
-use Rattle.vpc_model.specs.Lookup.{group_at, group_of_id, no_group, no_interface}
-use Rattle.vpc_model.specs.declared.numbers.GroupNo.{GroupNo}
+use Rattle.vpc_model.specs.Terms.{all_permissions, cuts_at, cuts_at_interface, cuts_of_group, cuts_of_group_id, cuts_of_permission, group_at, group_of_id, no_group, no_interface, on_sides, permissions_of, standing_cuts}
 use Rattle.vpc_model.specs.declared.places.Place.TheVariants as places
-use Rattle.vpc_model.specs.declared.rows.Description.{Description}
-use Rattle.vpc_model.specs.declared.rows.Group.{Group}
-use Rattle.vpc_model.specs.declared.rows.Permission.{Permission}
-use Rattle.security_groups.specs.Asking.{no_rules}
-use Rattle.security_groups.specs.Dividing.{HasRuleCuts, rules_in}
-use Rattle.security_groups.specs.Rules.{DivideRule, DivideRules}
-use Rattle.security_groups.specs.Index.{GroupLists}
-use Rattle.security_groups.specs.Members.{groups_with, number_of}
-use Rattle.security_groups.specs.Resolved.{AreRulesOf, HasRulesIn, IsGroupOf, IsResolved, IsRuleOf}
-use Rattle.security_groups.specs.declared.rules.Rule.{Rule}
+use Rattle.security_groups.specs.Terms.{AreRulesOf, DivideRule, DivideRules, GroupLists, HasRuleCuts, HasRulesIn, IsGroupOf, IsResolved, IsRuleOf, Rule, groups_with, no_rules, number_of, rules_in}
 use Rattle.security_groups.proofs.RuleCuts.{all-members, once-member, rule-divides}
 
 -- ---- the rules of a direction

@@ -1,29 +1,13 @@
 -- Groups asked of images.
-use Rattle.std.proofs.Common.{◌≡◌, ◌∙◌, ◌||◌, ◌<◌, ◌∷◌, [], ℕ, Bool, List, None, Option, Some, ap, false, get_or, is_some, length, refl, slice_index_or, subst, sym, true}
-use Rattle.std.specs.Prelude.{IfSome, if◌then◌else◌, nat_lt}
-use Rattle.std.specs.List.{Contains, list_any}
-use Rattle.std.proofs.lemmas.List.{get_or_default}
-use Rattle.std.proofs.lemmas.List.Elements.{All-contains}
-use Rattle.address_sets.specs.declared.sets.Run.{Run}
-use Rattle.vpc_base.specs.declared.headers.Dir.{Dir}
-use Rattle.vpc_base.specs.declared.headers.Header.{Header}
-use Rattle.vpc_base.proofs.Members.{member-list_any}
-use Rattle.vpc_base.proofs.Options.{is_some-option_map}
-use Rattle.header_boxes.specs.declared.boxes.Box5.{Box5}
-use Rattle.box_images.specs.Answers.{Answers}
-use Rattle.box_images.specs.Images.{header_at}
-use Rattle.box_images.specs.declared.images.Image.{Image}
-use Rattle.box_images.specs.declared.images.Part.{Part}
-use Rattle.image_tests.proofs.Answering.{answers_more, answers_same}
-use Rattle.image_tests.proofs.Trying.{header_of_rest}
+use Rattle.std.proofs.Common.{Bool, Contains, IfSome, List, None, Option, Some, [], ap, false, get_or, if◌then◌else◌, is_some, length, nat_lt, refl, slice_index_or, subst, sym, true, ℕ, ◌<◌, ◌||◌, ◌∙◌, ◌∷◌, ◌≡◌}
+use Rattle.std.specs.List.{list_any}
+use Rattle.vpc_base.proofs.Lemmas.{All-contains, get_or_default, is_some-option_map, member-list_any}
+use Rattle.image_tests.specs.Types.{Image, Part, Run}
+use Rattle.vpc_laws.specs.Types.{Box5, Dir, EniNo, Header}
+use Rattle.box_images.specs.Terms.{Answers, header_at}
+use Rattle.image_tests.proofs.Lemmas.{answers_more, answers_same, header_of_rest}
 use Rattle.vpc_model.specs.Choice.{or_else}
-use Rattle.security_groups.specs.Asking.{first_in_group, first_of, least, lesser, no_rules, rules_of}
-use Rattle.vpc_model.specs.declared.numbers.EniNo.{EniNo}
-use Rattle.security_groups.specs.Index.{GroupLists, allowed}
-use Rattle.security_groups.specs.Dividing.{DivideAt, DivideGroups, IsAllowedOn, any_group_allows, rule_at, rules_in}
-use Rattle.security_groups.specs.Rules.{DivideRule, DivideRules, allows, any_allows}
-use Rattle.security_groups.specs.declared.groups.GroupRules.{GroupRules}
-use Rattle.security_groups.specs.declared.rules.Rule.{Rule}
+use Rattle.security_groups.specs.Terms.{DivideAt, DivideGroups, DivideRule, DivideRules, GroupLists, GroupRules, IsAllowedOn, Rule, allowed, allows, any_allows, any_group_allows, first_in_group, first_of, least, lesser, no_rules, rule_at, rules_in, rules_of}
 
 abbrev pub group_test : List (List Run) → List ℕ → List GroupRules → Dir → Image → ℕ → Header → Bool
 group_test lists members groups dir i n h = any_allows lists members dir (rules_in groups dir n) (header_at i h)

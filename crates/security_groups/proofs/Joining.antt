@@ -1,32 +1,16 @@
 -- One rule in place of several.
-use Rattle.std.proofs.Common.{◌≡◌, ◌∙◌, ◌&&◌, ◌++◌, ◌+◌, ◌-◌, ◌<◌, ◌≤◌, ◌||◌, ◌∷◌, [], ℕ, Bool, IfSome, List, None, Option, Some, ap, arith, drop, false, get_or, length, not, refl, subst, sym, take, true}
-use Rattle.std.specs.List.{All, AllWithin, Contains, flat_map, list_any}
-use Rattle.std.specs.List.Sorted.{IsPermutation}
-use Rattle.std.proofs.lemmas.List.{get_or-drop, get_or-take, get_or_default, length-drop, length-take, take_all}
-use Rattle.std.proofs.lemmas.List.Elements.{All-cons, All-contains, All-head, All-nil, All-push, All-tail, AllWithin-more, at_read}
-use Rattle.std.proofs.lemmas.List.Folds.{list_any-append}
-use Rattle.std.proofs.lemmas.List.Sorted.{All-permutation, IsPermutation-refl, IsPermutation-sym, list_any-IsPermutation}
-use Rattle.std.proofs.Math.Bool.{or-false}
+use Rattle.std.proofs.Common.{All, Bool, Contains, IfSome, IsPermutation, List, None, Option, Some, [], ap, arith, drop, false, flat_map, get_or, length, not, refl, subst, sym, take, true, ℕ, ◌&&◌, ◌++◌, ◌+◌, ◌-◌, ◌<◌, ◌||◌, ◌∙◌, ◌∷◌, ◌≡◌, ◌≤◌}
+use Rattle.std.specs.List.{AllWithin, list_any}
+use Rattle.vpc_base.proofs.Lemmas.{All-cons, All-contains, All-head, All-nil, All-permutation, All-push, All-tail, AllWithin-more, IsPermutation-refl, IsPermutation-sym, at_read, flat_map-member, get_or-drop, get_or-take, get_or_default, length-drop, length-take, list_any-IsPermutation, list_any-append, or-false, take_all}
 use Rattle.address_sets.specs.Runs.{is_in, is_of}
-use Rattle.address_sets.specs.declared.sets.Run.{Run}
-use Rattle.box_images.specs.Answers.{Answers}
-use Rattle.box_images.specs.Images.{header_at}
-use Rattle.box_images.specs.declared.images.Image.{Image}
-use Rattle.box_images.specs.declared.images.Part.{Part}
+use Rattle.image_tests.specs.Types.{Image, Part, Run}
+use Rattle.box_images.specs.Terms.{Answers, header_at}
 use Rattle.cut_laws.specs.Dividing.{CutOut, Divide, DivideTurns}
-use Rattle.header_boxes.specs.declared.boxes.Box5.{Box5}
+use Rattle.vpc_laws.specs.Types.{Box5, Dir, Header}
 use Rattle.image_tests.proofs.Answering.{answers_more, answers_same}
 use Rattle.vpc_base.specs.Cuts.{CutLists}
-use Rattle.vpc_base.specs.declared.headers.Dir.{Dir}
-use Rattle.vpc_base.specs.declared.headers.Header.{Header}
-use Rattle.vpc_base.proofs.Members.{flat_map-member}
-use Rattle.vpc_model.specs.Cuts.{cuts_of_rule}
-use Rattle.vpc_model.specs.Filter.{far_address, is_between, matches_proto}
-use Rattle.security_groups.specs.Dividing.{IsAllowedOn, rule_at}
-use Rattle.security_groups.specs.Rules.{DivideRule, DivideRules, allows, any_allows, has_entry, has_member, names}
-use Rattle.security_groups.specs.Joined.{AreAlike, IsJoint, SayTheSame}
-use Rattle.security_groups.specs.Once.{once}
-use Rattle.security_groups.specs.declared.rules.Rule.{Rule}
+use Rattle.vpc_model.specs.Terms.{cuts_of_rule, far_address, is_between, matches_proto}
+use Rattle.security_groups.specs.Terms.{AreAlike, DivideRule, DivideRules, IsAllowedOn, IsJoint, Rule, SayTheSame, allows, any_allows, has_entry, has_member, names, once, rule_at}
 use Rattle.security_groups.proofs.OnceEach.{list_any-once}
 use Rattle.security_groups.proofs.RuleCuts.{all-members, once-member, turns-alike}
 use Rattle.security_groups.proofs.Runs.{take-add}

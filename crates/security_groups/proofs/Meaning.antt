@@ -1,31 +1,13 @@
 -- The first rule by numbers is the first rule of the description.
-use Rattle.std.proofs.Common.{◌≡◌, ◌∙◌, ◌&&◌, ◌+◌, ◌<◌, ◌∷◌, ◌^◌, [], ℕ, List, None, Option, Some, ap, arith, bytes_eq, false, find, get_or, inl, inr, length, option_map, position, refl, suc, true, sym}
-use Rattle.std.specs.List.{filter_map, list_any}
-use Rattle.std.proofs.lemmas.Bool.{cases_Bool, ltb-true}
-use Rattle.std.proofs.lemmas.List.{get_or-map}
+use Rattle.std.proofs.Common.{List, None, Option, Some, [], ap, arith, bytes_eq, false, filter_map, find, get_or, inl, inr, length, option_map, position, refl, suc, sym, true, ℕ, ◌&&◌, ◌+◌, ◌<◌, ◌^◌, ◌∙◌, ◌∷◌, ◌≡◌}
+use Rattle.std.specs.List.{list_any}
+use Rattle.vpc_base.proofs.Lemmas.{cases_Bool, get_or-map, list_any-agree, ltb-true, option_map-map, position-at, zip_at}
 use Rattle.address_sets.specs.declared.sets.Run.{Run}
 use Rattle.prefix_text.specs.Block.{holds}
-use Rattle.vpc_base.specs.declared.headers.Dir.{Dir}
+use Rattle.vpc_laws.specs.Types.{Description, Dir, Group, Header, Permission}
 use Rattle.vpc_base.specs.declared.headers.Dir.TheVariants as dirs
-use Rattle.vpc_base.specs.declared.headers.Header.{Header}
-use Rattle.vpc_base.proofs.Options.{option_map-map}
-use Rattle.vpc_base.proofs.Positions.{position-at}
-use Rattle.vpc_base.proofs.Tests.{list_any-agree}
-use Rattle.vpc_base.proofs.Zips.{zip_at}
-use Rattle.vpc_model.specs.declared.rows.Description.{Description}
-use Rattle.vpc_model.specs.declared.rows.Group.{Group}
-use Rattle.vpc_model.specs.declared.rows.Permission.{Permission}
-use Rattle.vpc_model.specs.Choice.{or_else}
-use Rattle.vpc_model.specs.Filter.{far_address}
-use Rattle.vpc_model.specs.Groups.{first_rule_of, is_member, names_address, permission_allows, permissions_of, reference_counts, rule_of_group}
-use Rattle.vpc_model.specs.Lookup.{entries_of, no_group, no_interface}
-use Rattle.security_groups.specs.declared.groups.GroupRules.{GroupRules}
-use Rattle.security_groups.specs.declared.rules.Rule.{Rule}
-use Rattle.security_groups.specs.Asking.{first_in_group, first_of, least, no_rules, rules_of}
-use Rattle.security_groups.specs.Rules.{allows, has_entry, has_member, names}
-use Rattle.security_groups.specs.Index.{GroupLists, HasRulesOf}
-use Rattle.security_groups.specs.Members.{groups_with, number_of}
-use Rattle.security_groups.specs.Resolved.{AreRulesOf, HasRulesIn, IsGroupOf, IsResolved, IsRuleOf, counted, list_no}
+use Rattle.vpc_model.specs.Terms.{entries_of, far_address, first_rule_of, is_member, names_address, no_group, no_interface, or_else, permission_allows, permissions_of, reference_counts, rule_of_group}
+use Rattle.security_groups.specs.Terms.{AreRulesOf, GroupLists, GroupRules, HasRulesIn, HasRulesOf, IsGroupOf, IsResolved, IsRuleOf, Rule, allows, counted, first_in_group, first_of, groups_with, has_entry, has_member, least, list_no, names, no_rules, number_of, rules_of}
 use Rattle.security_groups.proofs.Least.{least-IsPermutation, least-find}
 use Rattle.security_groups.proofs.Numbered.{any_entry-is, any_if, any_member-is, list_any-filter_map, position-cons}
 use Rattle.security_groups.proofs.OnceEach.{first_value, first_value-once, list_any-once}

@@ -1,30 +1,15 @@
 -- Groups, members and prefix lists, found by numbers as by ids.
-use Rattle.std.proofs.Common.{◌≡◌, ◌∙◌, ◌&&◌, ◌+◌, ◌<◌, ◌==◌, ◌||◌, ◌∷◌, ◌^◌, [], ℕ, Bool, List, None, Option, Some, ap, arith, bytes_eq, cond, false, find, get_or, inl, inr, length, ltb, map, option_map, position, refl, subst, suc, sym, true}
-use Rattle.std.specs.List.{All, AllByRecursion, AllZip, filter_map, flat_map, list_any, position_or_len}
-use Rattle.std.proofs.lemmas.Bool.{and_right, both_ways, cases_Bool, cases_lt, eq-eqb, false_from_ne_true, le-ltb, lt-ltb, ne_eqb}
-use Rattle.std.proofs.lemmas.List.{get_or_default}
-use Rattle.std.proofs.lemmas.List.Elements.{All-head, All-tail, recursion_from_All}
-use Rattle.std.proofs.lemmas.List.Folds.{list_any-append}
-use Rattle.vpc_base.proofs.Bytes.{bytes_self, same_bytes}
-use Rattle.vpc_base.proofs.Positions.{missing_number, position-at}
-use Rattle.vpc_base.proofs.Tests.{find-nowhere, list_any-agree}
-use Rattle.vpc_base.proofs.Zips.{zip_at}
+use Rattle.std.proofs.Common.{All, Bool, List, None, Option, Some, [], ap, arith, bytes_eq, cond, false, filter_map, find, flat_map, get_or, inl, inr, length, ltb, map, option_map, position, refl, subst, suc, sym, true, ℕ, ◌&&◌, ◌+◌, ◌<◌, ◌==◌, ◌^◌, ◌||◌, ◌∙◌, ◌∷◌, ◌≡◌}
+use Rattle.std.specs.List.{AllByRecursion, AllZip, list_any, position_or_len}
+use Rattle.vpc_base.proofs.Lemmas.{All-head, All-tail, and_right, both_ways, bytes_self, cases_Bool, cases_lt, eq-eqb, false_from_ne_true, find-nowhere, get_or_default, le-ltb, list_any-agree, list_any-append, lt-ltb, missing_number, ne_eqb, position-at, recursion_from_All, same_bytes, zip_at}
 use Rattle.address_sets.specs.declared.sets.Run.{Run}
 use Rattle.prefix_text.specs.Block.{Block, holds}
-use Rattle.vpc_model.specs.declared.numbers.GroupNo.{GroupNo}
-use Rattle.vpc_model.specs.declared.rows.Description.{Description}
-use Rattle.vpc_model.specs.declared.rows.Group.{Group}
-use Rattle.vpc_model.specs.declared.rows.Interface.{Interface}
-use Rattle.vpc_model.specs.declared.rows.PrefixList.{PrefixList}
-use Rattle.vpc_model.specs.Groups.{are_peers, is_member, reference_counts}
-use Rattle.vpc_model.specs.Lookup.{entries_of, has_address, is_listed, no_group}
+use Rattle.vpc_laws.specs.Types.{Description, Group, GroupNo, Interface, PrefixList}
+use Rattle.vpc_model.specs.Terms.{are_peers, entries_of, has_address, is_listed, is_member, no_group, reference_counts}
 use Rattle.reference_check.proofs.Maps.{found_number, read_row}
 use Rattle.number_tables.specs.Keys.{key_of}
 use Rattle.number_tables.proofs.KeyLemmas.{key_of-same}
-use Rattle.security_groups.specs.Rules.{has_entry, has_member}
-use Rattle.security_groups.specs.Lists.{HasEntriesOf}
-use Rattle.security_groups.specs.Members.{AreFit, all_members, groups_with, key_with, keys_with, number_of}
-use Rattle.security_groups.specs.Resolved.{counted, list_no}
+use Rattle.security_groups.specs.Terms.{AreFit, HasEntriesOf, all_members, counted, groups_with, has_entry, has_member, key_with, keys_with, list_no, number_of}
 use Rattle.security_groups.proofs.OnceEach.{list_any-once}
 
 -- ---- searches

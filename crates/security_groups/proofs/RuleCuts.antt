@@ -1,24 +1,15 @@
 -- The cuts of an interface's place divide enough for the rules of its groups.
-use Rattle.std.proofs.Common.{◌≡◌, ◌∙◌, ◌+◌, ◌==◌, [], ℕ, Bool, Contains, List, ap, get_or, not, refl, subst, sym, true}
-use Rattle.std.specs.List.{All, filter_map, flat_map, list_any}
-use Rattle.std.proofs.lemmas.Bool.{eq-eqb, eqb-true}
-use Rattle.std.proofs.lemmas.List.Elements.{Contains-append_left, Contains-append_right, Contains-get_or}
+use Rattle.std.proofs.Common.{All, Bool, Contains, List, [], ap, filter_map, flat_map, get_or, not, refl, subst, sym, true, ℕ, ◌+◌, ◌==◌, ◌∙◌, ◌≡◌}
+use Rattle.std.specs.List.{list_any}
+use Rattle.vpc_base.proofs.Lemmas.{Contains-append_left, Contains-append_right, Contains-flat_map, Contains-get_or, eq-eqb, eqb-true, filter_map-member, flat_map-member, list_any-member, member-list_any}
 use Rattle.address_sets.specs.Runs.{is_in}
 use Rattle.prefix_text.specs.Block.{Block, holds}
-use Rattle.cut_laws.proofs.Among.{among_through, none_within, on_sides_among}
-use Rattle.cut_laws.proofs.Turning.{blocks-divide}
+use Rattle.cut_laws.proofs.Lemmas.{among_through, blocks-divide, none_within, on_sides_among}
 use Rattle.cut_laws.specs.Dividing.{Divide, DivideTurns}
 use Rattle.vpc_base.specs.Cuts.{AreAmong, CutLists}
-use Rattle.vpc_base.proofs.Members.{Contains-flat_map, filter_map-member, flat_map-member, list_any-member, member-list_any}
-use Rattle.vpc_model.specs.Cuts.{block_cuts, blocks_of_permission, cuts_of_blocks, cuts_of_permission, cuts_of_rule, on_sides, standing_cuts}
-use Rattle.vpc_model.specs.Lookup.{entries_of}
-use Rattle.vpc_model.specs.declared.rows.Description.{Description}
-use Rattle.vpc_model.specs.declared.rows.Permission.{Permission}
-use Rattle.security_groups.specs.Rules.{DivideRule, has_entry}
-use Rattle.security_groups.specs.Index.{GroupLists}
-use Rattle.security_groups.specs.Once.{once}
-use Rattle.security_groups.specs.Resolved.{IsResolved, IsRuleOf, list_no}
-use Rattle.security_groups.specs.declared.rules.Rule.{Rule}
+use Rattle.vpc_model.specs.Terms.{block_cuts, blocks_of_permission, cuts_of_blocks, cuts_of_permission, cuts_of_rule, entries_of, on_sides, standing_cuts}
+use Rattle.vpc_laws.specs.Types.{Description, Permission}
+use Rattle.security_groups.specs.Terms.{DivideRule, GroupLists, IsResolved, IsRuleOf, Rule, has_entry, list_no, once}
 use Rattle.security_groups.proofs.MemberCuts.{members-are-cut-out}
 use Rattle.security_groups.proofs.Numbered.{any_entry-is, any_if}
 use Rattle.security_groups.proofs.OnceEach.{list_any-once}

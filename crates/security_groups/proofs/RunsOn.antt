@@ -1,41 +1,22 @@
 -- Rules that are asked of images run by run.
-use Rattle.std.proofs.Common.{suc, zero, ◌≡◌, ◌∙◌, ◌&&◌, ◌||◌, ◌*◌, ◌+◌, ◌-◌, ◌<◌, ◌≤◌, ◌∷◌, ⊎_elim, [], ℕ, Bool, List, ap, arith, drop, false, get_or, length, nat_le, refl, subst, sym, take, true}
-use Rattle.std.proofs.Math.Bool.{or-false}
-use Rattle.std.proofs.Math.Seq.{drop-drop}
-use Rattle.std.specs.List.{All, AllWithin, list_any}
+use Rattle.std.proofs.Common.{All, Bool, List, [], ap, arith, drop, false, get_or, length, nat_le, refl, subst, suc, sym, take, true, zero, ℕ, ⊎_elim, ◌&&◌, ◌*◌, ◌+◌, ◌-◌, ◌<◌, ◌||◌, ◌∙◌, ◌∷◌, ◌≡◌, ◌≤◌}
+use Rattle.vpc_base.proofs.Lemmas.{All-contains, All-drop, All-head, All-tail, All-take, AllWithin-more, at_read, cases_lt, drop-drop, drop_all, get_or-drop, get_or_default, length-drop, list_any-append, lt-leb, nat_tests, or-false, take-append-drop, take_rest}
+use Rattle.std.specs.List.{AllWithin, list_any}
 use Rattle.std.specs.List.Sorted.{IsNonDecreasingBy}
-use Rattle.std.proofs.lemmas.Bool.{cases_lt, lt-leb}
-use Rattle.std.proofs.lemmas.Bool.Decides.{nat_tests}
-use Rattle.std.proofs.lemmas.List.{get_or-drop, get_or_default, drop_all, length-drop, take-append-drop, take_rest}
-use Rattle.std.proofs.lemmas.List.Elements.{All-contains, All-drop, All-head, All-tail, All-take, AllWithin-more, at_read}
-use Rattle.std.proofs.lemmas.List.Folds.{list_any-append}
-use Rattle.address_sets.specs.declared.sets.Run.{Run}
+use Rattle.image_tests.specs.Types.{Image, Part, Run}
 use Rattle.vpc_base.specs.Cuts.{CutLists}
-use Rattle.vpc_base.specs.declared.headers.Dir.{Dir}
-use Rattle.vpc_base.specs.declared.headers.Header.{Header}
-use Rattle.header_boxes.proofs.BoxLaws.{within_holds}
-use Rattle.header_boxes.proofs.Held.{holds_low, valid_if_within}
+use Rattle.vpc_laws.specs.Types.{Box5, Dir, Header}
+use Rattle.header_boxes.proofs.Lemmas.{holds_low, valid_if_within, within_holds}
 use Rattle.header_boxes.specs.Boxes.{IsWithin, holds, low_of}
-use Rattle.header_boxes.specs.declared.boxes.Box5.{Box5}
 use Rattle.box_images.proofs.Reducing.{reduced_all, reduced_by, reduced_nothing, reduced_same, reduced_to, walk_within}
-use Rattle.box_images.specs.Answers.{Answers}
-use Rattle.box_images.specs.Fields.{greatest_of}
-use Rattle.box_images.specs.Images.{IsImageOfWalk, IsValidImage, KeepsKind, header_at}
+use Rattle.box_images.specs.Terms.{Answers, IsImageOfWalk, IsValidImage, KeepsKind, greatest_of, header_at}
 use Rattle.box_images.specs.declared.fields.Side.TheVariants.{Q}
-use Rattle.box_images.specs.declared.images.Image.{Image}
-use Rattle.box_images.specs.declared.images.Part.{Part}
 use Rattle.cut_laws.specs.Dividing.{Divide}
-use Rattle.image_tests.proofs.Answering.{answers_more, answers_same}
-use Rattle.image_tests.proofs.EdgeCuts.{range_of_rule}
-use Rattle.image_tests.proofs.Stretches.{low-is-least, number-greatest}
-use Rattle.image_tests.proofs.Trying.{header_of_rest}
+use Rattle.image_tests.proofs.Lemmas.{answers_more, answers_same, header_of_rest, low-is-least, number-greatest, range_of_rule}
 use Rattle.image_tests.specs.Tests.{cuts_of_range}
-use Rattle.security_groups.specs.declared.rules.Rule.{Rule}
+use Rattle.security_groups.specs.Terms.{AllowsNone, AreBegun, AreEnded, AreLasts, BeginAfter, DivideRule, DivideRules, EndBy, IsLeftWith, Rule, allows, any_allows, names, run_of}
 use Rattle.vpc_model.specs.Filter.{far_address, matches_proto}
 use Rattle.security_groups.proofs.Runs.{starts-later}
-use Rattle.security_groups.specs.Dividing.{AllowsNone, IsLeftWith}
-use Rattle.security_groups.specs.Rules.{DivideRule, DivideRules, allows, any_allows, names}
-use Rattle.security_groups.specs.Tables.{AreBegun, AreEnded, AreLasts, BeginAfter, EndBy, run_of}
 
 -- ---- one of some rules
 

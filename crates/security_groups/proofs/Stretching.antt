@@ -1,30 +1,17 @@
 -- How far from an address on tests give one answer.
-use Rattle.std.proofs.Common.{◌≡◌, ◌∙◌, ◌&&◌, ◌+◌, ◌<◌, ◌≤◌, ◌⊎◌, ◌||◌, ◌∷◌, [], ℕ, Bool, List, ap, arith, false, get_or, inl, inr, length, min, not, refl, subst, sym, take, true}
-use Rattle.std.specs.List.{Contains, list_any}
-use Rattle.std.proofs.lemmas.Bool.{cases_lt}
-use Rattle.std.proofs.lemmas.List.{take_all, take_more}
-use Rattle.std.proofs.lemmas.List.Folds.{list_any-append, list_any_at}
-use Rattle.std.proofs.Math.Bool.{or-false}
+use Rattle.std.proofs.Common.{Bool, Contains, List, [], ap, arith, false, get_or, inl, inr, length, min, not, refl, subst, sym, take, true, ℕ, ◌&&◌, ◌+◌, ◌<◌, ◌||◌, ◌∙◌, ◌∷◌, ◌≡◌, ◌≤◌, ◌⊎◌}
+use Rattle.std.specs.List.{list_any}
+use Rattle.vpc_base.proofs.Lemmas.{cases_lt, list_any-append, list_any_at, or-false, take_all, take_more}
 use Rattle.address_sets.specs.Runs.{IsStretch, is_in}
-use Rattle.address_sets.specs.declared.sets.Run.{Run}
-use Rattle.box_images.specs.Answers.{Answers}
-use Rattle.box_images.specs.Bodies.{IsBody}
-use Rattle.box_images.specs.Fields.{greatest_of, number_of}
-use Rattle.box_images.specs.Images.{field_of, header_at}
-use Rattle.box_images.specs.declared.fields.Side.{Side}
-use Rattle.box_images.specs.declared.images.Image.{Image}
+use Rattle.image_tests.specs.Types.{Image, Run, Side}
+use Rattle.box_images.specs.Terms.{Answers, IsBody, field_of, greatest_of, header_at, number_of}
 use Rattle.cut_laws.specs.Dividing.{CutOut, DivideTurns}
-use Rattle.header_boxes.specs.declared.boxes.Box5.{Box5}
-use Rattle.image_tests.proofs.KeyStretches.{stretch-cut}
-use Rattle.image_tests.proofs.Stretches.{least-number, number-greatest}
+use Rattle.vpc_laws.specs.Types.{Box5, Dir, Header}
+use Rattle.image_tests.proofs.Lemmas.{least-number, number-greatest, stretch-cut}
 use Rattle.image_tests.specs.Keys.{EndsBy, IsKeyStretch, low_on}
 use Rattle.vpc_base.specs.Cuts.{CutLists}
-use Rattle.vpc_base.specs.declared.headers.Dir.{Dir}
-use Rattle.vpc_base.specs.declared.headers.Header.{Header}
 use Rattle.vpc_model.specs.Filter.{far_address, is_between, matches_proto}
-use Rattle.security_groups.specs.Dividing.{AllowsNone, IsStretchOf}
-use Rattle.security_groups.specs.Rules.{DivideRule, allows, has_member, names}
-use Rattle.security_groups.specs.declared.rules.Rule.{Rule}
+use Rattle.security_groups.specs.Terms.{AllowsNone, DivideRule, IsStretchOf, Rule, allows, has_member, names}
 
 -- ---- one test
 

@@ -10,3 +10,4 @@ pub mod Resolved
 pub mod Dividing
 pub mod Joined
 pub mod Alike
+pub mod Terms

@@ -1,29 +1,15 @@
 -- Rows by their numbers, and what stands in an index at them.
-use Rattle.std.proofs.Common.{◌≡◌, ◌<◌, ◌^◌, ◌∙◌, ℕ, Bool, Contains, List, None, Option, Some, [], ap, arith, bytes_eq, cond, false, get_or, length, nat_lt, position, refl, subst, sym, true}
-use Rattle.std.specs.Prelude.{option_and_then}
-use Rattle.std.specs.List.{All, find, position_or_len, slice_get}
-use Rattle.std.proofs.lemmas.Bool.{ltb-false, ltb-true}
-use Rattle.std.proofs.lemmas.List.{length-map}
-use Rattle.std.proofs.lemmas.List.Elements.{Contains-get_or}
-use Rattle.std.proofs.lemmas.List.Folds.{find_at}
-use Rattle.std.proofs.lemmas.Option.{slice_get_past}
-use Rattle.vpc_base.proofs.Members.{row-member}
+use Rattle.std.proofs.Common.{All, Bool, Contains, List, None, Option, Some, [], ap, arith, bytes_eq, cond, false, find, get_or, length, nat_lt, option_and_then, position, refl, slice_get, subst, sym, true, ℕ, ◌<◌, ◌^◌, ◌∙◌, ◌≡◌}
+use Rattle.std.specs.List.{position_or_len}
+use Rattle.vpc_base.proofs.Lemmas.{Contains-get_or, find_at, length-map, ltb-false, ltb-true, row-member, slice_get_past}
 use Rattle.number_tables.specs.declared.tables.Entry.{Entry}
 use Rattle.piece_table.specs.Pieces.{PieceLists}
-use Rattle.vpc_laws.proofs.Lengths.{accepted_has_short_lists}
-use Rattle.vpc_laws.proofs.Numbering.{ids_are_found, no_subnet}
+use Rattle.vpc_laws.proofs.Lemmas.{accepted_has_short_lists, ids_are_found, no_subnet}
 use Rattle.vpc_laws.specs.Types.{Association, AttNo, Attachment, Description, Subnet, SubnetNo, TgwTableNo}
-use Rattle.vpc_model.specs.Accepted.{IsAccepted}
-use Rattle.vpc_model.specs.Lookup.{has_subnet, subnet_at, subnet_no, tgw_table_of_id}
-use Rattle.vpc_model.specs.Sound.{is_attachment, is_subnet, is_tgw_table}
+use Rattle.vpc_model.specs.Terms.{IsAccepted, has_subnet, is_attachment, is_subnet, is_tgw_table, subnet_at, subnet_no, tgw_table_of_id}
 use Rattle.reference_check.specs.FirstNumbers.{number_in}
-use Rattle.transit_gateway.specs.Index.{HasAttachment, HasSubnet, HasTable, IsTransitOf, routes_of}
+use Rattle.transit_gateway.specs.Terms.{HasAttachment, HasSubnet, HasTable, IsRouteTable, IsTransitOf, TransitLists, routes_of, table_of_row, zone_entry, zone_no}
 use Rattle.number_tables.specs.Keys.{key_of}
-use Rattle.transit_gateway.specs.Lists.{TransitLists}
-use Rattle.transit_gateway.specs.Rows.{IsRouteTable}
-use Rattle.transit_gateway.specs.Tables.{table_of_row}
-use Rattle.transit_gateway.specs.Sites.{zone_no}
-use Rattle.transit_gateway.specs.Zones.{zone_entry}
 
 -- ---- lists that numbers of 32 bits count
 

@@ -1,25 +1,10 @@
 -- What the tables tell of coming in and leaving is what the description says.
 use Rattle.std.proofs.Common.{◌≡◌, ◌∙◌, ◌&&◌, [], ℕ, Bool, List, None, Option, Some, ap, bytes_eq, cond, false, get_or, length, map, option_map, position, refl, true}
-use Rattle.std.proofs.lemmas.Bool.{and_parts, ltb-true}
-use Rattle.std.proofs.lemmas.List.{get_or-map, length-map}
-use Rattle.vpc_base.proofs.Bytes.{same_bytes}
-use Rattle.vpc_base.proofs.Members.{row-member}
-use Rattle.vpc_base.proofs.Positions.{position-at}
+use Rattle.vpc_base.proofs.Lemmas.{and_parts, get_or-map, length-map, ltb-true, position-at, row-member, same_bytes}
 use Rattle.vpc_laws.specs.Types.{AttNo, Attachment, Description, SubnetNo}
-use Rattle.vpc_laws.proofs.Accepting.{accepted_has_all_named}
-use Rattle.vpc_laws.proofs.Numbering.{no_subnet}
-use Rattle.vpc_model.specs.Accepted.{IsAccepted}
-use Rattle.vpc_model.specs.Choice.{or_else}
-use Rattle.vpc_model.specs.Lookup.{attachment_at, has_vpc, subnet_at, vpc_no}
-use Rattle.vpc_model.specs.Sound.{is_attachment, is_subnet}
-use Rattle.vpc_model.specs.Transit.{attachment_for, first_subnet, leave_subnet, subnet_in_zone, zone_subnet}
-use Rattle.transit_gateway.specs.Gateways.{HasGatewaysOf, attachment_in}
-use Rattle.transit_gateway.specs.Index.{AreRouteTables, IsTransitOf, enter_by, enter_zone, entered, entered_in}
-use Rattle.transit_gateway.specs.Lists.{TransitLists}
-use Rattle.transit_gateway.specs.Sites.{site_of}
-use Rattle.transit_gateway.specs.Tables.{table_of_row}
-use Rattle.transit_gateway.specs.Zones.{HasZonesOf, first_of, inner_subnets, leaving, zone_subnet_in}
-use Rattle.transit_gateway.specs.declared.sites.Site.{Site}
+use Rattle.vpc_laws.proofs.Lemmas.{accepted_has_all_named, no_subnet}
+use Rattle.vpc_model.specs.Terms.{IsAccepted, attachment_at, attachment_for, first_subnet, has_vpc, is_attachment, is_subnet, leave_subnet, or_else, subnet_at, subnet_in_zone, vpc_no, zone_subnet}
+use Rattle.transit_gateway.specs.Terms.{AreRouteTables, HasGatewaysOf, HasZonesOf, IsTransitOf, Site, TransitLists, attachment_in, enter_by, enter_zone, entered, entered_in, first_of, inner_subnets, leaving, site_of, table_of_row, zone_subnet_in}
 use Rattle.transit_gateway.proofs.Entering.{no_attachment}
 use Rattle.transit_gateway.proofs.InZones.{site-is}
 

@@ -1,30 +1,16 @@
 -- The first attachment of a gateway to a VPC, found in the tables.
-use Rattle.std.proofs.Common.{◌≡◌, ◌∙◌, ◌&&◌, ◌+◌, ◌++◌, ◌<◌, ◌==◌, ◌∷◌, ◌^◌, [], ℕ, Bool, Contains, Err, List, None, Ok, Option, Result, Some, ap, arith, bytes_eq, cond, false, find, if◌then◌else◌, inl, inr, length, option_map, position, refl, subst, sym, true}
-use Rattle.std.specs.Prelude.{option_and_then}
+use Rattle.std.proofs.Common.{Bool, Contains, Err, List, None, Ok, Option, Result, Some, [], ap, arith, bytes_eq, cond, false, find, if◌then◌else◌, inl, inr, length, option_and_then, option_map, position, refl, subst, sym, true, ℕ, ◌&&◌, ◌++◌, ◌+◌, ◌<◌, ◌==◌, ◌^◌, ◌∙◌, ◌∷◌, ◌≡◌}
 use Rattle.std.specs.List.{list_any, position_from}
-use Rattle.std.proofs.lemmas.Bool.{and_parts, both_ways, cases_Bool, false_from_ne_true, ltb-true}
-use Rattle.std.proofs.lemmas.Iterator.Adapters.{position_from-zero}
-use Rattle.std.proofs.lemmas.List.Elements.{Contains-get_or}
-use Rattle.vpc_base.proofs.Bytes.{same_bytes}
-use Rattle.vpc_base.proofs.Members.{Contains-here, Contains-later, list_any-member, member-list_any}
-use Rattle.vpc_base.proofs.Positions.{position-le, position-nowhere, position-there}
+use Rattle.vpc_base.proofs.Lemmas.{Contains-get_or, Contains-here, Contains-later, and_parts, both_ways, cases_Bool, false_from_ne_true, list_any-member, ltb-true, member-list_any, position-le, position-nowhere, position-there, position_from-zero, same_bytes}
 use Rattle.number_tables.specs.Entries.{value_at}
 use Rattle.number_tables.specs.declared.tables.Entry.{Entry}
 use Rattle.vpc_laws.specs.Types.{AttNo, Attachment, Description, SubnetNo, Vpc}
-use Rattle.vpc_laws.proofs.Accepting.{accepted_has_all_named}
-use Rattle.vpc_laws.proofs.Lengths.{accepted_has_short_lists}
-use Rattle.vpc_laws.proofs.Numbering.{no_subnet}
-use Rattle.vpc_laws.proofs.Sounding.{IfFound, attachment-found, is_inner, known-accepted, zone-found}
-use Rattle.vpc_model.specs.Accepted.{IsAccepted}
-use Rattle.vpc_model.specs.Lookup.{attachment_at, has_vpc, subnet_at, vpc_no}
-use Rattle.vpc_model.specs.Sound.{is_attachment, is_subnet}
-use Rattle.vpc_model.specs.Transit.{attachment_for, zone_subnet}
-use Rattle.transit_gateway.specs.Gateways.{AreGateways, HasGatewaysOf, attachment_entries, gateway_no}
-use Rattle.transit_gateway.specs.Index.{enter_by, enter_zone, entered}
+use Rattle.vpc_laws.proofs.Lemmas.{IfFound, accepted_has_all_named, accepted_has_short_lists, attachment-found, is_inner, known-accepted, no_subnet, zone-found}
+use Rattle.vpc_model.specs.Terms.{IsAccepted, attachment_at, attachment_for, has_vpc, is_attachment, is_subnet, subnet_at, vpc_no, zone_subnet}
+use Rattle.transit_gateway.specs.Terms.{AreGateways, EnterStop, HasGatewaysOf, attachment_entries, enter_by, enter_zone, entered, gateway_no}
 use Rattle.number_tables.specs.Keys.{key_of}
 use Rattle.number_tables.proofs.KeyLemmas.{key_of-same}
 use Rattle.transit_gateway.proofs.KeyLemmas.{list_any-own, number-same}
-use Rattle.transit_gateway.specs.declared.index.EnterStop.{EnterStop}
 
 -- the number of an attachment
 abbrev numbered : ℕ → AttNo

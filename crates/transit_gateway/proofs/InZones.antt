@@ -1,27 +1,15 @@
 -- The first subnet of an attachment in a zone, found in the tables.
-use Rattle.std.proofs.Common.{◌≡◌, ◌∙◌, ◌&&◌, ◌+◌, ◌<◌, ◌==◌, ◌∷◌, ◌^◌, [], ℕ, Bool, Contains, List, None, Option, Some, ap, arith, bytes_eq, cond, false, find, get_or, length, map, option_map, refl, subst, suc, sym, true, zero}
-use Rattle.std.specs.List.{All, list_any}
-use Rattle.std.proofs.lemmas.Bool.{and_parts, eq-eqb, ltb-true}
-use Rattle.std.proofs.lemmas.List.{get_or-map}
-use Rattle.std.proofs.lemmas.List.Elements.{Contains-get_or}
-use Rattle.vpc_base.proofs.Members.{Contains-here, Contains-later, Contains-none, row-member}
-use Rattle.vpc_base.proofs.Positions.{position-le}
+use Rattle.std.proofs.Common.{All, Bool, Contains, List, None, Option, Some, [], ap, arith, bytes_eq, cond, false, find, get_or, length, map, option_map, refl, subst, suc, sym, true, zero, ℕ, ◌&&◌, ◌+◌, ◌<◌, ◌==◌, ◌^◌, ◌∙◌, ◌∷◌, ◌≡◌}
+use Rattle.std.specs.List.{list_any}
+use Rattle.vpc_base.proofs.Lemmas.{Contains-get_or, Contains-here, Contains-later, Contains-none, and_parts, eq-eqb, get_or-map, ltb-true, position-le, row-member}
 use Rattle.number_tables.specs.Entries.{value_at}
 use Rattle.number_tables.specs.declared.tables.Entry.{Entry}
 use Rattle.vpc_laws.specs.Types.{Attachment, Description, Subnet, SubnetNo}
-use Rattle.vpc_laws.proofs.Accepting.{accepted_has_all_named}
-use Rattle.vpc_laws.proofs.Lengths.{accepted_has_short_lists}
-use Rattle.vpc_laws.proofs.Numbering.{ids_are_found, no_subnet}
-use Rattle.vpc_model.specs.Accepted.{IsAccepted}
-use Rattle.vpc_model.specs.Choice.{or_else}
-use Rattle.vpc_model.specs.Lookup.{attachment_at, has_subnet, has_vpc, subnet_at, subnet_no}
-use Rattle.vpc_model.specs.Sound.{is_subnet}
-use Rattle.vpc_model.specs.Transit.{is_in_zone, subnet_in_zone}
+use Rattle.vpc_laws.proofs.Lemmas.{accepted_has_all_named, accepted_has_short_lists, ids_are_found, no_subnet}
+use Rattle.vpc_model.specs.Terms.{IsAccepted, attachment_at, has_subnet, has_vpc, is_in_zone, is_subnet, or_else, subnet_at, subnet_in_zone, subnet_no}
 use Rattle.vpc_model.proofs.Choice.{or_else-none}
 use Rattle.number_tables.specs.Keys.{key_of}
-use Rattle.transit_gateway.specs.Sites.{site_at, site_of, zone_no}
-use Rattle.transit_gateway.specs.Zones.{HasZonesOf, first_of, inner_subnets, zone_entries, zone_entry}
-use Rattle.transit_gateway.specs.declared.sites.Site.{Site}
+use Rattle.transit_gateway.specs.Terms.{HasZonesOf, Site, first_of, inner_subnets, site_at, site_of, zone_entries, zone_entry, zone_no}
 use Rattle.transit_gateway.proofs.Entering.{no_attachment}
 use Rattle.number_tables.proofs.KeyLemmas.{key_of-other, key_of-same}
 use Rattle.transit_gateway.proofs.KeyLemmas.{list_any-own, number-same, value_at-append}

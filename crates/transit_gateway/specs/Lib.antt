@@ -5,3 +5,4 @@ pub mod Gateways
 pub mod Zones
 pub mod Lists
 pub mod Index
+pub mod Terms

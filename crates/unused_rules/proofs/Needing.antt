@@ -2,28 +2,16 @@
 use Rattle.std.proofs.Common.{◌≡◌, ◌≢◌, ◌∙◌, Bool, Err, IfOk, None, Ok, Option, Result, Some, ap, ap₂, false, if◌then◌else◌, inl, inr, refl, subst, sym, true}
 use Rattle.std.proofs.lemmas.Bool.{cases_Bool}
 use Rattle.box_walk.specs.Asking.{Asking, asked, stop_of, word_of}
-use Rattle.header_boxes.proofs.CellNumbers.{aligned_through, aligned_to_more}
-use Rattle.header_boxes.proofs.Held.{holds_whole}
-use Rattle.header_boxes.specs.Boxes.{IsWithin, holds}
-use Rattle.header_boxes.specs.Cells.{IsAligned}
-use Rattle.header_boxes.specs.Rows.{IsFirst}
+use Rattle.header_boxes.proofs.Lemmas.{aligned_through, aligned_to_more, holds_whole}
+use Rattle.header_boxes.specs.Terms.{IsAligned, IsFirst, IsWithin, holds}
 use Rattle.cut_laws.proofs.Among.{left_among, right_among}
 use Rattle.query_words.specs.declared.queries.Query.{Query}
 use Rattle.vpc_base.specs.Cuts.{CutLists, joined_cuts}
-use Rattle.vpc_laws.specs.Types.{Box5, Description, End, Header, Phase, Stop}
-use Rattle.vpc_model.specs.Appliances.{appliances_of}
-use Rattle.vpc_model.specs.Sound.{is_end}
-use Rattle.vpc_model.specs.Verdict.{verdict_of}
-use Rattle.vpc_model.specs.declared.outcomes.Verdict.{Verdict}
+use Rattle.vpc_laws.specs.Types.{Box5, Description, End, Header, Phase, Stop, Verdict}
+use Rattle.vpc_model.specs.Terms.{appliances_of, is_end, verdict_of}
 use Rattle.vpc_model.specs.declared.outcomes.Verdict.TheVariants as verdicts
 use Rattle.unused_rules.proofs.Apart.{told_apart}
-use Rattle.unused_rules.specs.Chunks.{ChunkDecidesNothing, without_chunk}
-use Rattle.unused_rules.specs.Needed.{IsNeed, StaysTheSame}
-use Rattle.unused_rules.specs.Probe.{agreement_of}
-use Rattle.unused_rules.specs.Same.{same_told, unless_apart}
-use Rattle.unused_rules.specs.Without.{without}
-use Rattle.unused_rules.specs.declared.chunks.Chunk.{Chunk}
-use Rattle.unused_rules.specs.declared.rules.RuleName.{RuleName}
+use Rattle.unused_rules.specs.Terms.{Chunk, ChunkDecidesNothing, IsNeed, RuleName, StaysTheSame, agreement_of, same_told, unless_apart, without, without_chunk}
 use Rattle.unused_rules.specs.declared.rules.RuleName.TheVariants as rules
 
 -- ---- parts

@@ -5,13 +5,7 @@ use Rattle.copied_rows.specs.Filters.{with_filters}
 use Rattle.vpc_base.specs.declared.headers.Dir.TheVariants as dirs
 use Rattle.vpc_base.specs.declared.headers.Label.TheVariants as labels
 use Rattle.vpc_laws.specs.Types.{Description, Dir, End, EniNo, Group, Header, Label, Place, RuleRef, Stop}
-use Rattle.vpc_model.specs.Appliances.{Appliances}
-use Rattle.vpc_model.specs.Connections.{Connection, Passing, answer_passing, is_tracked, open_passing, passing_groups}
-use Rattle.vpc_model.specs.Groups.{first_rule}
-use Rattle.vpc_model.specs.Lookup.{has_address, interface_at, subnet_of}
-use Rattle.vpc_model.specs.Step.{step_at, step_of}
-use Rattle.vpc_model.specs.Step.Interface.{taken_in}
-use Rattle.vpc_model.specs.Step.Words.{Moment, Next, Step, arrive, go, plain, stop}
+use Rattle.vpc_model.specs.Terms.{Appliances, Connection, Moment, Next, Passing, Step, answer_passing, arrive, first_rule, go, has_address, interface_at, is_tracked, open_passing, passing_groups, plain, step_at, step_of, stop, subnet_of, taken_in}
 use Rattle.vpc_model.specs.declared.outcomes.By.TheVariants as bys
 use Rattle.vpc_model.specs.declared.places.Came.TheVariants as from
 use Rattle.vpc_model.specs.declared.places.Place.TheVariants as places

@@ -6,13 +6,7 @@ use Rattle.copied_rows.specs.Filters.{with_filters}
 use Rattle.vpc_base.specs.Header.{reply_of}
 use Rattle.vpc_base.specs.declared.headers.Label.TheVariants as labels
 use Rattle.vpc_laws.specs.Types.{Description, End, Group, Header, Outcome, Phase, Place, Stop, Verdict}
-use Rattle.vpc_model.specs.Appliances.{Appliances}
-use Rattle.vpc_model.specs.Connections.{Connection, is_header}
-use Rattle.vpc_model.specs.Nat.{Translation}
-use Rattle.vpc_model.specs.Place.{start_of}
-use Rattle.vpc_model.specs.Step.Words.{Moment}
-use Rattle.vpc_model.specs.Verdict.{reply_walk, request_walk, same_end, verdict_of, verdict_of_arrival, verdict_of_reply, verdict_of_request}
-use Rattle.vpc_model.specs.Walk.{Walk, walk_of}
+use Rattle.vpc_model.specs.Terms.{Appliances, Connection, Moment, Translation, Walk, is_header, reply_walk, request_walk, same_end, start_of, verdict_of, verdict_of_arrival, verdict_of_reply, verdict_of_request, walk_of}
 use Rattle.vpc_model.specs.declared.outcomes.Outcome.TheVariants as outcomes
 use Rattle.vpc_model.specs.declared.outcomes.Phase.TheVariants as phases
 use Rattle.vpc_model.specs.declared.outcomes.Verdict.TheVariants as verdicts

@@ -7,3 +7,4 @@ pub mod Probe
 pub mod Rules
 pub mod Same
 pub mod Without
+pub mod Terms

@@ -9,3 +9,4 @@ pub mod Positions
 pub mod Pairs
 pub mod Zips
 pub mod Steps
+pub mod Lemmas

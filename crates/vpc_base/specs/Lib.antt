@@ -1,3 +1,4 @@
 pub mod Header
 pub mod Dir
 pub mod Cuts
+pub mod Terms

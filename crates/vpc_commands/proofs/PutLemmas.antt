@@ -7,7 +7,7 @@ use Rattle.vpc_commands.specs.Due.{IsAnswer, IsDue, only}
 use Rattle.command_job.specs.declared.status.Status.{Status}
 use Rattle.command_job.specs.declared.status.Status.TheVariants as ends
 use Rattle.vpc_commands.proofs.Devices.{failed_if_read, never_write}
-use Rattle.vpc_commands.proofs.Known.{complete_if_due}
+use Rattle.vpc_commands.proofs.Completing.{complete_if_due}
 
 -- a due pair in place of an equal one
 due_as : (words : List (List ℕ)) (told : List ℕ → Option (List ℕ)) (failed : List ℕ → Type 0) (status s : Status) (text t : List ℕ)

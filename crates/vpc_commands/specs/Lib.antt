@@ -2,3 +2,4 @@ pub mod Words
 pub mod Files
 pub mod Due
 pub mod Complete
+pub mod Terms

@@ -14,13 +14,7 @@ use Rattle.vpc_model.specs.declared.rows.Target.TheVariants as targets
 use Rattle.vpc_model.specs.declared.places.EnterBy.TheVariants as through
 use Rattle.vpc_model.specs.declared.outcomes.Verdict.TheVariants as verdicts
 use Rattle.vpc_examples.specs.Networks.{acl_1, anywhere, behind_nat, block, equal_routes, group, high_ports_only, host_at_attachment, https_from, https_from_group, learnt_route, learnt_routes, low_ports_in, one_list, one_subnet, open_rows, peered, public_hosts, route, rows_out_of_order, shut_attachment, tcp_row, three_routes, transit, transit_loop, two_subnets, v4}
-use Rattle.vpc_model.specs.Acls.{acl_verdict}
-use Rattle.vpc_model.specs.Appliances.{appliances_of}
-use Rattle.vpc_model.specs.Connections.{Connection, is_tracked}
-use Rattle.vpc_model.specs.Nat.{Translation, new_translation, shares}
-use Rattle.vpc_model.specs.Routes.{chosen_route}
-use Rattle.vpc_model.specs.Verdict.{verdict_of}
-use Rattle.vpc_model.specs.Walk.{Walk, walk_of}
+use Rattle.vpc_model.specs.Terms.{Connection, Translation, Walk, acl_verdict, appliances_of, chosen_route, is_tracked, new_translation, shares, verdict_of, walk_of}
 
 -- ---- rows by their places, and packets
 

@@ -16,10 +16,7 @@ use Rattle.vpc_model.specs.declared.rows.Target.TheVariants as targets
 use Rattle.vpc_model.specs.declared.outcomes.Verdict.TheVariants as verdicts
 use Rattle.vpc_examples.specs.Examples.{a_to_c, a_to_server, att, eni, first_walk, from_server, hop, hop_by, nat, outcome_of, subnet, tcp, verdict_in, vpc, walk_after}
 use Rattle.vpc_examples.specs.Networks.{acl, acl_1, allow_all, allow_row, anywhere, attached, bare, behind_nat, block, eni_n, gone_route, group, host, host_with, https_from, https_from_group, local_1, main_table, open_rows, peered, public_hosts, route, site_group, site_host, site_subnet, tcp_row, tgw_route, transit, transit_subnet, two_subnets, v4}
-use Rattle.vpc_model.specs.Groups.{first_rule, reference_counts}
-use Rattle.vpc_model.specs.Internet.{is_unroutable}
-use Rattle.vpc_model.specs.Lookup.{interface_at}
-use Rattle.vpc_model.specs.Transit.{attachment_for, chosen_tgw_route, leave_subnet}
+use Rattle.vpc_model.specs.Terms.{attachment_for, chosen_tgw_route, first_rule, interface_at, is_unroutable, leave_subnet, reference_counts}
 
 -- where a first packet from the first host, or from the internet, ends
 abbrev pub open_from_a : Description → Header → Outcome

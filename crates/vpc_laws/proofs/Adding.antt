@@ -1,22 +1,13 @@
 -- What a walk adds to connections and translations.
 use Rattle.std.proofs.Common.{◌≡◌, ◌≤◌, ◌==◌, ◌⊎◌, Bool, List, [], ◌∷◌, ◌++◌, Some, ap, append_assoc, arith, false, inl, inr, length, length-append, refl, subst, sym, true, ◌∙◌, ap₂}
 use Rattle.std.specs.List.{AllByRecursion, IsDistinct, list_any}
-use Rattle.std.proofs.lemmas.Bool.{and_parts, both_ways, false_from_ne_true, or_from, or_left, or_right}
-use Rattle.std.proofs.lemmas.List.{append-nil}
-use Rattle.std.proofs.lemmas.List.Folds.{list_any-append}
-use Rattle.std.proofs.lemmas.Option.{none-some}
+use Rattle.vpc_base.proofs.Lemmas.{and_parts, append-nil, both_ways, false_from_ne_true, list_any-append, none-some, or_from, or_left, or_right}
 use Rattle.vpc_base.specs.Dir.{same_dir}
 use Rattle.vpc_base.specs.declared.headers.Dir.TheVariants.{Inward, Outward}
 use Rattle.vpc_model.specs.declared.places.Place.TheVariants.{OutOf, Router, Enter, Into, IgwOut, Internet, IgwIn, NatOut, NatIn, Peer, Tgw, TgwLeave}
 use Rattle.vpc_laws.specs.Types.{Description, Dir, EniNo, Header, Hop, Label, Place}
-use Rattle.vpc_model.specs.Appliances.{Appliances}
-use Rattle.vpc_model.specs.Connections.{Connection}
-use Rattle.vpc_model.specs.Nat.{Translation}
-use Rattle.vpc_model.specs.Step.{step_of}
-use Rattle.vpc_model.specs.Step.Words.{Moment, Next}
-use Rattle.vpc_model.specs.Walk.{is_visited, same_place, walk_of}
-use Rattle.vpc_laws.specs.Step.{AddsOwn, AddsTranslation, own_connection}
-use Rattle.vpc_laws.specs.Walk.{AddsFew, same_door, same_gateway}
+use Rattle.vpc_model.specs.Terms.{Appliances, Connection, Moment, Next, Translation, is_visited, same_place, step_of, walk_of}
+use Rattle.vpc_laws.specs.Terms.{AddsFew, AddsOwn, AddsTranslation, own_connection, same_door, same_gateway}
 use Rattle.vpc_laws.proofs.Books.{AllByRecursion-push, IsDistinct-push_new}
 use Rattle.vpc_laws.proofs.Growth.{step_adds_own, step_adds_translation}
 use Rattle.vpc_laws.proofs.Same.{EniNo-same, NatNo-same, same_dir-true, same_place-refl}

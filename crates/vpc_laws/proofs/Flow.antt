@@ -1,6 +1,6 @@
 -- An open keeps its protocol and q.
-use Rattle.std.proofs.Common.{◌≡◌, ℕ, ◌<◌, ◌^◌, ◌==◌, ◌&&◌, ◌||◌, not, Bool, true, false, List, [], ◌∷◌, Option, Some, None, refl, cond, ◌∙◌, is_none}
-use Rattle.std.specs.List.{AllByRecursion, find, slice_index_or}
+use Rattle.std.proofs.Common.{Bool, List, None, Option, Some, [], cond, false, find, is_none, not, refl, slice_index_or, true, ℕ, ◌&&◌, ◌<◌, ◌==◌, ◌^◌, ◌||◌, ◌∙◌, ◌∷◌, ◌≡◌}
+use Rattle.std.specs.List.{AllByRecursion}
 use Rattle.std.proofs.lemmas.Bool.{cond_both, and_parts, eqb-true, true≢false}
 use Rattle.vpc_base.specs.declared.headers.Dir.TheVariants.{Inward, Outward}
 use Rattle.vpc_base.specs.declared.headers.Label.TheVariants.{Answer, Opening}
@@ -10,28 +10,8 @@ use Rattle.vpc_model.specs.declared.rows.Target.TheVariants.{Local, Internet as 
 use Rattle.vpc_model.specs.declared.stops.Stop.TheVariants.{AclIn, AclOut, ApplianceDrop, NotAHost}
 use Rattle.vpc_model.specs.declared.places.End.TheVariants.{Interface}
 use Rattle.vpc_laws.specs.Types.{AttNo, Box5, By, Description, EniNo, Header, IgwNo, Label, NatLife, NatNo, PeerNo, Place, Stop, SubnetNo, TableNo, Target, TgwTableNo, VpcNo}
-use Rattle.vpc_laws.specs.Step.{KeepsFlow, SendsSame, StopsItself, is_of_step, is_rewriting}
-use Rattle.vpc_laws.specs.Translations.{IsTranslation}
-use Rattle.vpc_model.specs.Appliances.{Appliances, boxes_at, passes}
-use Rattle.vpc_model.specs.Acls.{acl_verdict}
-use Rattle.vpc_model.specs.Choice.{or_else}
-use Rattle.vpc_model.specs.Connections.{Connection, passing_of, same_header}
-use Rattle.vpc_model.specs.Internet.{is_unroutable, owner_of, public_of}
-use Rattle.vpc_model.specs.Lookup.{acl_at, acl_of, attachment_of_id, eni_no, gateway_of, has_address, has_vpc, host_of, igw_no, interface_at, nat_at, nat_no, peer_no, peering_at, subnet_no, subnet_of, table_at, table_of, tgw_table_at, vpc_at, vpc_no, vpc_of_subnet}
-use Rattle.vpc_model.specs.Nat.{Translation, inward, is_full, is_translatable, translation_of}
-use Rattle.vpc_model.specs.Peerings.{has_block, other_side}
-use Rattle.vpc_model.specs.Routes.{chosen_route}
-use Rattle.vpc_model.specs.Step.{step_at, step_of}
-use Rattle.vpc_model.specs.Step.Crossing.{crossing, deliver, deliver_by, entering, is_gateway, leaving, nat_of}
-use Rattle.vpc_model.specs.Step.Enter.{enter_host}
-use Rattle.vpc_model.specs.Step.Interface.{forwarded, in_passing, out_passing, step_into, step_out}
-use Rattle.vpc_model.specs.Step.Internet.{go_public, step_internet, to_owner}
-use Rattle.vpc_model.specs.Step.Nat.{from_inward, own_address, step_nat_out, translate}
-use Rattle.vpc_model.specs.Step.Peering.{by_pair, over_peering}
-use Rattle.vpc_model.specs.Step.Router.{by_route, is_attached, no_route, step_router, to_host, to_interface, to_internet, to_nat, to_peer, to_target, to_transit, to_zone}
-use Rattle.vpc_model.specs.Step.Transit.{by_attachment, by_tgw_route, by_tgw_table, leave_by, no_tgw_route, to_attachment}
-use Rattle.vpc_model.specs.Step.Words.{Moment, Next, Step, arrive, go, stop, unless_stopped}
-use Rattle.vpc_model.specs.Transit.{attachment_for, chosen_tgw_route, leave_subnet, table_of_attachment, zone_subnet}
+use Rattle.vpc_laws.specs.Terms.{IsTranslation, KeepsFlow, SendsSame, StopsItself, is_of_step, is_rewriting}
+use Rattle.vpc_model.specs.Terms.{Appliances, Connection, Moment, Next, Step, Translation, acl_at, acl_of, acl_verdict, arrive, attachment_for, attachment_of_id, boxes_at, by_attachment, by_pair, by_route, by_tgw_route, by_tgw_table, chosen_route, chosen_tgw_route, crossing, deliver, deliver_by, eni_no, enter_host, entering, forwarded, from_inward, gateway_of, go, go_public, has_address, has_block, has_vpc, host_of, igw_no, in_passing, interface_at, inward, is_attached, is_full, is_gateway, is_translatable, is_unroutable, leave_by, leave_subnet, leaving, nat_at, nat_no, nat_of, no_route, no_tgw_route, or_else, other_side, out_passing, over_peering, own_address, owner_of, passes, passing_of, peer_no, peering_at, public_of, same_header, step_at, step_internet, step_into, step_nat_out, step_of, step_out, step_router, stop, subnet_no, subnet_of, table_at, table_of, table_of_attachment, tgw_table_at, to_attachment, to_host, to_interface, to_internet, to_nat, to_owner, to_peer, to_target, to_transit, to_zone, translate, translation_of, unless_stopped, vpc_at, vpc_no, vpc_of_subnet, zone_subnet}
 use Rattle.vpc_laws.proofs.Ports.{new_translation-fits}
 
 -- a header of the same protocol and q, whose p fits its field where the first's does; it is the first where nothing is rewritten

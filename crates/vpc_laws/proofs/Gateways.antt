@@ -1,27 +1,13 @@
 -- What gateways rewrite.
-use Rattle.std.proofs.Common.{◌≡◌, ℕ, ◌<◌, ◌^◌, ◌==◌, ◌&&◌, ◌⊎◌, Bool, List, [], ◌∷◌, ◌++◌, Option, Some, None, ap, false, inl, inr, option_and_then, option_map, refl, subst, sym, true, unwrap_or, ◌∙◌}
-use Rattle.std.specs.List.{AllByRecursion, Contains, filter, find}
-use Rattle.std.proofs.lemmas.Bool.{and_parts, cases_Bool, cond_both, eq-eqb, eqb-true}
-use Rattle.std.proofs.lemmas.List.Elements.{Contains-push}
-use Rattle.std.proofs.lemmas.Option.{none-some, same_Some}
+use Rattle.std.proofs.Common.{Bool, Contains, List, None, Option, Some, [], ap, false, filter, find, inl, inr, option_and_then, option_map, refl, subst, sym, true, unwrap_or, ℕ, ◌&&◌, ◌++◌, ◌<◌, ◌==◌, ◌^◌, ◌∙◌, ◌∷◌, ◌≡◌, ◌⊎◌}
+use Rattle.std.specs.List.{AllByRecursion}
+use Rattle.vpc_base.proofs.Lemmas.{AllByRecursion-at, Contains-push, and_parts, cases_Bool, cond_both, eq-eqb, eqb-true, filter-member, filter_map-member, find-member, flat_map-member, none-some, same_Some}
 use Rattle.vpc_base.specs.Header.{echo_reply, exchanged, reply_of}
 use Rattle.vpc_base.specs.declared.headers.Label.TheVariants.{Answer, Opening}
-use Rattle.vpc_base.proofs.Members.{AllByRecursion-at, filter-member, filter_map-member, find-member, flat_map-member}
 use Rattle.vpc_model.specs.declared.places.Place.TheVariants.{OutOf, Router, Enter, Into, IgwOut, Internet, IgwIn, NatOut, NatIn, Peer, Tgw, TgwLeave}
 use Rattle.vpc_laws.specs.Types.{Description, Header, Hop, Label, NatNo, Place, VpcNo}
-use Rattle.vpc_model.specs.Appliances.{Appliances}
-use Rattle.vpc_model.specs.Connections.{Connection, is_header, same_header}
-use Rattle.vpc_model.specs.Internet.{pair_of, pairs_in, pairs_of, private_of}
-use Rattle.vpc_model.specs.Lookup.{is_in_vpc, nat_at}
-use Rattle.vpc_model.specs.Nat.{Translation, inward, is_full, is_translatable, new_translation, translation_of}
-use Rattle.vpc_model.specs.Step.{step_at, step_of}
-use Rattle.vpc_model.specs.Step.Internet.{go_public}
-use Rattle.vpc_model.specs.Step.Nat.{from_inward, own_address, step_nat_in, step_nat_out, translate}
-use Rattle.vpc_model.specs.Step.Words.{Moment, Next, Step, arrive, go, stop}
-use Rattle.vpc_model.specs.Walk.{walk_of}
-use Rattle.vpc_laws.specs.Step.{KeepsFlow}
-use Rattle.vpc_laws.specs.Rewriting.{ChangesDestination, ChangesSource, ChangesSourceAndPort, HasPair, IfGoes, IsGivenBack, IsToOwn}
-use Rattle.vpc_laws.specs.Translations.{IsBook, IsTranslation}
+use Rattle.vpc_model.specs.Terms.{Appliances, Connection, Moment, Next, Step, Translation, arrive, from_inward, go, go_public, inward, is_full, is_header, is_in_vpc, is_translatable, nat_at, new_translation, own_address, pair_of, pairs_in, pairs_of, private_of, same_header, step_at, step_nat_in, step_nat_out, step_of, stop, translate, translation_of, walk_of}
+use Rattle.vpc_laws.specs.Terms.{ChangesDestination, ChangesSource, ChangesSourceAndPort, HasPair, IfGoes, IsBook, IsGivenBack, IsToOwn, IsTranslation, KeepsFlow}
 use Rattle.vpc_laws.proofs.Books.{AllByRecursion-push}
 use Rattle.vpc_laws.proofs.Flow.{is_of, open_keeps_flow}
 use Rattle.vpc_laws.proofs.Growth.{step_internet-nats, step_into-nats, step_nat_in-nats, step_out-nats}

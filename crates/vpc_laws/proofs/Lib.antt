@@ -18,3 +18,4 @@ pub mod Sounding
 pub mod Telling
 pub mod Lengths
 pub mod Sources
+pub mod Lemmas

@@ -1,24 +1,13 @@
 -- By what packets pass groups, and what is remembered of them.
 use Rattle.std.proofs.Common.{◌≡◌, ℕ, ◌&&◌, ◌||◌, ◌⊎◌, not, List, [], ◌∷◌, ◌++◌, Option, Some, None, ap, false, inl, inr, refl, subst, sym, true, ◌∙◌}
-use Rattle.std.proofs.lemmas.Bool.{both_ways, cond_both, false≢true}
-use Rattle.std.proofs.lemmas.Option.{none-some}
+use Rattle.vpc_base.proofs.Lemmas.{both_ways, cond_both, false≢true, none-some}
 use Rattle.vpc_base.specs.declared.headers.Dir.TheVariants.{Inward, Outward}
 use Rattle.vpc_base.specs.declared.headers.Label.TheVariants.{Answer, Opening}
 use Rattle.vpc_model.specs.declared.outcomes.By.TheVariants.{Nothing, Rule, Tracked}
 use Rattle.vpc_model.specs.declared.places.End.TheVariants.{Interface}
 use Rattle.vpc_model.specs.declared.places.Place.TheVariants.{OutOf, Router, Enter, Into, IgwOut, Internet, IgwIn, NatOut, NatIn, Peer, Tgw, TgwLeave}
 use Rattle.vpc_laws.specs.Types.{Box5, By, Description, Dir, EniNo, Header, Label, NatNo, Place, RuleRef}
-use Rattle.vpc_model.specs.Appliances.{Appliances, boxes_at, passes}
-use Rattle.vpc_model.specs.Connections.{Connection, Passing, answer_passing, is_tracked, label_passing, open_passing, passing_groups, passing_of}
-use Rattle.vpc_model.specs.Groups.{first_rule, first_rule_of}
-use Rattle.vpc_model.specs.Internet.{is_unroutable}
-use Rattle.vpc_model.specs.Lookup.{has_address, interface_at, nat_at}
-use Rattle.vpc_model.specs.Nat.{Translation, is_full, is_translatable, new_translation, translation_of}
-use Rattle.vpc_model.specs.Step.{step_at, step_of}
-use Rattle.vpc_model.specs.Step.Interface.{forwarded, in_passing, out_passing, step_into, step_out, taken_in}
-use Rattle.vpc_model.specs.Step.Internet.{step_internet}
-use Rattle.vpc_model.specs.Step.Nat.{own_address, step_nat_in, step_nat_out, translate}
-use Rattle.vpc_model.specs.Step.Words.{Moment, Next, Step, arrive}
+use Rattle.vpc_model.specs.Terms.{Appliances, Connection, Moment, Next, Passing, Step, Translation, answer_passing, arrive, boxes_at, first_rule, first_rule_of, forwarded, has_address, in_passing, interface_at, is_full, is_tracked, is_translatable, is_unroutable, label_passing, nat_at, new_translation, open_passing, out_passing, own_address, passes, passing_groups, passing_of, step_at, step_internet, step_into, step_nat_in, step_nat_out, step_of, step_out, taken_in, translate, translation_of}
 use Rattle.vpc_laws.specs.Step.{AsksGroups, IsNewOpen, LetsPass, is_refused, own_connection, remembered}
 use Rattle.vpc_laws.proofs.Flow.{taken_by}
 use Rattle.vpc_laws.proofs.Growth.{step_internet-conns, step_internet-nats, step_into-nats, step_nat_in-conns, step_nat_in-nats, step_nat_out-conns, step_out-nats}

@@ -1,13 +1,8 @@
 -- In an accepted description steps lead to sound places, and their stops and rules can be told.
-use Rattle.std.proofs.Common.{◌≡◌, ℕ, ◌+◌, ◌==◌, ◌&&◌, ◌||◌, Bool, List, [], ◌∷◌, Option, Some, None, arith, cond, false, inl, inr, is_none, is_some, leb, length, ltb, map, not, option_and_then, option_map, refl, subst, sym, true, unwrap_or, ◌∙◌}
-use Rattle.std.specs.List.{Contains, find, flat_map, position, slice_index_or}
-use Rattle.std.specs.Str.{bytes_eq}
-use Rattle.std.proofs.lemmas.Bool.{and_from, and_parts, both_ways, cases_Bool, cond_both, false≢true, le-leb, ltb-true, or_cases}
+use Rattle.std.proofs.Common.{Bool, Contains, List, None, Option, Some, [], arith, bytes_eq, cond, false, find, flat_map, inl, inr, is_none, is_some, leb, length, ltb, map, not, option_and_then, option_map, position, refl, slice_index_or, subst, sym, true, unwrap_or, ℕ, ◌&&◌, ◌+◌, ◌==◌, ◌||◌, ◌∙◌, ◌∷◌, ◌≡◌}
+use Rattle.vpc_base.proofs.Lemmas.{Contains-cases, Contains-here, Contains-none, and_from, and_parts, both_ways, cases_Bool, cond_both, false≢true, find-member, flat_map-member, le-leb, ltb-true, or_cases, position-at, row-member, same_bytes}
 use Rattle.vpc_base.specs.declared.headers.Dir.TheVariants.{Inward, Outward}
 use Rattle.vpc_base.specs.declared.headers.Label.TheVariants.{Answer, Opening}
-use Rattle.vpc_base.proofs.Bytes.{same_bytes}
-use Rattle.vpc_base.proofs.Members.{Contains-cases, Contains-here, Contains-none, find-member, flat_map-member, row-member}
-use Rattle.vpc_base.proofs.Positions.{position-at}
 use Rattle.vpc_laws.specs.Types.{Association, AttNo, Attachment, Box5, By, Description, Dir, EniNo, Group, GroupNo, Header, IgwNo, Interface, InternetGateway, Label, NatGateway, NatLife, NatNo, PeerNo, Place, RuleRef, Stop, SubnetNo, TableNo, Target, TgwRoute, TgwTable, TgwTableNo, VpcNo}
 use Rattle.vpc_model.specs.declared.outcomes.By.TheVariants as bys
 use Rattle.vpc_model.specs.declared.places.End.TheVariants as ends
@@ -16,33 +11,9 @@ use Rattle.vpc_model.specs.declared.rows.NatLife.TheVariants as lives
 use Rattle.vpc_model.specs.declared.places.Place.TheVariants as places
 use Rattle.vpc_model.specs.declared.stops.Stop.TheVariants as stops
 use Rattle.vpc_model.specs.declared.rows.Target.TheVariants as targets
-use Rattle.vpc_model.specs.Accepted.{IsAccepted, is_side, is_subnet_of}
-use Rattle.vpc_model.specs.Acls.{acl_verdict}
-use Rattle.vpc_model.specs.Appliances.{Appliances, boxes_at, passes}
-use Rattle.vpc_model.specs.Choice.{is_unbeaten, or_else}
-use Rattle.vpc_model.specs.Connections.{Connection, passing_of}
-use Rattle.vpc_model.specs.Groups.{first_rule_of, no_permission, permission_allows, permissions_of, rule_of_group}
-use Rattle.vpc_model.specs.Internet.{is_unroutable, owned_by, owner_of, pairs_of, public_of}
-use Rattle.vpc_model.specs.Lookup.{acl_at, acl_of, attachment_at, attachment_of_id, eni_no, gateway_of, group_at, group_of_id, has_address, has_subnet, has_vpc, host_of, igw_no, interface_at, is_in_vpc, is_listed, nat_at, nat_no, no_group, no_interface, peer_no, peering_at, subnet_at, subnet_no, subnet_of, table_at, table_of, tgw_table_at, tgw_table_of_id, vpc_at, vpc_no, vpc_of_interface, vpc_of_subnet}
-use Rattle.vpc_model.specs.Nat.{Translation, inward, is_full, is_translatable, new_translation, translation_of}
-use Rattle.vpc_model.specs.Peerings.{has_block, other_side}
-use Rattle.vpc_model.specs.Routes.{beats, chosen_route, is_candidate}
-use Rattle.vpc_model.specs.Sound.{has_foreign_text, has_gateway, has_rule, has_text, is_attachment, is_entry, is_eni, is_origin, is_group, is_igw, is_live, is_nat, is_peering, is_route, is_rule, is_sound, is_subnet, is_table, is_tgw_route, is_tgw_table, is_vpc, joins}
-use Rattle.vpc_model.specs.Step.{step_at, step_of}
-use Rattle.vpc_model.specs.Step.Crossing.{crossing, deliver, deliver_by, entering, is_eni_of, is_gateway, leaving, nat_of}
-use Rattle.vpc_model.specs.Step.Enter.{enter_host}
-use Rattle.vpc_model.specs.Step.Interface.{forwarded, in_passing, out_passing, step_into, step_out}
-use Rattle.vpc_model.specs.Step.Internet.{go_public, step_internet, to_owner}
-use Rattle.vpc_model.specs.Step.Nat.{from_inward, from_nat, own_address, own_subnet, step_nat_in, step_nat_out, translate}
-use Rattle.vpc_model.specs.Step.Peering.{by_pair}
-use Rattle.vpc_model.specs.Step.Router.{by_route, is_attached, no_route, to_host, to_interface, to_internet, to_nat, to_peer, to_target, to_transit, to_zone}
-use Rattle.vpc_model.specs.Step.Transit.{by_attachment, by_tgw_route, by_tgw_table, leave_by, no_tgw_route, to_attachment}
-use Rattle.vpc_model.specs.Step.Words.{Moment, Next, Step, arrive, go, stop, unless_stopped}
-use Rattle.vpc_model.specs.Transit.{attachment_for, beats_tgw, chosen_tgw_route, first_subnet, is_in_zone, leave_subnet, table_of_attachment, zone_subnet}
+use Rattle.vpc_model.specs.Terms.{Appliances, Connection, IsAccepted, Moment, Next, Step, Translation, acl_at, acl_of, acl_verdict, arrive, attachment_at, attachment_for, attachment_of_id, beats, beats_tgw, boxes_at, by_attachment, by_pair, by_route, by_tgw_route, by_tgw_table, chosen_route, chosen_tgw_route, crossing, deliver, deliver_by, eni_no, enter_host, entering, first_rule_of, first_subnet, forwarded, from_inward, from_nat, gateway_of, go, go_public, group_at, group_of_id, has_address, has_block, has_foreign_text, has_gateway, has_rule, has_subnet, has_text, has_vpc, host_of, igw_no, in_passing, interface_at, inward, is_attached, is_attachment, is_candidate, is_eni, is_eni_of, is_entry, is_full, is_gateway, is_group, is_igw, is_in_vpc, is_in_zone, is_listed, is_live, is_nat, is_origin, is_peering, is_route, is_rule, is_side, is_sound, is_subnet, is_subnet_of, is_table, is_tgw_route, is_tgw_table, is_translatable, is_unbeaten, is_unroutable, is_vpc, joins, leave_by, leave_subnet, leaving, nat_at, nat_no, nat_of, new_translation, no_group, no_interface, no_permission, no_route, no_tgw_route, or_else, other_side, out_passing, own_address, own_subnet, owned_by, owner_of, pairs_of, passes, passing_of, peer_no, peering_at, permission_allows, permissions_of, public_of, rule_of_group, step_at, step_internet, step_into, step_nat_in, step_nat_out, step_of, step_out, stop, subnet_at, subnet_no, subnet_of, table_at, table_of, table_of_attachment, tgw_table_at, tgw_table_of_id, to_attachment, to_host, to_interface, to_internet, to_nat, to_owner, to_peer, to_target, to_transit, to_zone, translate, translation_of, unless_stopped, vpc_at, vpc_no, vpc_of_interface, vpc_of_subnet, zone_subnet}
 use Rattle.prefix_text.specs.Block.{holds}
-use Rattle.vpc_laws.specs.Accepted.{HasAllNamed, HasTarget, IdsHaveNumbers, NumbersAreInRange}
-use Rattle.vpc_laws.specs.Sound.{LeadsWell}
-use Rattle.vpc_laws.specs.Step.{AsksGroups, LetsPass, own_connection}
+use Rattle.vpc_laws.specs.Terms.{AsksGroups, HasAllNamed, HasTarget, IdsHaveNumbers, LeadsWell, LetsPass, NumbersAreInRange, own_connection}
 use Rattle.vpc_laws.proofs.Accepting.{accepted_has_all_named}
 use Rattle.vpc_laws.proofs.Flow.{taken_by}
 use Rattle.vpc_laws.proofs.Numbering.{accepted_numbers_are_in_range, ids_are_found, no_igw, no_nat, no_subnet, no_table}

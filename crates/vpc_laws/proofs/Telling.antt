@@ -10,17 +10,8 @@ use Rattle.vpc_model.specs.declared.outcomes.Outcome.TheVariants as outcomes
 use Rattle.vpc_model.specs.declared.outcomes.Phase.TheVariants as phases
 use Rattle.vpc_model.specs.declared.stops.Stop.TheVariants as stops
 use Rattle.vpc_model.specs.declared.outcomes.Verdict.TheVariants as verdicts
-use Rattle.vpc_model.specs.Accepted.{IsAccepted}
-use Rattle.vpc_model.specs.Appliances.{Appliances}
-use Rattle.vpc_model.specs.Connections.{is_header}
-use Rattle.vpc_model.specs.Place.{start_of}
-use Rattle.vpc_model.specs.Sound.{is_end, is_sound}
-use Rattle.vpc_model.specs.Step.{step_of}
-use Rattle.vpc_model.specs.Step.Words.{Moment, Next, arrive, go, stop}
-use Rattle.vpc_model.specs.Verdict.{reply_walk, request_walk, same_end, verdict_of, verdict_of_arrival, verdict_of_reply, verdict_of_request}
-use Rattle.vpc_model.specs.Walk.{Walk, walk_of}
-use Rattle.vpc_laws.specs.Sound.{EndsWell, IsSoundHop, IsTold, LeadsWell}
-use Rattle.vpc_laws.specs.Walk.{EndsSo, Follows, IsNext, hop_of, last_moment}
+use Rattle.vpc_model.specs.Terms.{Appliances, IsAccepted, Moment, Next, Walk, arrive, go, is_end, is_header, is_sound, reply_walk, request_walk, same_end, start_of, step_of, stop, verdict_of, verdict_of_arrival, verdict_of_reply, verdict_of_request, walk_of}
+use Rattle.vpc_laws.specs.Terms.{EndsSo, EndsWell, Follows, IsNext, IsSoundHop, IsTold, LeadsWell, hop_of, last_moment}
 use Rattle.vpc_laws.proofs.Sounding.{steps_are_sound}
 use Rattle.vpc_laws.proofs.Stepping.{walks_are_of_steps}
 

@@ -1,22 +1,14 @@
 -- Walks: what each of their steps keeps, they keep.
-use Rattle.std.proofs.Common.{Bool, true, add-one, ◌≡◌, ℕ, zero, suc, ◌+◌, ◌≤◌, ◌<◌, ◌^◌, ◌||◌, false, List, [], ◌∷◌, ◌++◌, Some, refl, ◌∙◌, sym, ap, arith, subst, length, length-append, append_assoc, inl, inr, ◌⊎◌}
-use Rattle.std.specs.List.{list_any, IsDistinct, Contains}
-use Rattle.std.proofs.lemmas.Bool.{cond_both}
-use Rattle.std.proofs.lemmas.List.Elements.{Contains-append_left, Contains-push, Contains-push_cases}
+use Rattle.std.proofs.Common.{Bool, Contains, List, Some, [], add-one, ap, append_assoc, arith, false, inl, inr, length, length-append, refl, subst, suc, sym, true, zero, ℕ, ◌++◌, ◌+◌, ◌<◌, ◌^◌, ◌||◌, ◌∙◌, ◌∷◌, ◌≡◌, ◌≤◌, ◌⊎◌}
+use Rattle.std.specs.List.{list_any, IsDistinct}
+use Rattle.vpc_base.proofs.Lemmas.{Contains-append_left, Contains-push, Contains-push_cases, cond_both}
 use Rattle.vpc_base.specs.declared.headers.Label.TheVariants.{Opening, Answer}
 use Rattle.vpc_model.specs.declared.outcomes.Outcome.TheVariants.{Stopped}
 use Rattle.vpc_model.specs.declared.places.Place.TheVariants.{NatOut}
 use Rattle.vpc_model.specs.declared.stops.Stop.TheVariants.{Loop, TooFar}
 use Rattle.vpc_laws.specs.Types.{Description, Header, Hop, Label, Place}
-use Rattle.vpc_laws.specs.Step.{AddsOwn, AddsTranslation, Begins, is_rewriting, own_connection}
-use Rattle.vpc_laws.specs.Translations.{IsBook}
-use Rattle.vpc_laws.specs.Walk.{places_of}
-use Rattle.vpc_model.specs.Appliances.{Appliances}
-use Rattle.vpc_model.specs.Connections.{Connection}
-use Rattle.vpc_model.specs.Nat.{Translation}
-use Rattle.vpc_model.specs.Step.{step_of}
-use Rattle.vpc_model.specs.Step.Words.{Moment, Next, arrive, go, stop}
-use Rattle.vpc_model.specs.Walk.{Walk, ended, is_visited, same_place, walk_of, walk_on}
+use Rattle.vpc_laws.specs.Terms.{AddsOwn, AddsTranslation, Begins, IsBook, is_rewriting, own_connection, places_of}
+use Rattle.vpc_model.specs.Terms.{Appliances, Connection, Moment, Next, Translation, Walk, arrive, ended, go, is_visited, same_place, step_of, stop, walk_of, walk_on}
 use Rattle.vpc_laws.proofs.Books.{IsDistinct-push_new, step_keeps_book}
 use Rattle.vpc_laws.proofs.Flow.{Flows, step_at-flow}
 use Rattle.vpc_laws.proofs.Growth.{answer_adds_nothing, step_adds_own, step_adds_translation, step_keeps}

@@ -7,3 +7,4 @@ pub mod Choice
 pub mod Rewriting
 pub mod Accepted
 pub mod Sound
+pub mod Terms

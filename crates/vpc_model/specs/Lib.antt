@@ -24,3 +24,4 @@ pub mod Sound
 pub mod Names
 pub mod Told
 pub mod Report
+pub mod Terms

@@ -3,7 +3,8 @@ use Rattle.vpc_base.specs.declared.headers.Dir.TheVariants as dirs
 use Rattle.vpc_model.specs.Accepted.{IsAccepted}
 use Rattle.vpc_model.specs.Appliances.{appliances_of}
 use Rattle.box_steps.proofs.Narrowing.{moment-narrowed}
-use Rattle.box_steps.proofs.PassedSteps.{passed_step, stopped_step}
+use Rattle.box_steps.proofs.StoppedSteps.{stopped_step}
+use Rattle.box_steps.proofs.PassedSteps.{passed_step}
 use Rattle.box_steps.proofs.PlainSteps.{walk_of_moment}
 use Rattle.box_steps.proofs.interface.into_on.Goals as goal
 

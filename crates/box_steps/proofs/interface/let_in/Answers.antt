@@ -2,7 +2,7 @@ use Rattle.std.proofs.Common.{refl}
 use Rattle.header_boxes.proofs.Held.{within_itself}
 use Rattle.vpc_model.specs.Appliances.{appliances_of}
 use Rattle.vpc_model.specs.declared.places.End.TheVariants as ends
-use Rattle.box_steps.proofs.PassedSteps.{lets_in}
+use Rattle.box_steps.proofs.LetInSteps.{lets_in}
 use Rattle.box_steps.proofs.interface.let_in.Goals as goal
 
 pub narrow-requires-clause-within : goal.narrow-requires-clause-within

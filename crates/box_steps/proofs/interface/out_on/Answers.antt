@@ -3,7 +3,9 @@ use Rattle.vpc_base.specs.declared.headers.Dir.TheVariants as dirs
 use Rattle.vpc_model.specs.Accepted.{IsAccepted}
 use Rattle.vpc_model.specs.Appliances.{appliances_of}
 use Rattle.box_steps.proofs.Narrowing.{moment-narrowed}
-use Rattle.box_steps.proofs.PassedSteps.{passed_step, stopped_step, to_router}
+use Rattle.box_steps.proofs.StoppedSteps.{stopped_step}
+use Rattle.box_steps.proofs.PassedSteps.{passed_step}
+use Rattle.box_steps.proofs.LetInSteps.{to_router}
 use Rattle.box_steps.proofs.interface.out_on.Goals as goal
 
 pub returns-in-Some : goal.returns-in-Some

@@ -4,7 +4,8 @@ use Rattle.edge_gateways.specs.Edges.{owner_in}
 use Rattle.vpc_model.specs.Accepted.{IsAccepted}
 use Rattle.vpc_model.specs.Appliances.{appliances_of}
 use Rattle.vpc_model.specs.Lookup.{addresses_in}
-use Rattle.box_steps.proofs.GatewayAnswers.{dst_set, kind_narrowed, kind_set, sent_private, told_own_has, valid_narrowed}
+use Rattle.box_steps.proofs.PairAnswers.{kind_narrowed, valid_narrowed}
+use Rattle.box_steps.proofs.GatewayInward.{dst_set, kind_set, sent_private, told_own_has}
 use Rattle.box_steps.proofs.Rewriting.{walk_of_kind}
 use Rattle.box_steps.proofs.internet.igw_in_on.Goals as goal
 use Rattle.box_steps.specs.Moments.{IsStepOn}

@@ -4,7 +4,8 @@ use Rattle.vpc_model.specs.Accepted.{IsAccepted}
 use Rattle.vpc_model.specs.Appliances.{appliances_of}
 use Rattle.vpc_model.specs.Lookup.{addresses_in}
 use Rattle.vpc_model.specs.Sound.{is_sound}
-use Rattle.box_steps.proofs.GatewayAnswers.{answers_of_publics, gateway-vpc, sent_public, stopped_without_public}
+use Rattle.box_steps.proofs.PairAnswers.{gateway-vpc}
+use Rattle.box_steps.proofs.GatewayOutward.{answers_of_publics, sent_public, stopped_without_public}
 use Rattle.box_steps.proofs.Rewriting.{walk_of_kind}
 use Rattle.box_steps.proofs.internet.igw_out_on.Goals as goal
 use Rattle.box_steps.specs.Moments.{IsStepOn}

@@ -1,6 +1,6 @@
 use Rattle.std.proofs.Common.{subst}
 use Rattle.vpc_model.specs.Accepted.{IsAccepted}
-use Rattle.box_steps.proofs.EdgeAnswers.{answers_routable, answers_unroutable, owner_lies}
+use Rattle.box_steps.proofs.InternetAnswers.{answers_routable, answers_unroutable, owner_lies}
 use Rattle.box_steps.proofs.internet.internet_on.Goals as goal
 
 pub returns-then-unroutable : goal.returns-then-unroutable

@@ -11,7 +11,7 @@ use Rattle.vpc_model.specs.Step.Router.{by_route}
 use Rattle.vpc_model.specs.declared.places.Came.TheVariants as from
 use Rattle.vpc_model.specs.declared.places.Place.TheVariants as places
 use Rattle.box_steps.proofs.Away.{choice_away}
-use Rattle.box_steps.proofs.RouteAnswers.{told_of_low}
+use Rattle.box_steps.proofs.ToldOfSome.{told_of_low}
 use Rattle.box_steps.proofs.missing.router_away_on.Goals as goal
 use Rattle.box_steps.specs.Cuts.{AtPlace, Standing}
 use Rattle.box_steps.specs.Missing.{HoldsOver, misses}

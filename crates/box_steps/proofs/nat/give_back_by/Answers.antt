@@ -6,7 +6,7 @@ use Rattle.vpc_base.specs.declared.headers.Label.TheVariants as labels
 use Rattle.vpc_model.specs.Accepted.{IsAccepted}
 use Rattle.vpc_model.specs.Appliances.{appliances_of}
 use Rattle.vpc_model.specs.Lookup.{addresses_in}
-use Rattle.box_steps.proofs.NatSteps.{answer-and-translated, found-translated, given_back, not_given_back}
+use Rattle.box_steps.proofs.NatInward.{answer-and-translated, found-translated, given_back, not_given_back}
 use Rattle.box_steps.proofs.nat.give_back_by.Goals as goal
 use Rattle.box_steps.specs.Moments.{IsStepOn}
 use Rattle.box_steps.specs.declared.onward.Onward.{Onward}

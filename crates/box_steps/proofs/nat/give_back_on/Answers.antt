@@ -1,7 +1,7 @@
 use Rattle.std.proofs.Common.{◌∙◌, ap, refl, subst, sym}
 use Rattle.vpc_model.specs.Accepted.{IsAccepted}
 use Rattle.vpc_model.specs.Appliances.{appliances_of}
-use Rattle.box_steps.proofs.NatSteps.{one_of, unsolicited_at_nat}
+use Rattle.box_steps.proofs.NatInward.{one_of, unsolicited_at_nat}
 use Rattle.box_steps.proofs.nat.give_back_on.Goals as goal
 
 pub give_back_by-requires-clause-found : goal.give_back_by-requires-clause-found

@@ -2,7 +2,7 @@ use Rattle.std.proofs.Common.{refl, subst, sym}
 use Rattle.vpc_base.specs.declared.headers.Label.{Label}
 use Rattle.vpc_model.specs.Accepted.{IsAccepted}
 use Rattle.vpc_model.specs.Appliances.{appliances_of}
-use Rattle.box_steps.proofs.NatSteps.{answer_at_nat_out}
+use Rattle.box_steps.proofs.NatTables.{answer_at_nat_out}
 use Rattle.box_steps.proofs.nat.nat_out_on.Goals as goal
 use Rattle.box_steps.specs.Moments.{IsBoxMoment, IsStepOn}
 

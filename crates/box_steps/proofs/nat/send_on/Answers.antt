@@ -4,7 +4,8 @@ use Rattle.vpc_base.specs.declared.headers.Label.TheVariants as labels
 use Rattle.vpc_model.specs.Accepted.{IsAccepted}
 use Rattle.vpc_model.specs.Appliances.{appliances_of}
 use Rattle.vpc_model.specs.Lookup.{addresses_in}
-use Rattle.box_steps.proofs.NatSteps.{own_listed, refused_at_nat, translated_step}
+use Rattle.box_steps.proofs.NatTables.{own_listed}
+use Rattle.box_steps.proofs.NatOutward.{refused_at_nat, translated_step}
 use Rattle.box_steps.proofs.nat.send_on.Goals as goal
 use Rattle.box_steps.specs.Moments.{IsStepOn, nat_over}
 use Rattle.box_steps.specs.declared.moment.BoxMoment.{BoxMoment}

@@ -1,6 +1,6 @@
 use Rattle.std.proofs.Common.{◌∙◌, sym}
 use Rattle.fabric.proofs.Peered.{can_carry}
-use Rattle.box_steps.proofs.EdgeAnswers.{answers_of_peering, peer-told}
+use Rattle.box_steps.proofs.PeeringAnswers.{answers_of_peering, peer-told}
 use Rattle.box_steps.proofs.peering.peer_on.Goals as goal
 
 pub returns-in_default : goal.returns-in_default

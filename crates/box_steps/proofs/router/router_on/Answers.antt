@@ -1,23 +1,19 @@
 use Rattle.std.proofs.Common.{◌≡◌, ◌∙◌, ap, subst, sym}
 use Rattle.box_images.proofs.Reducing.{walk_within}
-use Rattle.box_images.specs.Answers.{Answers}
-use Rattle.box_images.specs.Images.{header_at}
+use Rattle.box_images.specs.Terms.{Answers, header_at}
 use Rattle.box_images.specs.declared.images.Part.{Part}
 use Rattle.fabric.proofs.RowFacts.{table-lies}
 use Rattle.fabric.proofs.Routing.{chosen_route-lies}
 use Rattle.header_boxes.specs.Boxes.{low_of}
 use Rattle.vpc_laws.specs.Types.{Description, TableNo}
-use Rattle.vpc_model.specs.Lookup.{table_at, table_of}
-use Rattle.vpc_model.specs.Routes.{chosen_route}
+use Rattle.vpc_model.specs.Terms.{chosen_route, table_at, table_of}
 use Rattle.vpc_model.specs.declared.places.Came.TheVariants as from
 use Rattle.vpc_model.specs.declared.places.Place.TheVariants as places
 use Rattle.vpc_model.specs.declared.stops.Stop.TheVariants as stops
-use Rattle.box_steps.proofs.RouteAnswers.{told_of_low}
+use Rattle.box_steps.proofs.ToldOfSome.{told_of_low}
 use Rattle.box_steps.proofs.RouterAnswers.{answers_of_route, answers_without_route, by_choice}
 use Rattle.box_steps.proofs.router.router_on.Goals as goal
-use Rattle.box_steps.specs.Cuts.{AtPlace}
-use Rattle.box_steps.specs.Onward.{onward_of}
-use Rattle.box_steps.specs.declared.onward.Onward.{Onward}
+use Rattle.box_steps.specs.Terms.{AtPlace, Onward, onward_of}
 use Rattle.box_steps.specs.declared.onward.Onward.TheVariants as onwards
 
 pub within-requires-clause-within : goal.within-requires-clause-within

@@ -5,7 +5,7 @@ use Rattle.vpc_laws.specs.Types.{TgwTableNo}
 use Rattle.vpc_model.specs.Step.Transit.{by_tgw_route, by_tgw_table}
 use Rattle.vpc_model.specs.Transit.{chosen_tgw_route, table_of_attachment}
 use Rattle.vpc_model.specs.declared.places.Place.TheVariants as places
-use Rattle.box_steps.proofs.RouteAnswers.{chosen_within}
+use Rattle.box_steps.proofs.ToldOfSome.{chosen_within}
 use Rattle.box_steps.proofs.Telling.{answers_told}
 use Rattle.box_steps.proofs.transit.tgw_on.Goals as goal
 use Rattle.box_steps.specs.Cuts.{AtPlace}

@@ -7,7 +7,7 @@ use Rattle.vpc_base.specs.declared.headers.Label.TheVariants as labels
 use Rattle.vpc_laws.specs.Types.{Place}
 use Rattle.vpc_model.specs.Appliances.{appliances_of}
 use Rattle.vpc_model.specs.declared.stops.Stop.TheVariants as stops
-use Rattle.box_walk.proofs.Missed.{missed_by_stop, missed_here, sought_later}
+use Rattle.box_walk.proofs.MissedRests.{missed_by_stop, missed_here, sought_later}
 use Rattle.box_walk.proofs.Rests.{rest_arrives, rest_goes_far, rest_loops, rest_stops}
 use Rattle.box_walk.specs.Rests.{is_among}
 use Rattle.box_walk.proofs.seeking.+rest_to.Goals as goal

@@ -1,4 +1,4 @@
-use Rattle.box_walk.proofs.Missed.{sought_from_rest}
+use Rattle.box_walk.proofs.MissedRests.{sought_from_rest}
 use Rattle.vpc_model.specs.Appliances.{appliances_of}
 use Rattle.box_walk.proofs.seeking.seek_on.Goals as goal
 

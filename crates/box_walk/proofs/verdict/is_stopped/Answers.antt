@@ -5,7 +5,7 @@ use Rattle.vpc_laws.specs.Types.{End}
 use Rattle.std.specs.Prelude.{Option}
 use Rattle.vpc_model.specs.Appliances.{appliances_of}
 use Rattle.vpc_model.specs.Near.{near_cuts}
-use Rattle.box_walk.proofs.Missed.{request_missed, told_whether}
+use Rattle.box_walk.proofs.MissedRequests.{request_missed, told_whether}
 use Rattle.box_walk.proofs.Telling.{request_arrives}
 use Rattle.box_walk.specs.Asking.{asked, word_of}
 use Rattle.box_walk.specs.Seeking.{IsWalkSought}

@@ -1,5 +1,5 @@
 use Rattle.std.proofs.Common.{subst}
-use Rattle.box_walk.proofs.Telling.{reply_arrives}
+use Rattle.box_walk.proofs.TellingReplies.{reply_arrives}
 use Rattle.box_walk.specs.Walks.{IsWalkOn}
 use Rattle.box_walk.specs.declared.walks.Ending.{Ending}
 use Rattle.vpc_base.specs.declared.headers.Label.TheVariants as labels

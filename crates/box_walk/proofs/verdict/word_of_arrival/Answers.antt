@@ -1,6 +1,6 @@
 use Rattle.std.proofs.Common.{◌∙◌, ap, sym}
 use Rattle.box_images.specs.declared.images.Image.{Image}
-use Rattle.box_walk.proofs.Telling.{is_reply, no_reply, replied, reply_moment}
+use Rattle.box_walk.proofs.TellingArrivals.{is_reply, no_reply, replied, reply_moment}
 use Rattle.vpc_model.specs.Appliances.{appliances_of}
 use Rattle.vpc_model.specs.Lookup.{addresses_in}
 use Rattle.box_walk.proofs.verdict.word_of_arrival.Goals as goal

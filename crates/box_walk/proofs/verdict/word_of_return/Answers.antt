@@ -1,6 +1,6 @@
 use Rattle.std.proofs.Common.{◌∙◌, ap, sym}
 use Rattle.box_images.specs.declared.images.Image.{Image}
-use Rattle.box_walk.proofs.Telling.{other_return, right_return}
+use Rattle.box_walk.proofs.TellingReplies.{other_return, right_return}
 use Rattle.box_walk.proofs.verdict.word_of_return.Goals as goal
 
 pub answers_on-returned-requires-clause-kinds : goal.answers_on-returned-requires-clause-kinds

@@ -1,4 +1,4 @@
-use Rattle.listing_laws.proofs.DiffTexts.{diff_texts_are_true, diff_texts_fit, diff_texts_pass}
+use Rattle.listing_laws.proofs.DiffTruths.{diff_texts_are_true, diff_texts_fit, diff_texts_pass}
 use Rattle.listing_laws.proofs.laws.diff_laws.Goals as goal
 
 pub returns-clause-are_true : goal.returns-clause-are_true

@@ -1,4 +1,4 @@
-use Rattle.listing_laws.proofs.ReachTexts.{reach_texts_are_true, reach_texts_fit, reach_texts_pass}
+use Rattle.listing_laws.proofs.ReachAnswers.{reach_texts_are_true, reach_texts_fit, reach_texts_pass}
 use Rattle.listing_laws.proofs.laws.reach_laws.Goals as goal
 
 pub returns-clause-are_true : goal.returns-clause-are_true

@@ -2,7 +2,7 @@ use Rattle.std.proofs.Common.{◌∙◌, ap}
 use Rattle.box_walk.specs.Asking.{Asking, asked}
 use Rattle.vpc_laws.specs.Types.{Description}
 use Rattle.vpc_model.specs.declared.places.End.TheVariants as places
-use Rattle.reach_matrix.proofs.AnswerLemmas.{pair_ranges, valid_between}
+use Rattle.reach_matrix.proofs.PairRanges.{pair_ranges, valid_between}
 use Rattle.reach_matrix.specs.Pairs.{address_of, requests_between}
 use Rattle.reach_matrix.proofs.pairs.reach_by.Goals as goal
 

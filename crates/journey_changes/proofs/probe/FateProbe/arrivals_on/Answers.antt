@@ -1,5 +1,5 @@
 use Rattle.std.proofs.Common.{◌∙◌, sym}
-use Rattle.journey_changes.proofs.AlikeLemmas.{come_if}
+use Rattle.journey_changes.proofs.LetInAlike.{come_if}
 use Rattle.journey_changes.proofs.probe.FateProbe.arrivals_on.Goals as goal
 
 pub returns-in-Any : goal.returns-in-Any

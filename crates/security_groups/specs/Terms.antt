@@ -1,0 +1,15 @@
+-- The definitions that longer pages take, from one place.
+pub use Rattle.security_groups.specs.Alike.{BothGroups, GroupsLetInSame}
+pub use Rattle.security_groups.specs.Asking.{first_in_group, first_of, least, lesser, no_rules, rules_of}
+pub use Rattle.security_groups.specs.Dividing.{AllowsNone, DivideAt, DivideGroups, HasRuleCuts, IsAllowedOn, IsLeftWith, IsStretchOf, any_group_allows, rule_at, rules_in}
+pub use Rattle.security_groups.specs.Index.{GroupLists, HasRulesOf, allowed}
+pub use Rattle.security_groups.specs.Joined.{AreAlike, IsJoint, SayTheSame}
+pub use Rattle.security_groups.specs.Lists.{HasEntriesOf}
+pub use Rattle.security_groups.specs.Members.{AreFit, all_members, groups_with, key_with, keys_with, number_of}
+pub use Rattle.security_groups.specs.Once.{once}
+pub use Rattle.security_groups.specs.Peers.{ArePeers, are_joined}
+pub use Rattle.security_groups.specs.Resolved.{AreRulesOf, HasRulesIn, IsGroupOf, IsResolved, IsRuleOf, counted, list_no}
+pub use Rattle.security_groups.specs.Rules.{DivideRule, DivideRules, allows, any_allows, has_entry, has_member, names}
+pub use Rattle.security_groups.specs.Tables.{AreBegun, AreEnded, AreLasts, BeginAfter, EndBy, run_of}
+pub use Rattle.security_groups.specs.declared.groups.GroupRules.{GroupRules}
+pub use Rattle.security_groups.specs.declared.rules.Rule.{Rule}
