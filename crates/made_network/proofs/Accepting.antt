@@ -1,11 +1,13 @@
 -- A generated network is accepted: one kind of refusal at a time.
-use Rattle.std.proofs.Common.{◌++◌, ◌==◌, ◌≡◌, ◌≤◌, ◌∙◌, ◌∷◌, ◌||◌, [], Bool, List, ap, arith, bytes_eq, codes, false, map, nat_le, nat_lt, ne_eqb, not, refl, true, ℕ}
+use Rattle.std.proofs.Common.{◌==◌, ◌≡◌, ◌≤◌, ◌∙◌, ◌∷◌, ◌||◌, [], Bool, List, ap, arith, bytes_eq, codes, false, map, nat_le, nat_lt, ne_eqb, not, refl, true, ℕ}
 use Rattle.std.specs.List.{count_by, filter, filter_map, list_any}
 use Rattle.std.proofs.lemmas.Bool.{and_right, or_left}
 use Rattle.std.proofs.lemmas.Bool.Decides.{nat_tests}
 use Rattle.std.proofs.lemmas.List.FromFn.{length-map-range_with_len}
 use Rattle.vpc_base.proofs.Members.{nothing-append}
-use Rattle.vpc_model.specs.Accepted.{duplicate_addresses, duplicate_ids, duplicate_publics, duplicates_in, holds_twice, ids_by_list, is_long, is_long_group, is_main_of, is_table_of, missing_references, public_addresses, repeats, same_address, too_long, too_many_rows, two_acls, two_gateways, two_tables, without_acl, without_table}
+use Rattle.vpc_laws.proofs.Accepting.{faultless_is_accepted}
+use Rattle.vpc_laws.proofs.Lengths.{too_long-none}
+use Rattle.vpc_model.specs.Accepted.{duplicate_addresses, duplicate_ids, duplicate_publics, duplicates_in, holds_twice, ids_by_list, is_long, is_long_group, is_main_of, is_table_of, public_addresses, repeats, same_address, too_long, too_many_rows, two_acls, two_gateways, two_tables, without_acl, without_table}
 use Rattle.vpc_model.specs.Lookup.{is_listed, vpc_of_interface}
 use Rattle.vpc_model.specs.declared.refusals.ListName.{ListName}
 use Rattle.vpc_model.specs.declared.refusals.ListName.TheVariants as named
@@ -143,35 +145,46 @@ short-lists name p row n most none = rw (short row n most, list_any-none p row 1
 
 no-long_lists : (n : ℕ) → n ≤ 50 → too_many_rows (made n) ≡ []
 no-long_lists n most =
-    let d = made n in
-    let t1 = too_long named.Vpcs (λ (v : Vpc). is_long v.blocks) d.vpcs in
-    let t2 = t1 ++ too_long named.Subnets (λ (s : Subnet). false) d.subnets in
-    let t3 = t2 ++ too_long named.NetworkInterfaces (λ (e : Interface). is_long e.addresses || is_long e.groups) d.interfaces in
-    let t4 = t3 ++ too_long named.RouteTables (λ (t : RouteTable). is_long t.subnets || is_long t.routes) d.tables in
-    let t5 = t4 ++ [] in
-    let t6 = t5 ++ too_long named.NetworkAcls (λ (a : Acl). is_long a.subnets || is_long a.rows) d.acls in
-    let t7 = t6 ++ too_long named.SecurityGroups is_long_group d.groups in
-    let t8 = t7 ++ [] in
-    let t9 = t8 ++ [] in
-    let t10 = t9 ++ [] in
-    let t11 = t10 ++ too_long named.TransitGatewayVpcAttachments (λ (a : Attachment). is_long a.subnets) d.attachments in
-    let t12 = t11 ++ too_long named.TransitGatewayAttachments (λ (x : Association). false) d.associations in
-    let t13 = t12 ++ too_long named.TransitGatewayRoutes (λ (t : TgwTable). is_long t.routes) d.tgw_tables in
-    let routes : too_long named.TransitGatewayRoutes (λ (t : TgwTable). is_long t.routes) (made_gateway_table n ∷ []) ≡ [] = one_list named.TransitGatewayRoutes (λ (t : TgwTable). is_long t.routes) (made_gateway_table n) (short _ n most) in
-    let n1 = short-lists named.Vpcs (λ (v : Vpc). is_long v.blocks) made_vpc n most (λ k. refl) in
-    let n2 = nothing-append t1 _ n1 (short-lists named.Subnets (λ (s : Subnet). false) made_subnet n most (λ k. refl)) in
-    let n3 = nothing-append t2 _ n2 (short-lists named.NetworkInterfaces (λ (e : Interface). is_long e.addresses || is_long e.groups) made_interface n most (λ k. refl)) in
-    let n4 = nothing-append t3 _ n3 (short-lists named.RouteTables (λ (t : RouteTable). is_long t.subnets || is_long t.routes) made_table n most (λ k. refl)) in
-    let n5 = nothing-append t4 [] n4 refl in
-    let n6 = nothing-append t5 _ n5 (short-lists named.NetworkAcls (λ (a : Acl). is_long a.subnets || is_long a.rows) made_acl n most (λ k. refl)) in
-    let n7 = nothing-append t6 _ n6 (short-lists named.SecurityGroups is_long_group made_group n most (λ k. refl)) in
-    let n8 = nothing-append t7 [] n7 refl in
-    let n9 = nothing-append t8 [] n8 refl in
-    let n10 = nothing-append t9 [] n9 refl in
-    let n11 = nothing-append t10 _ n10 (short-lists named.TransitGatewayVpcAttachments (λ (a : Attachment). is_long a.subnets) made_attachment n most (λ k. refl)) in
-    let n12 = nothing-append t11 _ n11 (short-lists named.TransitGatewayAttachments (λ (x : Association). false) made_association n most (λ k. refl)) in
-    let n13 = nothing-append t12 _ n12 routes in
-    nothing-append t13 [] n13 refl
+    too_long-none (made n) (
+      short-lists named.Vpcs (λ (v : Vpc). is_long v.blocks) made_vpc n most (λ k. refl),
+      (
+        short-lists named.Subnets (λ (s : Subnet). false) made_subnet n most (λ k. refl),
+        (
+          short-lists named.NetworkInterfaces (λ (e : Interface). is_long e.addresses || is_long e.groups) made_interface n most (λ k. refl),
+          (
+            short-lists named.RouteTables (λ (t : RouteTable). is_long t.subnets || is_long t.routes) made_table n most (λ k. refl),
+            (
+              refl,
+              (
+                short-lists named.NetworkAcls (λ (a : Acl). is_long a.subnets || is_long a.rows) made_acl n most (λ k. refl),
+                (
+                  short-lists named.SecurityGroups is_long_group made_group n most (λ k. refl),
+                  (
+                    refl,
+                    (
+                      refl,
+                      (
+                        refl,
+                        (
+                          short-lists named.TransitGatewayVpcAttachments (λ (a : Attachment). is_long a.subnets) made_attachment n most (λ k. refl),
+                          (
+                            short-lists named.TransitGatewayAttachments (λ (x : Association). false) made_association n most (λ k. refl),
+                            (
+                              one_list named.TransitGatewayRoutes (λ (t : TgwTable). is_long t.routes) (made_gateway_table n) (short _ n most),
+                              (refl, tt),
+                            ),
+                          ),
+                        ),
+                      ),
+                    ),
+                  ),
+                ),
+              ),
+            ),
+          ),
+        ),
+      ),
+    )
   where
     one_list : {X : Type 0} (name : ListName) (p : X → Bool) (x : X) → p x ≡ false → too_long name p (x ∷ []) ≡ []
     one_list name p x e = rw e
@@ -180,22 +193,15 @@ no-long_lists n most =
 
 pub made_is_accepted : MadeIsAccepted
 made_is_accepted n some most =
-    let d = made n in
-    let r1 = duplicate_ids d in
-    let r2 = r1 ++ missing_references d in
-    let r3 = r2 ++ duplicate_addresses d in
-    let r4 = r3 ++ duplicate_publics d in
-    let r5 = r4 ++ without_table d in
-    let r6 = r5 ++ without_acl d in
-    let r7 = r6 ++ two_gateways d in
-    let r8 = r7 ++ two_tables d in
-    let r9 = r8 ++ two_acls d in
-    let n2 = nothing-append r1 (missing_references d) (no-duplicate_ids n most) (nothing-missing n most) in
-    let n3 = nothing-append r2 (duplicate_addresses d) n2 (no-duplicate_addresses n) in
-    let n4 = nothing-append r3 (duplicate_publics d) n3 (no-duplicate_publics n) in
-    let n5 = nothing-append r4 (without_table d) n4 (no-lack_of_table n) in
-    let n6 = nothing-append r5 (without_acl d) n5 (no-lack_of_acl n) in
-    let n7 = nothing-append r6 (two_gateways d) n6 (no-two_gateways n) in
-    let n8 = nothing-append r7 (two_tables d) n7 (no-two_tables n most) in
-    let n9 = nothing-append r8 (two_acls d) n8 (no-two_acls n most) in
-    nothing-append r9 (too_many_rows d) n9 (no-long_lists n most)
+    faultless_is_accepted (made n) (record {
+      ids = no-duplicate_ids n most;
+      references = nothing-missing n most;
+      addresses = no-duplicate_addresses n;
+      publics = no-duplicate_publics n;
+      tables = no-lack_of_table n;
+      acls = no-lack_of_acl n;
+      one_gateway = no-two_gateways n;
+      one_table = no-two_tables n most;
+      one_acl = no-two_acls n most;
+      lengths = no-long_lists n most;
+    })

@@ -8,7 +8,8 @@ use Rattle.std.proofs.lemmas.List.Elements.{filter_agree}
 use Rattle.vpc_base.proofs.Members.{append-nothing}
 use Rattle.copied_rows.specs.Filters.{with_filters}
 use Rattle.vpc_laws.specs.Types.{Acl, Appliance, Association, Attachment, Description, Group, Interface, InternetGateway, NatGateway, Peering, Permission, PrefixList, RouteTable, Subnet, TgwTable, Vpc}
-use Rattle.vpc_laws.proofs.Accepting.{accepted_is_faultless}
+use Rattle.vpc_laws.proofs.Accepting.{AreEmpty, accepted_is_faultless, faultless_is_accepted}
+use Rattle.vpc_laws.proofs.Lengths.{none-too_long, too_long-none, too_long_by_list}
 use Rattle.vpc_model.specs.Accepted.{IsAccepted, duplicates_in, holds_twice, ids_by_list, is_long, is_long_group, is_long_rule, missing_of_acl, missing_of_appliance, missing_of_attachment, missing_of_group, missing_of_igw, missing_of_interface, missing_of_life, missing_of_subnet, missing_of_table, missing_references, too_long, too_many_rows, two_acls, wanted, without_acl}
 use Rattle.vpc_model.specs.Lookup.{has_group, is_listed}
 use Rattle.vpc_model.specs.declared.refusals.ListName.{ListName}
@@ -153,60 +154,45 @@ two_acls-same d acls groups rows =
 
 lengths-same : (d : Description) (acls : List Acl) (groups : List Group) → Alike FewerRows d.acls acls → Alike FewerRules d.groups groups
     → too_many_rows d ≡ [] → too_many_rows (with_filters d acls groups) ≡ []
-lengths-same d acls groups rows rules none =
-    let n1 = too_long lists.Vpcs (λ (v : Vpc). is_long v.blocks) d.vpcs in
-    let n2 = n1 ++ too_long lists.Subnets (λ (s : Subnet). false) d.subnets in
-    let n3 = n2 ++ too_long lists.NetworkInterfaces (λ (e : Interface). is_long e.addresses || is_long e.groups) d.interfaces in
-    let n4 = n3 ++ too_long lists.RouteTables (λ (t : RouteTable). is_long t.subnets || is_long t.routes) d.tables in
-    let n5 = n4 ++ too_long lists.PrefixLists (λ (l : PrefixList). is_long l.entries) d.lists in
-    let n6 = n5 ++ too_long lists.NetworkAcls (λ (a : Acl). is_long a.subnets || is_long a.rows) d.acls in
-    let n7 = n6 ++ too_long lists.SecurityGroups is_long_group d.groups in
-    let n8 = n7 ++ too_long lists.InternetGateways (λ (g : InternetGateway). is_long g.vpcs) d.igws in
-    let n9 = n8 ++ too_long lists.NatGateways (λ (n : NatGateway). false) d.nats in
-    let n10 = n9 ++ too_long lists.VpcPeeringConnections (λ (x : Peering). false) d.peerings in
-    let n11 = n10 ++ too_long lists.TransitGatewayVpcAttachments (λ (a : Attachment). is_long a.subnets) d.attachments in
-    let n12 = n11 ++ too_long lists.TransitGatewayAttachments (λ (x : Association). false) d.associations in
-    let n13 = n12 ++ too_long lists.TransitGatewayRoutes (λ (t : TgwTable). is_long t.routes) d.tgw_tables in
-    let p13 = append-nothing n13 (too_long lists.Appliances (λ (a : Appliance). false) d.appliances) none in
-    let p12 = append-nothing n12 (too_long lists.TransitGatewayRoutes (λ (t : TgwTable). is_long t.routes) d.tgw_tables) p13.0 in
-    let p11 = append-nothing n11 (too_long lists.TransitGatewayAttachments (λ (x : Association). false) d.associations) p12.0 in
-    let p10 = append-nothing n10 (too_long lists.TransitGatewayVpcAttachments (λ (a : Attachment). is_long a.subnets) d.attachments) p11.0 in
-    let p9 = append-nothing n9 (too_long lists.VpcPeeringConnections (λ (x : Peering). false) d.peerings) p10.0 in
-    let p8 = append-nothing n8 (too_long lists.NatGateways (λ (n : NatGateway). false) d.nats) p9.0 in
-    let p7 = append-nothing n7 (too_long lists.InternetGateways (λ (g : InternetGateway). is_long g.vpcs) d.igws) p8.0 in
-    let p6 = append-nothing n6 (too_long lists.SecurityGroups is_long_group d.groups) p7.0 in
-    let p5 = append-nothing n5 (too_long lists.NetworkAcls (λ (a : Acl). is_long a.subnets || is_long a.rows) d.acls) p6.0 in
-    let of_acls = too_long-alike FewerRows lists.NetworkAcls (λ (a : Acl). is_long a.subnets || is_long a.rows) short-acl d.acls acls rows p5.1 ∙ sym p5.1 in
-    let of_groups = too_long-alike FewerRules lists.SecurityGroups is_long_group short-group d.groups groups rules p6.1 ∙ sym p6.1 in
-    ap₂ (λ (a g : List Refusal).
-    n5 ++ a ++ g
-    ++ too_long lists.InternetGateways (λ (g : InternetGateway). is_long g.vpcs) d.igws
-    ++ too_long lists.NatGateways (λ (n : NatGateway). false) d.nats
-    ++ too_long lists.VpcPeeringConnections (λ (x : Peering). false) d.peerings
-    ++ too_long lists.TransitGatewayVpcAttachments (λ (a : Attachment). is_long a.subnets) d.attachments
-    ++ too_long lists.TransitGatewayAttachments (λ (x : Association). false) d.associations
-    ++ too_long lists.TransitGatewayRoutes (λ (t : TgwTable). is_long t.routes) d.tgw_tables
-    ++ too_long lists.Appliances (λ (a : Appliance). false) d.appliances) of_acls of_groups
-    ∙ none
+lengths-same d acls groups rows rules none = by (none-too_long d none)
+  where
+    by : AreEmpty (too_long_by_list d) → too_many_rows (with_filters d acls groups) ≡ []
+    by (vpcs, (subnets, (interfaces, (tables, (prefix_lists, (of_acls, (of_groups, later))))))) =
+        too_long-none (with_filters d acls groups) (
+          vpcs,
+          (
+            subnets,
+            (
+              interfaces,
+              (
+                tables,
+                (
+                  prefix_lists,
+                  (
+                    too_long-alike FewerRows lists.NetworkAcls (λ (a : Acl). is_long a.subnets || is_long a.rows) short-acl d.acls acls rows of_acls,
+                    (too_long-alike FewerRules lists.SecurityGroups is_long_group short-group d.groups groups rules of_groups, later),
+                  ),
+                ),
+              ),
+            ),
+          ),
+        )
 
 -- ---- all of it
-
-nothing-in-all : (a b c e f g h i j k : List Refusal) → a ≡ [] → b ≡ [] → c ≡ [] → e ≡ [] → f ≡ [] → g ≡ [] → h ≡ [] → i ≡ [] → j ≡ [] → k ≡ []
-    → a ++ b ++ c ++ e ++ f ++ g ++ h ++ i ++ j ++ k ≡ []
-nothing-in-all a b c e f g h i j k a1 b1 c1 e1 f1 g1 h1 i1 j1 k1 = cc
 
 pub accepted_with_fewer : (d : Description) (acls : List Acl) (groups : List Group) → Alike FewerRows d.acls acls → Alike FewerRules d.groups groups
     → IsAccepted d → IsAccepted (with_filters d acls groups)
 accepted_with_fewer d acls groups rows rules accepted =
     let right = accepted_is_faultless d accepted in
-    nothing-in-all _ _ _ _ _ _ _ _ _ _
-    (ap (flat_map duplicates_in) (ids-same d acls groups rows rules) ∙ right.ids)
-    (references-same d acls groups rows rules right.references)
-    right.addresses
-    right.publics
-    right.tables
-    (without_acl-same d acls groups rows ∙ right.acls)
-    right.one_gateway
-    right.one_table
-    (two_acls-same d acls groups rows ∙ right.one_acl)
-    (lengths-same d acls groups rows rules right.lengths)
+    faultless_is_accepted (with_filters d acls groups) (record {
+      ids = ap (flat_map duplicates_in) (ids-same d acls groups rows rules) ∙ right.ids;
+      references = references-same d acls groups rows rules right.references;
+      addresses = right.addresses;
+      publics = right.publics;
+      tables = right.tables;
+      acls = without_acl-same d acls groups rows ∙ right.acls;
+      one_gateway = right.one_gateway;
+      one_table = right.one_table;
+      one_acl = two_acls-same d acls groups rows ∙ right.one_acl;
+      lengths = lengths-same d acls groups rows rules right.lengths;
+    })

@@ -5,9 +5,9 @@ use Rattle.std.specs.Str.{bytes_eq}
 use Rattle.std.proofs.lemmas.Bool.{and_parts, cases_Bool, leb-false, or_parts}
 use Rattle.std.proofs.lemmas.List.Folds.{list_any-append}
 use Rattle.vpc_base.proofs.Bytes.{bytes_eq-comm}
-use Rattle.vpc_base.proofs.Members.{AllByRecursion-weaker, append-nothing, filter-nothing, flat_map-nothing, map-nothing}
+use Rattle.vpc_base.proofs.Members.{AllByRecursion-weaker, append-nothing, filter-nothing, flat_map-nothing, map-nothing, nothing-append}
 use Rattle.vpc_base.proofs.Numbers.{eqb-comm}
-use Rattle.vpc_laws.specs.Types.{Acl, Appliance, Attachment, Description, Group, Interface, InternetGateway, NatGateway, NatLife, Permission, Route, RouteTable, Subnet, Target, Vpc}
+use Rattle.vpc_laws.specs.Types.{Acl, Appliance, Attachment, Description, Group, Interface, InternetGateway, NatGateway, NatLife, Permission, Refusal, Route, RouteTable, Subnet, Target, Vpc}
 use Rattle.vpc_model.specs.declared.rows.NatLife.TheVariants as lives
 use Rattle.vpc_model.specs.declared.rows.Target.TheVariants as targets
 use Rattle.vpc_model.specs.declared.refusals.Refusal.TheVariants as refusals
@@ -15,38 +15,54 @@ use Rattle.vpc_model.specs.Accepted.{IsAccepted, duplicate_addresses, duplicate_
 use Rattle.vpc_model.specs.Lookup.{eni_no, has_group, has_igw, has_interface, has_list, has_nat, has_peering, has_subnet, has_vpc, interface_at, is_listed, nat_at, nat_no, peer_no, peering_at}
 use Rattle.vpc_laws.specs.Accepted.{HasAllNamed, HasNothingTwice, HasTarget, IsFaultless}
 
+-- ---- lists one after the other
+
+-- these lists behind the first
+abbrev pub joined : {X : Type 0} → List X → List (List X) → List X
+joined first [] = first
+joined first (xs ∷ rest) = joined (first ++ xs) rest
+
+abbrev pub AreEmpty : {X : Type 0} → List (List X) → Type 0
+AreEmpty lists = AllByRecursion (λ xs. xs ≡ []) lists
+
+pub joined-nothing : {X : Type 0} (first : List X) (rest : List (List X)) → joined first rest ≡ [] → (first ≡ []) × AreEmpty rest
+joined-nothing first [] e = (e, tt)
+joined-nothing first (xs ∷ rest) e =
+    let later = joined-nothing (first ++ xs) rest e in
+    let parts = append-nothing first xs later.0 in
+    (parts.0, (parts.1, later.1))
+
+pub nothing-joined : {X : Type 0} (first : List X) (rest : List (List X)) → first ≡ [] → AreEmpty rest → joined first rest ≡ []
+nothing-joined first [] e none = e
+nothing-joined first (xs ∷ rest) e none = nothing-joined (first ++ xs) rest (nothing-append first xs e none.0) none.1
+
+-- ---- what is wrong, by kind
+
+abbrev kinds : Description → List (List Refusal)
+kinds d =
+    duplicate_ids d ∷ missing_references d ∷ duplicate_addresses d ∷ duplicate_publics d ∷ without_table d ∷ without_acl d ∷ two_gateways d ∷ two_tables d ∷ two_acls d ∷ too_many_rows d ∷ []
+
 pub accepted_is_faultless : (d : Description) → IsAccepted d → IsFaultless d
-accepted_is_faultless d accepted =
-    let r1 = duplicate_ids d in
-    let r2 = r1 ++ missing_references d in
-    let r3 = r2 ++ duplicate_addresses d in
-    let r4 = r3 ++ duplicate_publics d in
-    let r5 = r4 ++ without_table d in
-    let r6 = r5 ++ without_acl d in
-    let r7 = r6 ++ two_gateways d in
-    let r8 = r7 ++ two_tables d in
-    let r9 = r8 ++ two_acls d in
-    let p9 = append-nothing r9 (too_many_rows d) accepted in
-    let p8 = append-nothing r8 (two_acls d) p9.0 in
-    let p7 = append-nothing r7 (two_tables d) p8.0 in
-    let p6 = append-nothing r6 (two_gateways d) p7.0 in
-    let p5 = append-nothing r5 (without_acl d) p6.0 in
-    let p4 = append-nothing r4 (without_table d) p5.0 in
-    let p3 = append-nothing r3 (duplicate_publics d) p4.0 in
-    let p2 = append-nothing r2 (duplicate_addresses d) p3.0 in
-    let p1 = append-nothing r1 (missing_references d) p2.0 in
-    record {
-      ids = p1.0;
-      references = p1.1;
-      addresses = p2.1;
-      publics = p3.1;
-      tables = p4.1;
-      acls = p5.1;
-      one_gateway = p6.1;
-      one_table = p7.1;
-      one_acl = p8.1;
-      lengths = p9.1;
+accepted_is_faultless d accepted = by (joined-nothing [] (kinds d) accepted).1
+  where
+    by : AreEmpty (kinds d) → IsFaultless d
+    by (ids, (references, (addresses, (publics, (tables, (acls, (one_gateway, (one_table, (one_acl, (lengths, _)))))))))) = record {
+      ids = ids;
+      references = references;
+      addresses = addresses;
+      publics = publics;
+      tables = tables;
+      acls = acls;
+      one_gateway = one_gateway;
+      one_table = one_table;
+      one_acl = one_acl;
+      lengths = lengths;
     }
+
+pub faultless_is_accepted : (d : Description) → IsFaultless d → IsAccepted d
+faultless_is_accepted d is =
+    nothing-joined [] (kinds d) refl
+    (is.ids, (is.references, (is.addresses, (is.publics, (is.tables, (is.acls, (is.one_gateway, (is.one_table, (is.one_acl, (is.lengths, tt))))))))))
 
 -- ---- references
 

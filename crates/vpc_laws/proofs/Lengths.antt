@@ -1,14 +1,14 @@
 -- The lists of an accepted description are short.
-use Rattle.std.proofs.Common.{inl, inr, ◌≡◌, ◌||◌, Bool, List, [], ◌∷◌, ◌++◌, false, length}
+use Rattle.std.proofs.Common.{inl, inr, ◌≡◌, ◌||◌, Bool, List, [], ◌∷◌, ◌++◌, false, length, refl}
 use Rattle.std.specs.List.{Contains, list_any}
 use Rattle.std.proofs.lemmas.Bool.{cases_Bool, ltb-false, or_parts}
-use Rattle.vpc_base.proofs.Members.{append-nothing, list_any-fails}
-use Rattle.vpc_laws.specs.Types.{Acl, Appliance, Association, Attachment, Description, Group, Interface, InternetGateway, ListName, NatGateway, Peering, Permission, PrefixList, RouteTable, Subnet, TgwTable, Vpc}
+use Rattle.vpc_base.proofs.Members.{list_any-fails}
+use Rattle.vpc_laws.specs.Types.{Acl, Appliance, Association, Attachment, Description, Group, Interface, InternetGateway, ListName, NatGateway, Peering, Permission, PrefixList, Refusal, RouteTable, Subnet, TgwTable, Vpc}
 use Rattle.vpc_model.specs.declared.refusals.ListName.TheVariants as lists
 use Rattle.vpc_model.specs.declared.refusals.Refusal.TheVariants as refusals
-use Rattle.vpc_model.specs.Accepted.{IsAccepted, is_long, is_long_group, is_long_rule, too_long}
+use Rattle.vpc_model.specs.Accepted.{IsAccepted, is_long, is_long_group, is_long_rule, too_long, too_many_rows}
 use Rattle.vpc_laws.specs.Accepted.{HasShortLists, IsShort}
-use Rattle.vpc_laws.proofs.Accepting.{accepted_is_faultless}
+use Rattle.vpc_laws.proofs.Accepting.{AreEmpty, accepted_is_faultless, joined-nothing, nothing-joined}
 
 is_long-short : {X : Type 0} (xs : List X) → is_long xs ≡ false → IsShort xs
 is_long-short xs e = ltb-false 100000 (length xs) e
@@ -48,71 +48,74 @@ group-short g e =
       rules = λ p has. rule-short p (list_any-fails is_long_rule (g.inward ++ g.outward) p inner.1 has);
     }
 
+-- ---- the lists of a description
+
+-- what is too long, by list
+abbrev pub too_long_by_list : Description → List (List Refusal)
+too_long_by_list d =
+    too_long lists.Vpcs (λ (v : Vpc). is_long v.blocks) d.vpcs
+    ∷ too_long lists.Subnets (λ (s : Subnet). false) d.subnets
+    ∷ too_long lists.NetworkInterfaces (λ (e : Interface). is_long e.addresses || is_long e.groups) d.interfaces
+    ∷ too_long lists.RouteTables (λ (t : RouteTable). is_long t.subnets || is_long t.routes) d.tables
+    ∷ too_long lists.PrefixLists (λ (l : PrefixList). is_long l.entries) d.lists
+    ∷ too_long lists.NetworkAcls (λ (a : Acl). is_long a.subnets || is_long a.rows) d.acls
+    ∷ too_long lists.SecurityGroups is_long_group d.groups
+    ∷ too_long lists.InternetGateways (λ (g : InternetGateway). is_long g.vpcs) d.igws
+    ∷ too_long lists.NatGateways (λ (n : NatGateway). false) d.nats
+    ∷ too_long lists.VpcPeeringConnections (λ (x : Peering). false) d.peerings
+    ∷ too_long lists.TransitGatewayVpcAttachments (λ (a : Attachment). is_long a.subnets) d.attachments
+    ∷ too_long lists.TransitGatewayAttachments (λ (x : Association). false) d.associations
+    ∷ too_long lists.TransitGatewayRoutes (λ (t : TgwTable). is_long t.routes) d.tgw_tables
+    ∷ too_long lists.Appliances (λ (a : Appliance). false) d.appliances
+    ∷ []
+
+pub none-too_long : (d : Description) → too_many_rows d ≡ [] → AreEmpty (too_long_by_list d)
+none-too_long d none = (joined-nothing [] (too_long_by_list d) none).1
+
+pub too_long-none : (d : Description) → AreEmpty (too_long_by_list d) → too_many_rows d ≡ []
+too_long-none d none = nothing-joined [] (too_long_by_list d) refl none
+
 pub accepted_has_short_lists : (d : Description) → IsAccepted d → HasShortLists d
-accepted_has_short_lists d accepted =
-    let faultless = accepted_is_faultless d accepted in
-    let n1 = too_long lists.Vpcs (λ (v : Vpc). is_long v.blocks) d.vpcs in
-    let n2 = n1 ++ too_long lists.Subnets (λ (s : Subnet). false) d.subnets in
-    let n3 = n2 ++ too_long lists.NetworkInterfaces (λ (e : Interface). is_long e.addresses || is_long e.groups) d.interfaces in
-    let n4 = n3 ++ too_long lists.RouteTables (λ (t : RouteTable). is_long t.subnets || is_long t.routes) d.tables in
-    let n5 = n4 ++ too_long lists.PrefixLists (λ (l : PrefixList). is_long l.entries) d.lists in
-    let n6 = n5 ++ too_long lists.NetworkAcls (λ (a : Acl). is_long a.subnets || is_long a.rows) d.acls in
-    let n7 = n6 ++ too_long lists.SecurityGroups is_long_group d.groups in
-    let n8 = n7 ++ too_long lists.InternetGateways (λ (g : InternetGateway). is_long g.vpcs) d.igws in
-    let n9 = n8 ++ too_long lists.NatGateways (λ (n : NatGateway). false) d.nats in
-    let n10 = n9 ++ too_long lists.VpcPeeringConnections (λ (x : Peering). false) d.peerings in
-    let n11 = n10 ++ too_long lists.TransitGatewayVpcAttachments (λ (a : Attachment). is_long a.subnets) d.attachments in
-    let n12 = n11 ++ too_long lists.TransitGatewayAttachments (λ (x : Association). false) d.associations in
-    let n13 = n12 ++ too_long lists.TransitGatewayRoutes (λ (t : TgwTable). is_long t.routes) d.tgw_tables in
-    let p13 = append-nothing n13 (too_long lists.Appliances (λ (a : Appliance). false) d.appliances) faultless.lengths in
-    let p12 = append-nothing n12 (too_long lists.TransitGatewayRoutes (λ (t : TgwTable). is_long t.routes) d.tgw_tables) p13.0 in
-    let p11 = append-nothing n11 (too_long lists.TransitGatewayAttachments (λ (x : Association). false) d.associations) p12.0 in
-    let p10 = append-nothing n10 (too_long lists.TransitGatewayVpcAttachments (λ (a : Attachment). is_long a.subnets) d.attachments) p11.0 in
-    let p9 = append-nothing n9 (too_long lists.VpcPeeringConnections (λ (x : Peering). false) d.peerings) p10.0 in
-    let p8 = append-nothing n8 (too_long lists.NatGateways (λ (n : NatGateway). false) d.nats) p9.0 in
-    let p7 = append-nothing n7 (too_long lists.InternetGateways (λ (g : InternetGateway). is_long g.vpcs) d.igws) p8.0 in
-    let p6 = append-nothing n6 (too_long lists.SecurityGroups is_long_group d.groups) p7.0 in
-    let p5 = append-nothing n5 (too_long lists.NetworkAcls (λ (a : Acl). is_long a.subnets || is_long a.rows) d.acls) p6.0 in
-    let p4 = append-nothing n4 (too_long lists.PrefixLists (λ (l : PrefixList). is_long l.entries) d.lists) p5.0 in
-    let p3 = append-nothing n3 (too_long lists.RouteTables (λ (t : RouteTable). is_long t.subnets || is_long t.routes) d.tables) p4.0 in
-    let p2 = append-nothing n2 (too_long lists.NetworkInterfaces (λ (e : Interface). is_long e.addresses || is_long e.groups) d.interfaces) p3.0 in
-    let p1 = append-nothing n1 (too_long lists.Subnets (λ (s : Subnet). false) d.subnets) p2.0 in
-    let vpcs = short-list lists.Vpcs (λ (v : Vpc). is_long v.blocks) d.vpcs p1.0 in
-    let interfaces = short-list lists.NetworkInterfaces (λ (e : Interface). is_long e.addresses || is_long e.groups) d.interfaces p2.1 in
-    let tables = short-list lists.RouteTables (λ (t : RouteTable). is_long t.subnets || is_long t.routes) d.tables p3.1 in
-    let entries = short-list lists.PrefixLists (λ (l : PrefixList). is_long l.entries) d.lists p4.1 in
-    let acls = short-list lists.NetworkAcls (λ (a : Acl). is_long a.subnets || is_long a.rows) d.acls p5.1 in
-    let groups = short-list lists.SecurityGroups is_long_group d.groups p6.1 in
-    let igws = short-list lists.InternetGateways (λ (g : InternetGateway). is_long g.vpcs) d.igws p7.1 in
-    let attachments = short-list lists.TransitGatewayVpcAttachments (λ (a : Attachment). is_long a.subnets) d.attachments p10.1 in
-    let transit = short-list lists.TransitGatewayRoutes (λ (t : TgwTable). is_long t.routes) d.tgw_tables p12.1 in
-    record {
-      vpcs = vpcs.0;
-      blocks_of_vpc = λ v has. is_long-short v.blocks (vpcs.1 v has);
-      subnets = (short-list lists.Subnets (λ (s : Subnet). false) d.subnets p1.1).0;
-      interfaces = interfaces.0;
-      addresses_of_interface = λ e has. (both-short e.addresses e.groups (interfaces.1 e has)).0;
-      groups_of_interface = λ e has. (both-short e.addresses e.groups (interfaces.1 e has)).1;
-      tables = tables.0;
-      subnets_of_table = λ t has. (both-short t.subnets t.routes (tables.1 t has)).0;
-      routes_of_table = λ t has. (both-short t.subnets t.routes (tables.1 t has)).1;
-      lists = entries.0;
-      entries_of_list = λ l has. is_long-short l.entries (entries.1 l has);
-      acls = acls.0;
-      subnets_of_acl = λ a has. (both-short a.subnets a.rows (acls.1 a has)).0;
-      rows_of_acl = λ a has. (both-short a.subnets a.rows (acls.1 a has)).1;
-      groups = groups.0;
-      inward_of_group = λ g has. (group-short g (groups.1 g has)).inward;
-      outward_of_group = λ g has. (group-short g (groups.1 g has)).outward;
-      named_by_rule = λ g p has at. (group-short g (groups.1 g has)).rules p at;
-      igws = igws.0;
-      vpcs_of_gateway = λ g has. is_long-short g.vpcs (igws.1 g has);
-      nats = (short-list lists.NatGateways (λ (n : NatGateway). false) d.nats p8.1).0;
-      peerings = (short-list lists.VpcPeeringConnections (λ (x : Peering). false) d.peerings p9.1).0;
-      attachments = attachments.0;
-      subnets_of_attachment = λ a has. is_long-short a.subnets (attachments.1 a has);
-      associations = (short-list lists.TransitGatewayAttachments (λ (x : Association). false) d.associations p11.1).0;
-      tgw_tables = transit.0;
-      routes_of_tgw_table = λ t has. is_long-short t.routes (transit.1 t has);
-      appliances = (short-list lists.Appliances (λ (a : Appliance). false) d.appliances p13.1).0;
-    }
+accepted_has_short_lists d accepted = let faultless = accepted_is_faultless d accepted in by (none-too_long d faultless.lengths)
+  where
+    by : AreEmpty (too_long_by_list d) → HasShortLists d
+    by (of_vpcs, (of_subnets, (of_interfaces, (of_tables, (of_lists, (of_acls, (of_groups, (of_igws, (of_nats, (of_peerings, (of_attachments, (of_associations, (of_tgw_tables, (of_appliances, _)))))))))))))) =
+        let vpcs = short-list lists.Vpcs (λ (v : Vpc). is_long v.blocks) d.vpcs of_vpcs in
+        let interfaces = short-list lists.NetworkInterfaces (λ (e : Interface). is_long e.addresses || is_long e.groups) d.interfaces of_interfaces in
+        let tables = short-list lists.RouteTables (λ (t : RouteTable). is_long t.subnets || is_long t.routes) d.tables of_tables in
+        let entries = short-list lists.PrefixLists (λ (l : PrefixList). is_long l.entries) d.lists of_lists in
+        let acls = short-list lists.NetworkAcls (λ (a : Acl). is_long a.subnets || is_long a.rows) d.acls of_acls in
+        let groups = short-list lists.SecurityGroups is_long_group d.groups of_groups in
+        let igws = short-list lists.InternetGateways (λ (g : InternetGateway). is_long g.vpcs) d.igws of_igws in
+        let attachments = short-list lists.TransitGatewayVpcAttachments (λ (a : Attachment). is_long a.subnets) d.attachments of_attachments in
+        let transit = short-list lists.TransitGatewayRoutes (λ (t : TgwTable). is_long t.routes) d.tgw_tables of_tgw_tables in
+        record {
+          vpcs = vpcs.0;
+          blocks_of_vpc = λ v has. is_long-short v.blocks (vpcs.1 v has);
+          subnets = (short-list lists.Subnets (λ (s : Subnet). false) d.subnets of_subnets).0;
+          interfaces = interfaces.0;
+          addresses_of_interface = λ e has. (both-short e.addresses e.groups (interfaces.1 e has)).0;
+          groups_of_interface = λ e has. (both-short e.addresses e.groups (interfaces.1 e has)).1;
+          tables = tables.0;
+          subnets_of_table = λ t has. (both-short t.subnets t.routes (tables.1 t has)).0;
+          routes_of_table = λ t has. (both-short t.subnets t.routes (tables.1 t has)).1;
+          lists = entries.0;
+          entries_of_list = λ l has. is_long-short l.entries (entries.1 l has);
+          acls = acls.0;
+          subnets_of_acl = λ a has. (both-short a.subnets a.rows (acls.1 a has)).0;
+          rows_of_acl = λ a has. (both-short a.subnets a.rows (acls.1 a has)).1;
+          groups = groups.0;
+          inward_of_group = λ g has. (group-short g (groups.1 g has)).inward;
+          outward_of_group = λ g has. (group-short g (groups.1 g has)).outward;
+          named_by_rule = λ g p has at. (group-short g (groups.1 g has)).rules p at;
+          igws = igws.0;
+          vpcs_of_gateway = λ g has. is_long-short g.vpcs (igws.1 g has);
+          nats = (short-list lists.NatGateways (λ (n : NatGateway). false) d.nats of_nats).0;
+          peerings = (short-list lists.VpcPeeringConnections (λ (x : Peering). false) d.peerings of_peerings).0;
+          attachments = attachments.0;
+          subnets_of_attachment = λ a has. is_long-short a.subnets (attachments.1 a has);
+          associations = (short-list lists.TransitGatewayAttachments (λ (x : Association). false) d.associations of_associations).0;
+          tgw_tables = transit.0;
+          routes_of_tgw_table = λ t has. is_long-short t.routes (transit.1 t has);
+          appliances = (short-list lists.Appliances (λ (a : Appliance). false) d.appliances of_appliances).0;
+        }
