@@ -1,8 +1,7 @@
 -- Moments over a body of their part: they stand for the same packets, and remember the same.
 use Rattle.std.proofs.Common.{◌≡◌, ◌∙◌, ◌≤◌, ◌==◌, ◌&&◌, ◌||◌, ◌∷◌, [], All, Bool, List, ap, arith, false, get_or, inl, inr, length, map, refl, subst, sym, true, ℕ}
-use Rattle.vpc_base.proofs.Lemmas.{All-map, length-map, nat_tests}
+use Rattle.vpc_base.proofs.Lemmas.{All-map, false≢true, length-map, nat_tests}
 use Rattle.vpc_base.specs.Dir.{same_dir}
-use Rattle.vpc_base.specs.declared.headers.Dir.TheVariants as dirs
 use Rattle.vpc_base.specs.declared.headers.Label.TheVariants as labels
 use Rattle.header_boxes.specs.Boxes.{IsRangeWithin, IsWithin, in_range}
 use Rattle.box_images.proofs.ImageLemmas.{valid_over_body}
@@ -10,10 +9,11 @@ use Rattle.box_images.specs.Images.{IsValidImage, header_at}
 use Rattle.box_images.specs.declared.images.Image.{Image}
 use Rattle.conn_tracking.specs.OnImages.{connection_at, connections_at}
 use Rattle.conn_tracking.specs.declared.on_images.ImageEntry.{ImageEntry}
+use Rattle.vpc_laws.proofs.Lemmas.{IsPlain}
+use Rattle.vpc_laws.specs.Terms.{Memory, connection, memory_at, nothing, translation}
 use Rattle.vpc_laws.specs.Types.{Box5, Description, Dir, EniNo, Header, Label, NatNo, Place}
 use Rattle.vpc_model.specs.Terms.{Connection, Moment, Translation, addresses_in, is_sound}
-use Rattle.vpc_model.specs.declared.places.Place.TheVariants as places
-use Rattle.box_steps.specs.Terms.{AreApart, BoxMoment, CanRemember, ImageNat, IsBoxMoment, IsImageOf, IsNarrowed, IsOpenOver, IsTranslatedOver, RemembersMore, entry_over, has_conn, has_nat, image_over, moment_at, nat_over, remembers, translation_at, translations_at}
+use Rattle.box_steps.specs.Terms.{AreApart, BoxMoment, CanRemember, ImageNat, IsBoxMoment, IsImageOf, IsNarrowed, IsOpenOver, IsTranslatedOver, RemembersMore, entry_over, has_conn, has_left, has_nat, image_over, moment_at, nat_over, remembers, translation_at, translations_at}
 
 -- what is remembered is the same, over the body
 pub record IsKept (body : Box5) (old new : BoxMoment) : Type 0 where
@@ -105,20 +105,18 @@ pub apart-over : (body : Box5) (ts : List ImageNat) → AreApart ts → AreApart
 apart-over body [] k = tt
 apart-over body (t ∷ ts) k = (has_nat-over body ts t.nat ∙ k.0, apart-over body ts k.1)
 
--- the same is remembered
+left-kept : (body : Box5) (old new : BoxMoment) (x : Memory) → IsKept body old new → has_left new x ≡ has_left old x
+left-kept body old new (connection i dir) k = ap (λ (es : List ImageEntry). has_conn es i dir) k.conns ∙ has_conn-over body old.conns.items i dir
+left-kept body old new (translation n) k = ap (λ (ts : List ImageNat). has_nat ts n) k.nats ∙ has_nat-over body old.nats.items n
+left-kept body old new nothing k = refl
+
+-- what is remembered stays the same
 pub remembers-kept : (body : Box5) (old new : BoxMoment) (p : Place) → IsKept body old new → remembers new p ≡ remembers old p
-remembers-kept body old new (places.OutOf i) k = ap (λ (es : List ImageEntry). has_conn es i dirs.Outward) k.conns ∙ has_conn-over body old.conns.items i dirs.Outward
-remembers-kept body old new (places.Into i) k = ap (λ (es : List ImageEntry). has_conn es i dirs.Inward) k.conns ∙ has_conn-over body old.conns.items i dirs.Inward
-remembers-kept body old new (places.NatOut n) k = ap (λ (ts : List ImageNat). has_nat ts n) k.nats ∙ has_nat-over body old.nats.items n
-remembers-kept body old new (places.Router s came) k = refl
-remembers-kept body old new (places.Enter v by) k = refl
-remembers-kept body old new (places.IgwOut v) k = refl
-remembers-kept body old new places.Internet k = refl
-remembers-kept body old new (places.IgwIn v) k = refl
-remembers-kept body old new (places.NatIn n) k = refl
-remembers-kept body old new (places.Peer x v) k = refl
-remembers-kept body old new (places.Tgw a entered) k = refl
-remembers-kept body old new (places.TgwLeave a entered) k = refl
+remembers-kept body old new p k = left-kept body old new (memory_at p) k
+
+-- nothing is remembered where nothing is left behind
+pub nothing-left : (m : BoxMoment) (p : Place) → IsPlain p → remembers m p ≡ true → ⊥
+nothing-left m p rest has = false≢true (sym (ap (has_left m) rest.memory) ∙ has)
 
 pub conns-kept : (body : Box5) (old new : BoxMoment) → IsKept body old new → length new.conns.items ≡ length old.conns.items
 conns-kept body old new k = ap (λ (es : List ImageEntry). length es) k.conns ∙ length-map old.conns.items (entry_over body)

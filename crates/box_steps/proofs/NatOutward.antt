@@ -1,6 +1,6 @@
 -- Steps of all packets of a moment at NAT gateways, on the way out.
 use Rattle.std.proofs.Common.{All, Bool, IfSome, List, None, Option, Some, [], ap, arith, cond, false, inl, inr, length, map, option_map, refl, subst, sym, true, ℕ, ◌++◌, ◌==◌, ◌||◌, ◌∙◌, ◌∷◌, ◌≡◌, ◌⊎◌}
-use Rattle.vpc_base.proofs.Lemmas.{All-append, All-cons, All-nil, false≢true, length-append, length-map, or_cases}
+use Rattle.vpc_base.proofs.Lemmas.{All-append, All-cons, All-nil, length-append, length-map, or_cases}
 use Rattle.vpc_base.specs.Header.{IsHeader}
 use Rattle.vpc_base.specs.declared.headers.Dir.TheVariants as dirs
 use Rattle.vpc_base.specs.declared.headers.Label.TheVariants as labels
@@ -9,13 +9,14 @@ use Rattle.box_steps.specs.Terms.{AreApart, BoxMoment, GivesSent, HasNone, Image
 use Rattle.box_images.proofs.Lemmas.{images_fit, valid_over_body}
 use Rattle.cut_laws.proofs.Rows.{fixed_are_standing}
 use Rattle.nat_gateway.proofs.SentLemmas.{first_open_is_sent}
-use Rattle.vpc_laws.specs.Types.{Box5, Description, Header, NatNo, Place}
+use Rattle.vpc_laws.proofs.Lemmas.{by_memory}
+use Rattle.vpc_laws.specs.Types.{Box5, Description, Dir, EniNo, Header, NatNo, Place}
 use Rattle.vpc_model.specs.Terms.{Appliances, IsAccepted, Moment, Step, Translation, addresses_in, fixed_cuts, from_nat, go, is_sound, is_translatable, nat_at, new_translation, own_address, own_subnet, plain, same_place, step_at, step_nat_out, step_of, stop, subnet_no, translate, translated_to, translation_of}
 use Rattle.vpc_model.specs.declared.outcomes.By.TheVariants as bys
 use Rattle.vpc_model.specs.declared.places.Came.TheVariants as from
 use Rattle.vpc_model.specs.declared.places.Place.TheVariants as places
 use Rattle.vpc_model.specs.declared.stops.Stop.TheVariants as stops
-use Rattle.box_steps.proofs.Narrowing.{apart-over, connections_at-over, conns-over, has_conn-over, has_nat-over, kind-over, nats-over, translations_at-over}
+use Rattle.box_steps.proofs.Narrowing.{nothing-left, apart-over, connections_at-over, conns-over, has_conn-over, has_nat-over, kind-over, nats-over, translations_at-over}
 use Rattle.box_steps.proofs.Turning.{divide_at_place, place-sound, stopped_step}
 use Rattle.box_steps.specs.declared.onward.Onward.TheVariants as onwards
 use Rattle.box_steps.proofs.NatTables.{apart-push, has_nat-at, has_nat-push, translations_at-push}
@@ -86,27 +87,22 @@ pub record IsTranslated (n : NatNo) (next : Place) (after : Image) (old new : Bo
 remembers-pushed : (body : Box5) (t : ImageNat) (old new : BoxMoment) (p : Place) → new.conns.items ≡ map (entry_over body) old.conns.items
     → new.nats.items ≡ map (nat_over body) old.nats.items ++ t ∷ [] → old.place ≡ places.NatOut t.nat → remembers new p ≡ true
     → (remembers old p ≡ true) ⊎ (same_place old.place p ≡ true)
-remembers-pushed body t old new (places.OutOf i) conns nats is has =
-    inl (sym (ap (λ (es : List ImageEntry). has_conn es i dirs.Outward) conns ∙ has_conn-over body old.conns.items i dirs.Outward) ∙ has)
-remembers-pushed body t old new (places.Into i) conns nats is has =
-    inl (sym (ap (λ (es : List ImageEntry). has_conn es i dirs.Inward) conns ∙ has_conn-over body old.conns.items i dirs.Inward) ∙ has)
-remembers-pushed body t old new (places.NatOut m) conns nats is has =
-    let both : (has_nat old.nats.items m || (t.nat.0 == m.0)) ≡ true
-    = sym (ap (λ (ts : List ImageNat). has_nat ts m) nats ∙ has_nat-push (map (nat_over body) old.nats.items) t m
-    ∙ ap (λ (b : Bool). b || (t.nat.0 == m.0)) (has_nat-over body old.nats.items m)) ∙ has in
-    elim (or_cases (has_nat old.nats.items m) (t.nat.0 == m.0) both) [
-      | inl known ↦ inl known
-      | inr same ↦ inr (ap (λ (q : Place). same_place q (places.NatOut m)) is ∙ same)
-    ]
-remembers-pushed body t old new (places.Router s came) conns nats is has = absurd (false≢true has)
-remembers-pushed body t old new (places.Enter v by) conns nats is has = absurd (false≢true has)
-remembers-pushed body t old new (places.IgwOut v) conns nats is has = absurd (false≢true has)
-remembers-pushed body t old new places.Internet conns nats is has = absurd (false≢true has)
-remembers-pushed body t old new (places.IgwIn v) conns nats is has = absurd (false≢true has)
-remembers-pushed body t old new (places.NatIn m) conns nats is has = absurd (false≢true has)
-remembers-pushed body t old new (places.Peer x v) conns nats is has = absurd (false≢true has)
-remembers-pushed body t old new (places.Tgw a entered) conns nats is has = absurd (false≢true has)
-remembers-pushed body t old new (places.TgwLeave a entered) conns nats is has = absurd (false≢true has)
+remembers-pushed body t old new p conns nats is has =
+    by_memory (λ q. remembers new q ≡ true → (remembers old q ≡ true) ⊎ (same_place old.place q ≡ true))
+    (λ i has. inl (sym (connected i dirs.Outward) ∙ has)) (λ i has. inl (sym (connected i dirs.Inward) ∙ has)) translated (λ q rest has. absurd (nothing-left new q rest has)) p has
+  where
+    connected : (i : EniNo) (dir : Dir) → has_conn new.conns.items i dir ≡ has_conn old.conns.items i dir
+    connected i dir = ap (λ (es : List ImageEntry). has_conn es i dir) conns ∙ has_conn-over body old.conns.items i dir
+
+    translated : (m : NatNo) → remembers new (places.NatOut m) ≡ true → (remembers old (places.NatOut m) ≡ true) ⊎ (same_place old.place (places.NatOut m) ≡ true)
+    translated m has =
+        let both : (has_nat old.nats.items m || (t.nat.0 == m.0)) ≡ true
+        = sym (ap (λ (ts : List ImageNat). has_nat ts m) nats ∙ has_nat-push (map (nat_over body) old.nats.items) t m
+        ∙ ap (λ (b : Bool). b || (t.nat.0 == m.0)) (has_nat-over body old.nats.items m)) ∙ has in
+        elim (or_cases (has_nat old.nats.items m) (t.nat.0 == m.0) both) [
+          | inl known ↦ inl known
+          | inr same ↦ inr (ap (λ (q : Place). same_place q (places.NatOut m)) is ∙ same)
+        ]
 
 -- the place is the router of the gateway's subnet
 abbrev pub IsRouterOf : Description → NatNo → Place → Type 0

@@ -10,10 +10,11 @@ use Rattle.box_images.specs.Terms.{Answers, IsBody, header_at}
 use Rattle.image_tests.specs.Types.{Image, Part}
 use Rattle.conn_tracking.specs.OnImages.{connection_at, connections_at}
 use Rattle.conn_tracking.specs.declared.on_images.ImageEntry.{ImageEntry}
+use Rattle.vpc_laws.proofs.Lemmas.{by_memory}
 use Rattle.vpc_laws.specs.Types.{Box5, Description, Dir, EniNo, Header, Label, Place, Stop}
 use Rattle.vpc_model.specs.Terms.{Appliances, Connection, IsAccepted, Next, Step, addresses_in, interface_at, is_sound, passing_of, same_place, step_of}
 use Rattle.vpc_model.specs.declared.places.Place.TheVariants as places
-use Rattle.box_steps.proofs.Narrowing.{IsKept, connections_at-kept, connections_at-over, conns-kept, kept_if_narrowed, moment-narrowed, moment-over, nats-kept, remembers-kept, translations_at-kept, translations_at-over}
+use Rattle.box_steps.proofs.Narrowing.{IsKept, connections_at-kept, connections_at-over, conns-kept, kept_if_narrowed, moment-narrowed, moment-over, nats-kept, nothing-left, remembers-kept, translations_at-kept, translations_at-over}
 use Rattle.box_steps.proofs.Staying.{Stays, next_of_onward, taken_in-stays}
 use Rattle.box_steps.proofs.Turning.{next_at-turned, place-sound, standing_at_place}
 use Rattle.box_steps.specs.Terms.{AtPlace, BoxMoment, CanRemember, HasPassed, IsBoxMoment, IsNarrowed, IsOpenOver, IsStepOn, IsStepTo, Onward, RemembersMore, Standing, TellsOf, barrier, comes_to, entries_left, entry_over, has_conn, left_at, moment_at, onward_of, passed_at, past_interface, remembers, translations_at}
@@ -112,18 +113,11 @@ memory-passed d label i dir old mid new x onward at n p =
     }
   where
     known-before : (q : Place) → remembers new q ≡ true → (remembers (without_left x.body mid new) q ≡ true) ⊎ (same_place (passed_at dir i) q ≡ true)
-    known-before (places.OutOf j) has = let row = interface_at d i in more-known label row.groups i j dir dirs.Outward new.header (map (entry_over x.body) mid.conns.items) new.conns.items p.conns has
-    known-before (places.Into j) has = let row = interface_at d i in more-known label row.groups i j dir dirs.Inward new.header (map (entry_over x.body) mid.conns.items) new.conns.items p.conns has
-    known-before (places.NatOut o) has = inl has
-    known-before (places.Router s came) has = inl has
-    known-before (places.Enter v by) has = inl has
-    known-before (places.IgwOut v) has = inl has
-    known-before places.Internet has = inl has
-    known-before (places.IgwIn v) has = inl has
-    known-before (places.NatIn o) has = inl has
-    known-before (places.Peer y v) has = inl has
-    known-before (places.Tgw a entered) has = inl has
-    known-before (places.TgwLeave a entered) has = inl has
+    known-before q has =
+        by_memory (λ r. remembers new r ≡ true → (remembers (without_left x.body mid new) r ≡ true) ⊎ (same_place (passed_at dir i) r ≡ true))
+        (λ j known. let row = interface_at d i in more-known label row.groups i j dir dirs.Outward new.header (map (entry_over x.body) mid.conns.items) new.conns.items p.conns known)
+        (λ j known. let row = interface_at d i in more-known label row.groups i j dir dirs.Inward new.header (map (entry_over x.body) mid.conns.items) new.conns.items p.conns known)
+        (λ n known. inl known) (λ r rest known. absurd (nothing-left new r rest known)) q has
 
 pub passed_step : (d : Description) (appliances : Appliances) (label : Label) (i : EniNo) (dir : Dir) (old mid new : BoxMoment) (told : Option Stop) (x : Part Onward) (onward : Onward) → IsAccepted d
     → old.place ≡ passed_at dir i → IsBoxMoment d label old → CanRemember label old → told ≡ None

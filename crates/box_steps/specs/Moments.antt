@@ -2,16 +2,15 @@
 use Rattle.std.specs.Prelude.{◌≡◌, ◌≤◌, ◌<◌, ◌+◌, ◌⊎◌, ◌==◌, ◌&&◌, ◌∷◌, [], All, Bool, List, false, length, map, true, ℕ}
 use Rattle.std.specs.List.{list_any}
 use Rattle.vpc_base.specs.Terms.{CutLists, same_dir}
-use Rattle.vpc_base.specs.declared.headers.Dir.TheVariants as dirs
 use Rattle.vpc_base.specs.declared.headers.Label.TheVariants as labels
 use Rattle.header_boxes.specs.Terms.{IsAligned, holds}
 use Rattle.box_images.specs.Terms.{IsBody, IsImageOfAnswer, IsImageOfOpen, IsValidImage, header_at}
 use Rattle.image_tests.specs.Types.{Image, Part}
 use Rattle.conn_tracking.specs.OnImages.{connections_at}
 use Rattle.conn_tracking.specs.declared.on_images.ImageEntry.{ImageEntry}
+use Rattle.vpc_laws.specs.Memory.{Memory, connection, memory_at, nothing, translation}
 use Rattle.vpc_laws.specs.Types.{Box5, Description, Dir, End, EniNo, Header, Label, NatNo, Place, Stop}
 use Rattle.vpc_model.specs.Terms.{Appliances, Moment, Next, Step, Translation, addresses_in, arrive, go, is_sound, same_place, step_of, stop}
-use Rattle.vpc_model.specs.declared.places.Place.TheVariants as places
 use Rattle.box_steps.specs.Cuts.{AtPlace}
 use Rattle.box_steps.specs.declared.moment.BoxMoment.{BoxMoment}
 use Rattle.box_steps.specs.declared.moment.BoxNext.{BoxNext}
@@ -107,20 +106,15 @@ pub record IsBoxMoment (d : Description) (label : Label) (m : BoxMoment) : Type 
 abbrev pub has_conn : List ImageEntry → EniNo → Dir → Bool
 has_conn entries i dir = list_any (λ e. (e.eni.0 == i.0) && same_dir e.dir dir) entries
 
+-- what an open leaves behind is there already
+abbrev pub has_left : BoxMoment → Memory → Bool
+has_left m (connection i dir) = has_conn m.conns.items i dir
+has_left m (translation n) = has_nat m.nats.items n
+has_left m nothing = false
+
 -- what an open leaves behind at the place is there already
 abbrev pub remembers : BoxMoment → Place → Bool
-remembers m (places.OutOf i) = has_conn m.conns.items i dirs.Outward
-remembers m (places.Into i) = has_conn m.conns.items i dirs.Inward
-remembers m (places.NatOut n) = has_nat m.nats.items n
-remembers m (places.Router s came) = false
-remembers m (places.Enter v by) = false
-remembers m (places.IgwOut v) = false
-remembers m places.Internet = false
-remembers m (places.IgwIn v) = false
-remembers m (places.NatIn n) = false
-remembers m (places.Peer x v) = false
-remembers m (places.Tgw a entered) = false
-remembers m (places.TgwLeave a entered) = false
+remembers m p = has_left m (memory_at p)
 
 -- there is room for what the place adds, and it hasn't been added
 pub record HasRoom (m : BoxMoment) : Type 0 where

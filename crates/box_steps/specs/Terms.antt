@@ -7,7 +7,7 @@ pub use Rattle.box_images.specs.declared.images.Part.{Part}
 pub use Rattle.box_steps.specs.Cuts.{AtPlace, Standing}
 pub use Rattle.box_steps.specs.Hosts.{DivideAddress, DivideOwn, own_address}
 pub use Rattle.box_steps.specs.Missing.{HoldsOver, is_away, is_elsewhere, misses, misses_at}
-pub use Rattle.box_steps.specs.Moments.{AreApart, CanRemember, IsBoxMoment, IsImageOf, IsLetIn, IsNarrowed, IsOpenOver, IsRewritten, IsStepOn, IsStepTo, IsTranslatedOver, IsTurned, RemembersMore, comes_to, entry_over, has_conn, has_nat, image_over, moment_at, nat_over, next_at, remembers, translation_at, translations_at}
+pub use Rattle.box_steps.specs.Moments.{AreApart, CanRemember, IsBoxMoment, IsImageOf, IsLetIn, IsNarrowed, IsOpenOver, IsRewritten, IsStepOn, IsStepTo, IsTranslatedOver, IsTurned, RemembersMore, comes_to, entry_over, has_conn, has_left, has_nat, image_over, moment_at, nat_over, next_at, remembers, translation_at, translations_at}
 pub use Rattle.box_steps.specs.Onward.{after_carry, onward_of}
 pub use Rattle.box_steps.specs.Passing.{HasPassed, TellsOf, barrier, check_stop, checked_barrier, entries_left, groups_barrier, groups_stop, is_passed, left_at, passed_at, passes_groups, past_interface}
 pub use Rattle.box_steps.specs.Publics.{own_in}

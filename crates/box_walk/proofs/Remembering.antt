@@ -1,16 +1,15 @@
 -- What packets of a moment remember of their walk.
 use Rattle.std.proofs.Common.{Bool, List, [], ap, arith, false, inl, inr, length, length-append, refl, sym, true, ℕ, ⊎_elim, ◌++◌, ◌+◌, ◌<◌, ◌||◌, ◌∙◌, ◌∷◌, ◌≡◌, ◌≤◌, ◌⊎◌}
 use Rattle.vpc_base.proofs.Lemmas.{false_from_ne_true, false≢true, list_any-append}
-use Rattle.box_steps.specs.Moments.{CanRemember, RemembersMore, has_conn, has_nat, remembers}
+use Rattle.box_steps.specs.Moments.{CanRemember, RemembersMore, has_conn, has_left, has_nat, remembers}
 use Rattle.box_steps.specs.declared.moment.BoxMoment.{BoxMoment}
 use Rattle.box_steps.specs.declared.moment.ImageNat.{ImageNat}
 use Rattle.box_walk.specs.Terms.{BeginsFresh, IsLeftAt, is_among}
 use Rattle.conn_tracking.specs.declared.on_images.ImageEntry.{ImageEntry}
-use Rattle.vpc_base.specs.declared.headers.Dir.TheVariants as dirs
 use Rattle.vpc_base.specs.declared.headers.Label.TheVariants as labels
+use Rattle.vpc_laws.specs.Terms.{Memory, connection, memory_at, nothing, translation}
 use Rattle.vpc_laws.specs.Types.{Label, Place}
 use Rattle.vpc_model.specs.Terms.{same_place}
-use Rattle.vpc_model.specs.declared.places.Place.TheVariants as places
 
 -- the place of the step besides
 left_known : (b c : Bool) → (b ≡ true) ⊎ (c ≡ true) → (b || (c || false)) ≡ true
@@ -32,26 +31,17 @@ left_after_step labels.Opening places old mid was more = record {
     at_one p = refl
 left_after_step labels.Answer places old mid was more = tt
 
-nothing_remembered : (m : BoxMoment) (p : Place) → m.conns.items ≡ [] → m.nats.items ≡ [] → remembers m p ≡ false
-nothing_remembered m (places.OutOf i) conns nats = ap (λ (es : List ImageEntry). has_conn es i dirs.Outward) conns
-nothing_remembered m (places.Into i) conns nats = ap (λ (es : List ImageEntry). has_conn es i dirs.Inward) conns
-nothing_remembered m (places.NatOut n) conns nats = ap (λ (ts : List ImageNat). has_nat ts n) nats
-nothing_remembered m (places.Router s came) conns nats = refl
-nothing_remembered m (places.Enter v by) conns nats = refl
-nothing_remembered m (places.IgwOut v) conns nats = refl
-nothing_remembered m places.Internet conns nats = refl
-nothing_remembered m (places.IgwIn v) conns nats = refl
-nothing_remembered m (places.NatIn n) conns nats = refl
-nothing_remembered m (places.Peer x v) conns nats = refl
-nothing_remembered m (places.Tgw a entered) conns nats = refl
-nothing_remembered m (places.TgwLeave a entered) conns nats = refl
+nothing_left : (m : BoxMoment) (x : Memory) → m.conns.items ≡ [] → m.nats.items ≡ [] → has_left m x ≡ false
+nothing_left m (connection i dir) conns nats = ap (λ (es : List ImageEntry). has_conn es i dir) conns
+nothing_left m (translation n) conns nats = ap (λ (ts : List ImageNat). has_nat ts n) nats
+nothing_left m nothing conns nats = refl
 
 -- nothing is remembered
 pub left_fresh : (label : Label) (m : BoxMoment) → BeginsFresh label m → IsLeftAt label [] m
 left_fresh labels.Opening m fresh = record {
   conns = let e : length m.conns.items ≡ 0 = ap length fresh.0 in omega (arith, e);
   nats = let e : length m.nats.items ≡ 0 = ap length fresh.1 in omega (arith, e);
-  known = λ p has. absurd (false≢true (sym (nothing_remembered m p fresh.0 fresh.1) ∙ has));
+  known = λ p has. absurd (false≢true (sym (nothing_left m (memory_at p) fresh.0 fresh.1) ∙ has));
 }
 left_fresh labels.Answer m fresh = tt
 

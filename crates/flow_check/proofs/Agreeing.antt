@@ -3,16 +3,16 @@ use Rattle.std.proofs.Common.{◌≡◌, ◌++◌, ◌∙◌, ◌∷◌, ◌↔�
 use Rattle.vpc_base.proofs.Lemmas.{both_ways, cond-false, false≢true, none-some, not-true, or_cases, or_left, or_right}
 use Rattle.vpc_base.specs.declared.headers.Dir.TheVariants as dirs
 use Rattle.vpc_laws.specs.Types.{By, Description, Dir, EniNo, Header, Hop, Label, Outcome, Place, Stop}
-use Rattle.vpc_laws.specs.Terms.{EndsSo, hop_of, is_of_step, last_moment}
+use Rattle.vpc_laws.proofs.Lemmas.{or_else-first, or_else-later, steps_lead_on}
+use Rattle.vpc_laws.specs.Terms.{EndsSo, LeadsOn, Refuses, hop_of, is_of_step, last_moment, refuser_of}
 use Rattle.vpc_model.specs.Terms.{Appliances, IsAccepted, Moment, Next, Walk, acl_at, acl_of, acl_verdict, arrive, far_address, go, interface_at, step_at, step_of, stop, subnet_of}
 use Rattle.vpc_model.specs.declared.outcomes.Outcome.TheVariants as outcomes
 use Rattle.vpc_model.specs.declared.stops.Stop.TheVariants as stops
-use Rattle.flow_check.specs.Terms.{AcceptMeans, IsStopped, RejectMeans, RejectedLinesAgree, accepted_by, acl_row_stop, acl_stop, border_stop, by_groups, connection_stop, door, groups_pass, groups_stop, is_neighbour, judged, met_first, other_way_passes, rejected_by}
+use Rattle.flow_check.specs.Terms.{AcceptMeans, IsStopped, RejectMeans, RejectedLinesAgree, accepted_by, acl_row_stop, acl_stop, border_stop, connection_stop, door, groups_pass, groups_stop, is_neighbour, judged, met_first, other_way_passes, rejected_by}
 use Rattle.flow_check.specs.Walked as walked
 use Rattle.flow_check.specs.declared.records.Action.TheVariants as actions
 use Rattle.flow_check.specs.declared.sorts.Sort.TheVariants as sorts
 use Rattle.flow_check.proofs.Earned.{last-at}
-use Rattle.flow_check.proofs.Leading.{Beyond, IsRefusal, Leads, or_else-first, or_else-later, place-leads}
 use Rattle.flow_check.proofs.AgreeingSteps.{door-refused, line-judged}
 use Rattle.flow_check.proofs.AgreeingWalks.{IsWalkOf, accept-agrees, at-hop, connection-none, rejected-none, rejected-some, walk-of}
 
@@ -62,7 +62,7 @@ record IsRefusedBy (o : Option Stop) : Type 0 where
   pub by : Stop
   pub is : o ≡ Some by
 
-refusal-stops : (d : Description) (i : EniNo) (dir : Dir) (h : Header) (number : ℕ) → IsRefusal d h (acl_row_stop d i dir number) → IsRefusedBy (acl_stop d i dir h)
+refusal-stops : (d : Description) (i : EniNo) (dir : Dir) (h : Header) (number : ℕ) → Refuses d h (refuser_of (acl_row_stop d i dir number)) → IsRefusedBy (acl_stop d i dir h)
 refusal-stops d i dirs.Inward h number refusal =
     let a = acl_of d (subnet_of d i) in
     let acl = acl_at d a in
@@ -90,8 +90,8 @@ stops-agree d appliances label w i dir h accepted walk (walked.by_acl before las
     let end = last-stopped d appliances label w before last s walk hops stopped (acl_row_stop-own d i dir number) in
     let m = end.moment in
     let same : m.header ≡ h = ap (λ (x : Hop). x.header) end.is ∙ header in
-    let leads = subst (Leads (Beyond d m.header m.place) d m.header) end.stops_so (place-leads d appliances label m.place m accepted) in
-    let refused = refusal-stops d i dir h number (subst (λ (x : Header). IsRefusal d x s) same leads) in
+    let leads = subst (LeadsOn d m.place m.header) end.stops_so (steps_lead_on d appliances label m) in
+    let refused = refusal-stops d i dir h number (subst (λ (x : Header). Refuses d x (refuser_of s)) same leads.1) in
     rejected-some (border_stop d i dir h inside) refused.by (groups_pass d i dir h) (cond-false inside None (acl_stop d i dir h) (not-true inside border) ∙ refused.is)
 
 pub rejected_lines_agree : RejectedLinesAgree

@@ -1,61 +1,23 @@
 -- Borders of the walk of a packet.
-use Rattle.std.proofs.Common.{◌≡◌, ◌==◌, ◌++◌, ◌∙◌, ◌∷◌, ◌||◌, Bool, List, None, Option, Some, ap, cond, false, is_some, not, refl, subst, sym, true}
-use Rattle.vpc_base.proofs.Lemmas.{cond-false, cond-true, not-true}
+use Rattle.std.proofs.Common.{◌≡◌, ◌++◌, ◌∙◌, ◌∷◌, ◌||◌, Bool, List, None, Option, Some, ap, cond, false, is_some, not, refl, subst, sym, true}
+use Rattle.vpc_base.proofs.Lemmas.{cond-true, not-true}
 use Rattle.replay_laws.specs.Interleaved.{Comes}
 use Rattle.vpc_base.specs.declared.headers.Dir.TheVariants as dirs
-use Rattle.vpc_laws.proofs.Lemmas.{header_stays, walks_are_of_steps}
-use Rattle.vpc_laws.specs.Types.{By, Description, Dir, EniNo, Event, Header, Hop, Label, Place, Stop, SubnetNo}
-use Rattle.vpc_laws.specs.Terms.{IsWalk, SendsSame, is_rewriting, last_moment}
-use Rattle.vpc_model.specs.Terms.{Appliances, IsAccepted, Moment, Walk, crossing, entering, far_address, go, interface_at, leaving, moment_of, or_else, passes, step_at, step_of, subnet_of}
+use Rattle.vpc_laws.proofs.Lemmas.{header_stays, steps_lead_on, walks_are_of_steps}
+use Rattle.vpc_laws.specs.Types.{By, Description, Dir, EniNo, Event, Header, Hop, Label, Place, Stop}
+use Rattle.vpc_laws.specs.Terms.{GoesOn, IsWalk, LeadsOn, SendsSame, is_rewriting, last_moment}
+use Rattle.vpc_model.specs.Terms.{Appliances, IsAccepted, Moment, Walk, entering, far_address, go, interface_at, moment_of, passes, step_at, step_of, subnet_of}
 use Rattle.vpc_model.specs.declared.outcomes.By.TheVariants as bys
 use Rattle.vpc_model.specs.declared.places.Came.TheVariants as from
 use Rattle.vpc_model.specs.declared.places.Place.TheVariants as places
-use Rattle.flow_check.specs.Terms.{AcceptedLinesAgree, Passes, PassesIn, PassesOut, accepted_by, acl_stop, border_stop, connection_stop, groups_pass, groups_stop, has_border, has_ports, is_inside, is_neighbour, is_router_of, judged, met_first, other_way_passes, refused_by, rejected_by, subnet_of_nat}
-use Rattle.flow_check.specs.Walked as walked
+use Rattle.flow_check.specs.Terms.{AcceptedLinesAgree, Passes, PassesIn, PassesOut, accepted_by, acl_stop, border_stop, connection_stop, groups_pass, groups_stop, has_border, has_ports, is_inside, is_neighbour, is_router_of, judged, met_first, other_way_passes, refused_by, rejected_by}
 use Rattle.flow_check.specs.declared.records.Action.TheVariants as actions
 use Rattle.flow_check.specs.declared.sorts.Sort.TheVariants as sorts
 use Rattle.flow_check.proofs.Earned.{AreByRules, IsAt, comes-walked, hop-at, next-at}
-use Rattle.flow_check.proofs.Leading.{Beyond, Crossed, Leads, or_else-first, or_else-later, place-leads}
+use Rattle.flow_check.proofs.Borders.{crossed-enters, crossed-leaves}
 use Rattle.flow_check.proofs.AgreeingSteps.{Connects, line-judged, passing-connects, step_into-went, step_out-went}
 
 -- ---- borders
-
-crossing-parts : (d : Description) (s t : SubnetNo) (h : Header) → crossing d s t h ≡ None → (s.0 == t.0) ≡ false → (leaving d s h ≡ None) × (entering d t h ≡ None)
-crossing-parts d s t h passed other =
-    let both = sym (cond-false (s.0 == t.0) None (or_else (leaving d s h) (entering d t h)) other) ∙ passed in
-    (or_else-first (leaving d s h) (entering d t h) both, or_else-later (leaving d s h) (entering d t h) both)
-
--- what went on across the border was let out
-crossed-leaves : (d : Description) (s : SubnetNo) (h : Header) (p : Place) → Crossed d s h p → is_inside d s p ≡ false → leaving d s h ≡ None
-crossed-leaves d s h (places.Into i) passed other = (crossing-parts d s (subnet_of d i) h passed other).0
-crossed-leaves d s h (places.NatIn n) passed other = (crossing-parts d s (subnet_of_nat d n) h passed other).0
-crossed-leaves d s h (places.NatOut n) passed other = (crossing-parts d s (subnet_of_nat d n) h passed other).0
-crossed-leaves d s h (places.OutOf i) passed other = passed
-crossed-leaves d s h (places.Router t came) passed other = passed
-crossed-leaves d s h (places.Enter v by) passed other = passed
-crossed-leaves d s h (places.IgwOut v) passed other = passed
-crossed-leaves d s h places.Internet passed other = passed
-crossed-leaves d s h (places.IgwIn v) passed other = passed
-crossed-leaves d s h (places.Peer x v) passed other = passed
-crossed-leaves d s h (places.Tgw a t) passed other = passed
-crossed-leaves d s h (places.TgwLeave a t) passed other = passed
-
--- what came across the border was let in
-beyond-enters : (d : Description) (i : EniNo) (h k : Header) (p : Place) → Beyond d h p (places.Into i) → is_router_of (subnet_of d i) p ≡ false → (is_rewriting p ≡ false → k ≡ h)
-    → entering d (subnet_of d i) k ≡ None
-beyond-enters d i h k (places.Router s came) passed other same =
-    subst (λ (x : Header). entering d (subnet_of d i) x ≡ None) (sym (same refl)) (crossing-parts d s (subnet_of d i) h passed other).1
-beyond-enters d i h k (places.Enter v by) passed other same = subst (λ (x : Header). entering d (subnet_of d i) x ≡ None) (sym (same refl)) passed
-beyond-enters d i h k (places.OutOf j) passed other same = absurd passed
-beyond-enters d i h k (places.Into j) passed other same = absurd passed
-beyond-enters d i h k (places.IgwOut v) passed other same = absurd passed
-beyond-enters d i h k places.Internet passed other same = absurd passed
-beyond-enters d i h k (places.IgwIn v) passed other same = absurd passed
-beyond-enters d i h k (places.NatOut n) passed other same = absurd passed
-beyond-enters d i h k (places.NatIn n) passed other same = absurd passed
-beyond-enters d i h k (places.Peer x v) passed other same = absurd passed
-beyond-enters d i h k (places.Tgw a t) passed other same = absurd passed
-beyond-enters d i h k (places.TgwLeave a t) passed other same = absurd passed
 
 -- the ACL is evaluated only where there is a border
 border-none : (b : Bool) (o : Option Stop) → (not b ≡ true → o ≡ None) → cond b None o ≡ None
@@ -125,12 +87,12 @@ passes-out d appliances label w i h accepted walk ports passes =
     let same : r.header ≡ h = sym went.header ∙ header in
     let connects = subst (Connects d i dirs.Outward) header (passing-connects d label i dirs.Outward m.header m.conns went.by out.by_rules (subst (λ (x : Header). has_ports x.proto ≡ true) (sym header) ports) went.passed) in
     let at_router : Place = places.Router (subnet_of d i) (from.Host i) in
-    let goes = subst (λ (p : Place). let s = step_at d appliances label p r in s.next ≡ go n.place n.header) (sym went.place) next.goes in
-    let leads = subst (Leads (Beyond d r.header at_router) d r.header) goes (place-leads d appliances label at_router r accepted) in
-    let beyond : Crossed d (subnet_of d i) h passes.next.place =
-    subst (λ (x : Header). Crossed d (subnet_of d i) x passes.next.place) same (subst (λ (p : Place). Crossed d (subnet_of d i) r.header p) (ap (λ (x : Hop). x.place) (next.at).is) leads) in
+    let leads : GoesOn d r.header r.place n.place = subst (LeadsOn d r.place r.header) next.goes (steps_lead_on d appliances label r) in
+    let leaves : GoesOn d r.header at_router n.place = subst (λ (p : Place). GoesOn d r.header p n.place) (sym went.place) leads in
+    let beyond : GoesOn d h at_router passes.next.place =
+    subst (λ (x : Header). GoesOn d x at_router passes.next.place) same (subst (GoesOn d r.header at_router) (ap (λ (x : Hop). x.place) (next.at).is) leaves) in
     accepted-judged d i dirs.Outward h connects
-    (λ border. crossed-leaves d (subnet_of d i) h passes.next.place beyond (not-true (is_inside d (subnet_of d i) passes.next.place) (passes.border ∙ border)))
+    (λ border. crossed-leaves d (subnet_of d i) (from.Host i) h passes.next.place accepted beyond (not-true (is_inside d (subnet_of d i) passes.next.place) (passes.border ∙ border)))
 
 passes-in : (d : Description) (appliances : Appliances) (label : Label) (w : Walk) (i : EniNo) (h : Header) → IsAccepted d → IsWalkOf d appliances label w → has_ports h.proto ≡ true
     → PassesIn d w i h (has_border d i dirs.Inward h) → judged d i dirs.Inward h actions.Accept ≡ sorts.Agrees
@@ -145,13 +107,13 @@ passes-in d appliances label w i h accepted walk ports passes =
     let some : (let s = step_of d appliances label m in s.by ≡ bys.Nothing) → ⊥ = λ none. passes.by (sym (ap (λ (x : Hop). x.by) (into.at).is) ∙ none) in
     let went = step_into-went d appliances label i m (subst (λ (p : Place). (let s = step_at d appliances label p m in s.by ≡ bys.Nothing) → ⊥) place some) in
     let connects = subst (Connects d i dirs.Inward) header (passing-connects d label i dirs.Inward m.header m.conns went.by (into.at).by_rules (subst (λ (x : Header). has_ports x.proto ≡ true) (sym header) ports) went.passed) in
-    let leads = subst (Leads (Beyond d r.header r.place) d r.header) into.goes (place-leads d appliances label r.place r accepted) in
-    let beyond : Beyond d r.header r.place (places.Into i) = subst (Beyond d r.header r.place) place leads in
+    let leads : GoesOn d r.header r.place m.place = subst (LeadsOn d r.place r.header) into.goes (steps_lead_on d appliances label r) in
+    let beyond = subst (GoesOn d r.header r.place) place leads in
     let stays : is_rewriting r.place ≡ false → m.header ≡ r.header = λ keeps. subst (SendsSame r.header) into.goes (header_stays d appliances label r keeps) in
     let from_last : r.place ≡ passes.last.place = ap (λ (x : Hop). x.place) prior.is in
     accepted-judged d i dirs.Inward h connects
     (λ border. subst (λ (x : Header). entering d (subnet_of d i) x ≡ None) header
-    (beyond-enters d i r.header m.header r.place beyond
+    (crossed-enters d i r.header m.header r.place beyond
     (subst (λ (p : Place). is_router_of (subnet_of d i) p ≡ false) (sym from_last) (not-true (is_router_of (subnet_of d i) passes.last.place) (passes.border ∙ border))) stays))
 
 passes-agree : (d : Description) (appliances : Appliances) (label : Label) (w : Walk) (i : EniNo) (dir : Dir) (h : Header) → IsAccepted d → IsWalkOf d appliances label w → has_ports h.proto ≡ true

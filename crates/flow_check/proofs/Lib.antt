@@ -5,7 +5,7 @@ pub mod Cuts
 pub mod Decided
 pub mod Earned
 pub mod Fields
-pub mod Leading
+pub mod Borders
 pub mod Owners
 pub mod Passing
 pub mod Tallies

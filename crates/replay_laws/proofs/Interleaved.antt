@@ -1,18 +1,18 @@
 -- What lets the answers of a replay through.
 use Rattle.std.proofs.Common.{Contains, List, None, Option, Some, [], ap, inl, inr, not, refl, subst, sym, true, ℕ, ◌&&◌, ◌++◌, ◌==◌, ◌∙◌, ◌∷◌, ◌≡◌, ◌⊎◌}
-use Rattle.vpc_base.proofs.Lemmas.{and_parts, cond_both, list_any-member, none-some, same_Some}
+use Rattle.vpc_base.proofs.Lemmas.{and_parts, cond_both, list_any-member}
 use Rattle.vpc_base.specs.Terms.{reply_of, same_dir}
 use Rattle.vpc_base.specs.declared.headers.Dir.TheVariants.{Inward, Outward}
 use Rattle.vpc_base.specs.declared.headers.Label.TheVariants.{Answer}
 use Rattle.vpc_model.specs.declared.outcomes.By.TheVariants.{NoGroups, Nothing, Rule, Tracked}
 use Rattle.vpc_model.specs.declared.outcomes.Outcome.TheVariants.{Stopped}
-use Rattle.vpc_model.specs.declared.places.Place.TheVariants.{OutOf, Router, Enter, Into, IgwOut, Internet, IgwIn, NatOut, NatIn, Peer, Tgw, TgwLeave}
+use Rattle.vpc_model.specs.declared.places.Place.TheVariants.{Into, NatIn, NatOut, OutOf}
 use Rattle.vpc_model.specs.declared.stops.Stop.TheVariants.{DestCheck, Detached, GroupsIn, NatUnsolicited}
 use Rattle.vpc_laws.specs.Types.{By, Description, Dir, EniNo, Event, Header, Hop, Label, NatNo, Place, RuleRef, Stop}
 use Rattle.vpc_model.specs.Terms.{Appliances, Connection, Moment, Passing, Step, Translation, Walk, answer_passing, first_rule, from_inward, has_address, in_passing, interface_at, inward, is_header, is_tracked, label_passing, moment_of, passing_groups, passing_of, step_at, step_into, step_of, stop, walk_of}
 use Rattle.vpc_model.proofs.Nexts.{go-header}
 use Rattle.vpc_laws.specs.Terms.{AsksGroups, IsWalk, LetsPass, own_connection}
-use Rattle.vpc_laws.proofs.Lemmas.{EniNo-same, inward_answers_opens, is_header-some, packets_pass_by_groups, same_dir-true, same_header-true, three, walks_are_of_steps}
+use Rattle.vpc_laws.proofs.Lemmas.{EniNo-same, inward_answers_opens, is_header-some, own_connection-made, packets_pass_by_groups, place_by, same_dir-true, same_header-true, three, walks_are_of_steps}
 use Rattle.replay_laws.specs.Interleaved.{AnswersAreLetIn, AnswersAreToOpens, GoesOnAs, IsLetIn, IsStoppedInto, IsStopInto, PassedOutward, SentOut}
 use Rattle.replay_laws.proofs.Moments.{IsBefore, IsHopAt, befores_at, hops_at}
 use Rattle.replay_laws.proofs.Remembered.{IsOpened, IsTranslated}
@@ -81,26 +81,10 @@ record IsOutward (p : Place) (h : Header) (c : Connection) : Type 0 where
   pub place : p ≡ OutOf c.eni
   pub header : h ≡ c.header
 
-Inward≢Outward : Inward ≡ Outward → ⊥
-Inward≢Outward e = cc
-
 own_connection-outward : (p : Place) (h : Header) (c : Connection) → own_connection p h ≡ Some c → c.dir ≡ Outward → IsOutward p h c
-own_connection-outward (OutOf i) h c own out =
-    let same = same_Some (record { eni = i; dir = Outward; header = h }) c own in
-    record { place = ap (λ (k : Connection). OutOf k.eni) same; header = ap (λ (k : Connection). k.header) same }
-own_connection-outward (Into i) h c own out =
-    let same = same_Some (record { eni = i; dir = Inward; header = h }) c own in
-    absurd (Inward≢Outward (ap (λ (k : Connection). k.dir) same ∙ out))
-own_connection-outward (Router s came) h c own out = absurd (none-some c own)
-own_connection-outward (Enter v by) h c own out = absurd (none-some c own)
-own_connection-outward (IgwOut v) h c own out = absurd (none-some c own)
-own_connection-outward Internet h c own out = absurd (none-some c own)
-own_connection-outward (IgwIn v) h c own out = absurd (none-some c own)
-own_connection-outward (NatOut n) h c own out = absurd (none-some c own)
-own_connection-outward (NatIn n) h c own out = absurd (none-some c own)
-own_connection-outward (Peer x v) h c own out = absurd (none-some c own)
-own_connection-outward (Tgw a s) h c own out = absurd (none-some c own)
-own_connection-outward (TgwLeave a s) h c own out = absurd (none-some c own)
+own_connection-outward p h c own out =
+    let made = own_connection-made p h c own in
+    record { place = made.place ∙ ap (place_by c.eni) out; header = made.header }
 
 hop-is : (hop : Hop) (p : Place) (h : Header) (b : By) → hop.place ≡ p → hop.header ≡ h → hop.by ≡ b → hop ≡ record { place = p; header = h; by = b }
 hop-is hop p h b x y z =

@@ -10,7 +10,6 @@ pub mod NestedSteps
 pub mod NestedVerdicts
 pub mod NestedWalks
 pub mod Parts
-pub mod Refusing
 pub mod Removing
 pub mod Short
 pub mod Tallies

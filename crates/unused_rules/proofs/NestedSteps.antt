@@ -1,20 +1,23 @@
 -- Steps, walks and verdicts in three descriptions that differ in the rules of their groups alone, each with fewer than
 -- the one before: where the first and the last agree, so does the one between them.
-use Rattle.std.proofs.Common.{◌≡◌, ◌&&◌, ◌∷◌, [], Bool, List, None, Option, Some, cond, false, not, refl, subst, true, ℕ}
+use Rattle.std.proofs.Common.{◌≡◌, ◌&&◌, ◌∷◌, [], Bool, List, None, Option, Some, ap, cond, false, not, refl, true, ℕ}
 use Rattle.copied_rows.specs.Filters.{with_filters}
 use Rattle.vpc_base.specs.declared.headers.Dir.TheVariants as dirs
 use Rattle.vpc_base.specs.declared.headers.Label.TheVariants as labels
-use Rattle.vpc_laws.specs.Types.{Description, Dir, End, EniNo, Group, Header, Label, Place, RuleRef, Stop}
-use Rattle.vpc_model.specs.Terms.{Appliances, Connection, Moment, Next, Passing, Step, answer_passing, arrive, first_rule, go, has_address, interface_at, is_tracked, open_passing, passing_groups, plain, step_at, step_of, stop, subnet_of, taken_in}
+use Rattle.vpc_laws.proofs.Lemmas.{by_memory, taken_by-unrefused}
+use Rattle.vpc_laws.specs.Onward.{door_of}
+use Rattle.vpc_laws.specs.Step.{is_refused}
+use Rattle.vpc_laws.specs.Types.{Description, Dir, EniNo, Group, Header, Label, Place, RuleRef, Stop}
+use Rattle.vpc_model.specs.Terms.{Appliances, Connection, Moment, Next, Passing, Step, answer_passing, boxes_at, first_rule, go, has_address, interface_at, is_tracked, open_passing, passing_groups, plain, step_at, step_of, stop, subnet_of, taken_in}
 use Rattle.vpc_model.specs.declared.outcomes.By.TheVariants as bys
 use Rattle.vpc_model.specs.declared.places.Came.TheVariants as from
 use Rattle.vpc_model.specs.declared.places.Place.TheVariants as places
 use Rattle.vpc_model.specs.declared.stops.Stop.TheVariants as stops
-use Rattle.vpc_model.proofs.Nexts.{go≢stop, stop-same}
+use Rattle.vpc_base.proofs.Lemmas.{both_ways}
+use Rattle.vpc_model.proofs.Nexts.{go≢stop}
 use Rattle.unused_rules.proofs.Alike.{Alike}
 use Rattle.unused_rules.proofs.Allowing.{none_allows}
 use Rattle.unused_rules.proofs.Fewer.{FewerRules}
-use Rattle.unused_rules.proofs.Refusing.{door_of, taken_in-other}
 
 -- ---- steps
 
@@ -34,6 +37,9 @@ itself-step s = record { next = refl; conns = refl; nats = refl }
 
 all-same : (p : Place) (s : Step) → AreNestedSteps p s s s
 all-same p s = same (itself-step s) (itself-step s)
+
+all-alike : (p : Place) (more between fewer s : Step) → more ≡ s → between ≡ s → fewer ≡ s → AreNestedSteps p more between fewer
+all-alike p more between fewer s a b c = rw (a, b, c) (all-same p s)
 
 nested-cond : (p : Place) (b : Bool) (s more between fewer : Step) → AreNestedSteps p more between fewer
     → AreNestedSteps p (cond b s more) (cond b s between) (cond b s fewer)
@@ -61,23 +67,13 @@ passed m s x p =
       | Some by ↦ record { next = x; by = by; conns = p.conns; nats = m.nats }
     ]
 
-arrive-no_stop : (s : Stop) (end : End) → arrive end ≡ stop s → ⊥
-arrive-no_stop s end e = cc
-
 pub no-door : (s : Stop) (p : Place) → door_of s ≡ None → door_of s ≡ Some p → ⊥
 no-door s p none some = cc
 
 -- into an interface, no group stops a packet that groups let pass
 taken-no_stop : (d : Description) (appliances : Appliances) (i : EniNo) (h : Header) → taken_in d appliances i h ≡ stop (stops.GroupsIn i)
     → ⊥
-taken-no_stop d appliances i h e = other (taken_in d appliances i h) (taken_in-other d appliances i h) e
-  where
-    other : (x : Next) → (elim x as (λ _. Type 0) [ go q k ↦ Unit {0} | arrive end ↦ Unit {0} | stop s ↦ door_of s ≡ None ])
-        → x ≡ stop (stops.GroupsIn i) → ⊥
-    other (go q k) is e = go≢stop q k (stops.GroupsIn i) e
-    other (arrive end) is e = arrive-no_stop (stops.GroupsIn i) end e
-    other (stop s) is e =
-        no-door (stops.GroupsIn i) (places.Into i) (subst (λ (t : Stop). door_of t ≡ None) (stop-same s (stops.GroupsIn i) e) is) refl
+taken-no_stop d appliances i h e = both_ways (is_refused (taken_in d appliances i h)) (taken_by-unrefused d i h (boxes_at appliances i)) (ap is_refused e)
 
 module _ (d : Description) (more between fewer : List Group) (first : Alike FewerRules more between)
     (second : Alike FewerRules between fewer) where
@@ -125,26 +121,24 @@ module _ (d : Description) (more between fewer : List Group) (first : Alike Fewe
 
   nested-at : (appliances : Appliances) (label : Label) (p : Place) (m : Moment)
       → AreNestedSteps p (step_at most appliances label p m) (step_at middle appliances label p m) (step_at fewest appliances label p m)
-  nested-at appliances label (places.OutOf i) m =
-      let e = interface_at d i in
-      nested-cond (places.OutOf i) e.idle _ _ _ _ (nested-cond (places.OutOf i) (e.checked && not (has_address e m.header.src)) _ _ _ _
-      (nested-groups (places.OutOf i) (stops.GroupsOut i) (go (places.Router (subnet_of d i) (from.Host i)) m.header) refl
-      (go≢stop (places.Router (subnet_of d i) (from.Host i)) m.header (stops.GroupsOut i)) label i dirs.Outward m e.groups))
-  nested-at appliances label (places.Into i) m =
-      let e = interface_at d i in
-      nested-cond (places.Into i) e.idle _ _ _ _ (nested-cond (places.Into i) (e.checked && not (has_address e m.header.dst)) _ _ _ _
-      (nested-groups (places.Into i) (stops.GroupsIn i) (taken_in d appliances i m.header) refl (taken-no_stop d appliances i m.header)
-      label i dirs.Inward m e.groups))
-  nested-at appliances label (places.Router s came) m = all-same _ _
-  nested-at appliances label (places.Enter v by) m = all-same _ _
-  nested-at appliances label (places.IgwOut v) m = all-same _ _
-  nested-at appliances label places.Internet m = all-same _ _
-  nested-at appliances label (places.IgwIn v) m = all-same _ _
-  nested-at appliances label (places.NatOut n) m = all-same _ _
-  nested-at appliances label (places.NatIn n) m = all-same _ _
-  nested-at appliances label (places.Peer x v) m = all-same _ _
-  nested-at appliances label (places.Tgw a entered) m = all-same _ _
-  nested-at appliances label (places.TgwLeave a entered) m = all-same _ _
+  nested-at appliances label p m =
+      by_memory (λ q. AreNestedSteps q (step_at most appliances label q m) (step_at middle appliances label q m) (step_at fewest appliances label q m))
+      out into (λ n. all-same _ _)
+      (λ q rest. all-alike q _ _ _ (step_at d appliances label q m) (rest.groups d more appliances label m) (rest.groups d between appliances label m) (rest.groups d fewer appliances label m)) p
+    where
+      out : (i : EniNo) → AreNestedSteps (places.OutOf i) (step_at most appliances label (places.OutOf i) m) (step_at middle appliances label (places.OutOf i) m) (step_at fewest appliances label (places.OutOf i) m)
+      out i =
+          let e = interface_at d i in
+          nested-cond (places.OutOf i) e.idle _ _ _ _ (nested-cond (places.OutOf i) (e.checked && not (has_address e m.header.src)) _ _ _ _
+          (nested-groups (places.OutOf i) (stops.GroupsOut i) (go (places.Router (subnet_of d i) (from.Host i)) m.header) refl
+          (go≢stop (places.Router (subnet_of d i) (from.Host i)) m.header (stops.GroupsOut i)) label i dirs.Outward m e.groups))
+
+      into : (i : EniNo) → AreNestedSteps (places.Into i) (step_at most appliances label (places.Into i) m) (step_at middle appliances label (places.Into i) m) (step_at fewest appliances label (places.Into i) m)
+      into i =
+          let e = interface_at d i in
+          nested-cond (places.Into i) e.idle _ _ _ _ (nested-cond (places.Into i) (e.checked && not (has_address e m.header.dst)) _ _ _ _
+          (nested-groups (places.Into i) (stops.GroupsIn i) (taken_in d appliances i m.header) refl (taken-no_stop d appliances i m.header)
+          label i dirs.Inward m e.groups))
 
   pub nested_steps : (appliances : Appliances) (label : Label) (m : Moment)
       → AreNestedSteps m.place (step_of most appliances label m) (step_of middle appliances label m) (step_of fewest appliances label m)

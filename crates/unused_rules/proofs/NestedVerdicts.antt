@@ -13,7 +13,7 @@ use Rattle.vpc_model.specs.declared.outcomes.Verdict.TheVariants as verdicts
 use Rattle.vpc_model.specs.declared.stops.Stop.TheVariants as stops
 use Rattle.unused_rules.proofs.Alike.{Alike}
 use Rattle.unused_rules.proofs.Fewer.{FewerRules}
-use Rattle.unused_rules.proofs.Refusing.{door_of}
+use Rattle.vpc_laws.specs.Onward.{door_of}
 use Rattle.unused_rules.proofs.NestedSteps.{no-door}
 use Rattle.unused_rules.proofs.NestedWalks.{AreNestedWalks, IsSameWalk, nested_walks, refused, same}
 

@@ -4,7 +4,9 @@ use Rattle.std.proofs.lemmas.Bool.{both_ways, cond_both}
 use Rattle.std.proofs.lemmas.List.Folds.{list_any-append}
 use Rattle.copied_rows.specs.Filters.{with_filters}
 use Rattle.vpc_laws.proofs.Adding.{is_visited-last, is_visited-more}
+use Rattle.vpc_laws.proofs.Lemmas.{steps_lead_on}
 use Rattle.vpc_laws.proofs.Walking.{hop_at, moment}
+use Rattle.vpc_laws.specs.Onward.{IsDoor, LeadsOn, door_of}
 use Rattle.vpc_laws.specs.Types.{Description, End, Group, Header, Hop, Label, Outcome, Place, Stop}
 use Rattle.vpc_model.specs.Appliances.{Appliances}
 use Rattle.vpc_model.specs.Connections.{Connection}
@@ -17,7 +19,6 @@ use Rattle.vpc_model.specs.declared.stops.Stop.TheVariants as stops
 use Rattle.unused_rules.proofs.Alike.{Alike}
 use Rattle.unused_rules.proofs.Fewer.{FewerRules}
 use Rattle.unused_rules.proofs.NestedSteps.{AreNestedSteps, IsSameStep, nested_steps, no-door, refused as refused_step, same as same_step}
-use Rattle.unused_rules.proofs.Refusing.{IsDoor, StopsAtDoor, door_of, stops_at_door}
 
 -- ---- places
 
@@ -48,9 +49,9 @@ turned_back-no_door hops p =
 not-by_groups : (t s : Stop) (p : Place) → door_of s ≡ Some p → door_of t ≡ None → outcomes.Stopped t ≡ outcomes.Stopped s → ⊥
 not-by_groups t s p door none e = no-door s p (subst (λ (x : Stop). door_of x ≡ None) (stopped-same t s e) none) door
 
-door-here : (s : Stop) (p q : Place) (x : Next) → door_of s ≡ Some p → StopsAtDoor q x → x ≡ stop s → q ≡ p
-door-here s p q x door at e =
-    let here : IsDoor q (door_of s) = subst (λ (y : Next). StopsAtDoor q y) e at in
+door-here : (d : Description) (h : Header) (s : Stop) (p q : Place) (x : Next) → door_of s ≡ Some p → LeadsOn d q h x → x ≡ stop s → q ≡ p
+door-here d h s p q x door at e =
+    let here : IsDoor q (door_of s) = (subst (LeadsOn d q h) e at).0 in
     subst (λ (o : Option Place). IsDoor q o) door here
 
 -- groups don't stop it there later
@@ -72,7 +73,7 @@ passed-for_good d appliances label s p door (suc n) hops h (go q k) conns nats t
     (λ new. passed-for_good d appliances label s p door n (hops ++ hop_at d appliances label m ∷ []) k t.next t.conns t.nats
     (is_visited-more hops (hop_at d appliances label m) p there)
     (λ e. both_ways (is_visited hops p)
-    (subst (λ (r : Place). is_visited hops r ≡ false) (door-here s p q t.next door (stops_at_door d appliances label q m) e) new) there))
+    (subst (λ (r : Place). is_visited hops r ≡ false) (door-here d k s p q t.next door (steps_lead_on d appliances label m) e) new) there))
 
 -- ---- walks
 

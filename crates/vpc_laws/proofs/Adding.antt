@@ -1,14 +1,14 @@
 -- What a walk adds to connections and translations.
-use Rattle.std.proofs.Common.{◌≡◌, ◌≤◌, ◌==◌, ◌⊎◌, Bool, List, [], ◌∷◌, ◌++◌, Some, ap, append_assoc, arith, false, inl, inr, length, length-append, refl, subst, sym, true, ◌∙◌, ap₂}
+use Rattle.std.proofs.Common.{◌≡◌, ◌≤◌, ◌==◌, ◌⊎◌, Bool, List, [], ◌∷◌, ◌++◌, ap, append_assoc, arith, false, inl, inr, length, length-append, refl, subst, sym, true, ◌∙◌, ap₂}
 use Rattle.std.specs.List.{AllByRecursion, IsDistinct, list_any}
-use Rattle.vpc_base.proofs.Lemmas.{and_parts, append-nil, both_ways, false_from_ne_true, list_any-append, none-some, or_from, or_left, or_right}
+use Rattle.vpc_base.proofs.Lemmas.{and_parts, append-nil, both_ways, false_from_ne_true, list_any-append, or_from, or_left, or_right}
 use Rattle.vpc_base.specs.Dir.{same_dir}
-use Rattle.vpc_base.specs.declared.headers.Dir.TheVariants.{Inward, Outward}
-use Rattle.vpc_model.specs.declared.places.Place.TheVariants.{OutOf, Router, Enter, Into, IgwOut, Internet, IgwIn, NatOut, NatIn, Peer, Tgw, TgwLeave}
-use Rattle.vpc_laws.specs.Types.{Description, Dir, EniNo, Header, Hop, Label, Place}
+use Rattle.vpc_model.specs.declared.places.Place.TheVariants.{NatOut}
+use Rattle.vpc_laws.specs.Types.{Description, Header, Hop, Label, Place}
 use Rattle.vpc_model.specs.Terms.{Appliances, Connection, Moment, Next, Translation, is_visited, same_place, step_of, walk_of}
-use Rattle.vpc_laws.specs.Terms.{AddsFew, AddsOwn, AddsTranslation, own_connection, same_door, same_gateway}
+use Rattle.vpc_laws.specs.Terms.{AddsFew, AddsOwn, AddsTranslation, same_door, same_gateway}
 use Rattle.vpc_laws.proofs.Books.{AllByRecursion-push, IsDistinct-push_new}
+use Rattle.vpc_laws.proofs.ByMemory.{own_connection-made, place_by}
 use Rattle.vpc_laws.proofs.Growth.{step_adds_own, step_adds_translation}
 use Rattle.vpc_laws.proofs.Same.{EniNo-same, NatNo-same, same_dir-true, same_place-refl}
 use Rattle.vpc_laws.proofs.Walking.{IsKept, hop_at, walk_is_short, walk_of-keeps}
@@ -77,11 +77,6 @@ few-added place_of alike hops before after short added = let few = added.few in 
 
 -- ---- connections and translations
 
--- the place where a connection is made
-abbrev place_by : EniNo → Dir → Place
-place_by i Outward = OutOf i
-place_by i Inward = Into i
-
 abbrev place_of_connection : Connection → Place
 place_of_connection c = place_by c.eni c.dir
 
@@ -96,29 +91,9 @@ one_door a b e =
 one_gateway : (s t : Translation) → same_gateway s t ≡ true → place_of_translation s ≡ place_of_translation t
 one_gateway s t e = ap NatOut (NatNo-same s.nat t.nat e)
 
-own-place : (p : Place) (h : Header) (c : Connection) → own_connection p h ≡ Some c → place_of_connection c ≡ p
-own-place (OutOf i) h c e =
-    let made : Connection = record { eni = i; dir = Outward; header = h } in
-    let same : made ≡ c = cc in
-    subst (λ x. place_of_connection x ≡ OutOf i) same refl
-own-place (Into i) h c e =
-    let made : Connection = record { eni = i; dir = Inward; header = h } in
-    let same : made ≡ c = cc in
-    subst (λ x. place_of_connection x ≡ Into i) same refl
-own-place (Router s came) h c e = absurd (none-some c e)
-own-place (Enter v by) h c e = absurd (none-some c e)
-own-place (IgwOut v) h c e = absurd (none-some c e)
-own-place Internet h c e = absurd (none-some c e)
-own-place (IgwIn v) h c e = absurd (none-some c e)
-own-place (NatOut n) h c e = absurd (none-some c e)
-own-place (NatIn n) h c e = absurd (none-some c e)
-own-place (Peer x v) h c e = absurd (none-some c e)
-own-place (Tgw a s) h c e = absurd (none-some c e)
-own-place (TgwLeave a s) h c e = absurd (none-some c e)
-
 own-added : (label : Label) (p : Place) (h : Header) (before after : List Connection) → AddsOwn label p h before after → (after ≡ before) ⊎ ((c : Connection) × ((place_of_connection c ≡ p) × (after ≡ before ++ c ∷ [])))
 own-added label p h before after (inl same) = inl same
-own-added label p h before after (inr (c, (opens, (own, is)))) = inr (c, (own-place p h c own, is))
+own-added label p h before after (inr (c, (opens, (own, is)))) = let made = own_connection-made p h c own in inr (c, (sym made.place, is))
 
 translation-added : (label : Label) (p : Place) (h : Header) (before after : List Translation) → AddsTranslation label p h before after → (after ≡ before) ⊎ ((t : Translation) × ((place_of_translation t ≡ p) × (after ≡ before ++ t ∷ [])))
 translation-added label p h before after (inl same) = inl same

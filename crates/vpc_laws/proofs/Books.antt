@@ -1,10 +1,9 @@
 -- A step keeps the translations in order.
-use Rattle.std.proofs.Common.{◌≡◌, ℕ, ◌≤◌, ◌<◌, ◌^◌, ◌==◌, ◌&&◌, Bool, true, false, List, [], ◌∷◌, ◌++◌, Option, Some, None, refl, cond, ◌∙◌, sym, arith, subst, inl, inr}
+use Rattle.std.proofs.Common.{◌≡◌, ℕ, ◌≤◌, ◌<◌, ◌^◌, ◌==◌, ◌&&◌, Bool, true, false, List, [], ◌∷◌, ◌++◌, Option, Some, None, ap, refl, cond, ◌∙◌, sym, arith, subst, inl, inr}
 use Rattle.std.specs.List.{list_any, count_by, find, AllByRecursion, IsDistinct}
 use Rattle.std.proofs.lemmas.Bool.{cond_both, and_parts, and_from, eqb-true, eq-eqb, or_parts, or_from, leb-false, cases_Bool}
 use Rattle.vpc_base.specs.declared.headers.Label.TheVariants.{Opening, Answer}
 use Rattle.vpc_base.proofs.Tests.{count_by-push}
-use Rattle.vpc_model.specs.declared.places.Place.TheVariants.{OutOf, Router, Enter, Into, IgwOut, Internet, IgwIn, NatOut, NatIn, Peer, Tgw, TgwLeave}
 use Rattle.vpc_laws.specs.Types.{Description, Header, Label, NatNo, Place}
 use Rattle.vpc_laws.specs.Translations.{IsBook, IsTranslation, collide, same_before}
 use Rattle.vpc_model.specs.Appliances.{Appliances}
@@ -14,7 +13,8 @@ use Rattle.vpc_model.specs.Nat.{Translation, is_full, is_translatable, new_trans
 use Rattle.vpc_model.specs.Step.{step_at, step_of}
 use Rattle.vpc_model.specs.Step.Nat.{own_address, step_nat_out, translate}
 use Rattle.vpc_model.specs.Step.Words.{Moment, Step}
-use Rattle.vpc_laws.proofs.Growth.{step_out-nats, step_into-nats, step_internet-nats, step_nat_in-nats}
+use Rattle.vpc_laws.proofs.ByMemory.{by_memory}
+use Rattle.vpc_laws.proofs.Growth.{step_into-nats, step_out-nats}
 use Rattle.vpc_laws.proofs.Ports.{count_by-le, free_port_is_free, new_translation-fits}
 
 -- ---- lists with one more item
@@ -106,18 +106,11 @@ same-book : (before after : List Translation) → after ≡ before → IsBook be
 same-book before after e book = subst IsBook (sym e) book
 
 pub step_at-book : (d : Description) (appliances : Appliances) (label : Label) (p : Place) (m : Moment) → m.header.p < 2 ^ 16 → IsBook m.nats → IsBook (step_at d appliances label p m).nats
-step_at-book d appliances label (OutOf i) m fits book = same-book m.nats _ (step_out-nats d label i m) book
-step_at-book d appliances label (Into i) m fits book = same-book m.nats _ (step_into-nats d appliances label i m) book
-step_at-book d appliances label (Router s came) m fits book = book
-step_at-book d appliances label (Enter v by) m fits book = book
-step_at-book d appliances label (IgwOut v) m fits book = book
-step_at-book d appliances label Internet m fits book = same-book m.nats _ (step_internet-nats d m) book
-step_at-book d appliances label (IgwIn v) m fits book = book
-step_at-book d appliances label (NatOut n) m fits book = step_nat_out-book d label n m fits book
-step_at-book d appliances label (NatIn n) m fits book = same-book m.nats _ (step_nat_in-nats d label n m) book
-step_at-book d appliances label (Peer x v) m fits book = book
-step_at-book d appliances label (Tgw a s) m fits book = book
-step_at-book d appliances label (TgwLeave a s) m fits book = book
+step_at-book d appliances label p m fits book =
+    by_memory (λ q. IsBook (step_at d appliances label q m).nats)
+    (λ i. same-book m.nats _ (step_out-nats d label i m) book) (λ i. same-book m.nats _ (step_into-nats d appliances label i m) book)
+    (λ n. step_nat_out-book d label n m fits book)
+    (λ q rest. same-book m.nats _ (ap (λ (s : Step). s.nats) (rest.step d appliances label m)) book) p
 
 pub step_keeps_book : (d : Description) (appliances : Appliances) (label : Label) (m : Moment) → m.header.p < 2 ^ 16 → IsBook m.nats → IsBook (step_of d appliances label m).nats
 step_keeps_book d appliances label m fits book = step_at-book d appliances label m.place m fits book

@@ -1,5 +1,5 @@
--- An open keeps its protocol and q.
-use Rattle.std.proofs.Common.{Bool, List, None, Option, Some, [], cond, false, find, is_none, not, refl, slice_index_or, true, ℕ, ◌&&◌, ◌<◌, ◌==◌, ◌^◌, ◌||◌, ◌∙◌, ◌∷◌, ◌≡◌}
+-- What a step leads to: the header and the place that come next, and the stops.
+use Rattle.std.proofs.Common.{Bool, List, None, Option, Some, [], ap, cond, false, find, is_none, not, refl, slice_index_or, sym, true, ℕ, ◌&&◌, ◌<◌, ◌==◌, ◌^◌, ◌||◌, ◌∙◌, ◌∷◌, ◌≡◌}
 use Rattle.std.specs.List.{AllByRecursion}
 use Rattle.std.proofs.lemmas.Bool.{cond_both, and_parts, eqb-true, true≢false}
 use Rattle.vpc_base.specs.declared.headers.Dir.TheVariants.{Inward, Outward}
@@ -9,170 +9,70 @@ use Rattle.vpc_model.specs.declared.rows.NatLife.TheVariants.{Gone, Unmodelled a
 use Rattle.vpc_model.specs.declared.rows.Target.TheVariants.{Local, Internet as ToInternet, Nat as ToNat, Transit as ToTransit, Peer as ToPeer, Interface as ToInterface, Other}
 use Rattle.vpc_model.specs.declared.stops.Stop.TheVariants.{AclIn, AclOut, ApplianceDrop, NotAHost}
 use Rattle.vpc_model.specs.declared.places.End.TheVariants.{Interface}
-use Rattle.vpc_laws.specs.Types.{AttNo, Box5, By, Description, EniNo, Header, IgwNo, Label, NatLife, NatNo, PeerNo, Place, Stop, SubnetNo, TableNo, Target, TgwTableNo, VpcNo}
-use Rattle.vpc_laws.specs.Terms.{IsTranslation, KeepsFlow, SendsSame, StopsItself, is_of_step, is_rewriting}
-use Rattle.vpc_model.specs.Terms.{Appliances, Connection, Moment, Next, Step, Translation, acl_at, acl_of, acl_verdict, arrive, attachment_for, attachment_of_id, boxes_at, by_attachment, by_pair, by_route, by_tgw_route, by_tgw_table, chosen_route, chosen_tgw_route, crossing, deliver, deliver_by, eni_no, enter_host, entering, forwarded, from_inward, gateway_of, go, go_public, has_address, has_block, has_vpc, host_of, igw_no, in_passing, interface_at, inward, is_attached, is_full, is_gateway, is_translatable, is_unroutable, leave_by, leave_subnet, leaving, nat_at, nat_no, nat_of, no_route, no_tgw_route, or_else, other_side, out_passing, over_peering, own_address, owner_of, passes, passing_of, peer_no, peering_at, public_of, same_header, step_at, step_internet, step_into, step_nat_out, step_of, step_out, step_router, stop, subnet_no, subnet_of, table_at, table_of, table_of_attachment, tgw_table_at, to_attachment, to_host, to_interface, to_internet, to_nat, to_owner, to_peer, to_target, to_transit, to_zone, translate, translation_of, unless_stopped, vpc_at, vpc_no, vpc_of_subnet, zone_subnet}
+use Rattle.vpc_laws.specs.Types.{AttNo, Box5, By, Came, Description, EniNo, EnterBy, Header, IgwNo, Label, NatLife, NatNo, PeerNo, Place, Stop, SubnetNo, TableNo, Target, TgwTableNo, VpcNo}
+use Rattle.vpc_laws.specs.Terms.{GoesOn, IsDoor, IsTranslation, KeepsFlow, LeadsOn, LiesIn, Refuses, SendsSame, StopsItself, across, door_of, host, into, is_of_step, is_rewriting, nat_answered, nat_asked, out_of, past_none, refuser_of}
+use Rattle.vpc_model.specs.Terms.{Appliances, Connection, Moment, Next, Step, Translation, acl_at, acl_of, acl_verdict, arrive, attachment_for, attachment_of_id, boxes_at, by_attachment, by_pair, by_route, by_tgw_route, by_tgw_table, chosen_route, chosen_tgw_route, crossing, deliver, deliver_by, eni_no, enter_host, entering, forwarded, from_inward, gateway_of, go, go_public, has_address, has_block, has_vpc, host_of, igw_no, in_passing, interface_at, inward, is_attached, is_full, is_gateway, is_translatable, is_unroutable, leave_by, leave_subnet, leaving, nat_at, nat_no, nat_of, no_route, no_tgw_route, or_else, other_side, out_passing, over_peering, own_address, own_subnet, owner_of, passes, passing_of, peer_no, peering_at, public_of, same_header, step_at, step_internet, step_into, step_nat_in, step_nat_out, step_of, step_out, step_router, stop, subnet_no, subnet_of, table_at, table_of, table_of_attachment, tgw_table_at, to_attachment, to_host, to_interface, to_internet, to_nat, to_owner, to_peer, to_target, to_transit, to_zone, translate, translation_of, unless_stopped, vpc_at, vpc_no, vpc_of_subnet, zone_subnet}
 use Rattle.vpc_laws.proofs.Ports.{new_translation-fits}
 
--- a header of the same protocol and q, whose p fits its field where the first's does; it is the first where nothing is rewritten
-pub record IsFlow (rewritten : Bool) (h k : Header) : Type 0 where
-  pub proto : k.proto ≡ h.proto
-  pub q : k.q ≡ h.q
-  pub p : h.p < 2 ^ 16 → k.p < 2 ^ 16
+-- the header that comes next: that of an open keeps protocol and q, and its p fits its field where the first one's does; where
+-- nothing is rewritten, it is the first one
+pub record IsFlow (opens : Type 0) (rewritten : Bool) (h k : Header) : Type 0 where
+  pub proto : opens → k.proto ≡ h.proto
+  pub q : opens → k.q ≡ h.q
+  pub p : opens → h.p < 2 ^ 16 → k.p < 2 ^ 16
   pub same : rewritten ≡ false → k ≡ h
 
-abbrev pub Flows : Bool → Header → Next → Type 0
-Flows rewritten h (go p k) = IsFlow rewritten h k
-Flows rewritten h (arrive end) = Unit {0}
-Flows rewritten h (stop s) = is_of_step s ≡ true
+itself : {opens : Type 0} {rewritten : Bool} {h : Header} → IsFlow opens rewritten h h
+itself = record { proto = λ _. refl; q = λ _. refl; p = λ _ fits. fits; same = λ _. refl }
 
--- a stop of a step, if there is one
-abbrev pub IsOwn : Option Stop → Type 0
-IsOwn None = Unit {0}
-IsOwn (Some s) = is_of_step s ≡ true
+-- a step makes the stop: groups at their door, ACLs of what they refuse
+abbrev pub IsStopAt : Description → Place → Header → Stop → Type 0
+IsStopAt d p h s = (is_of_step s ≡ true) × (IsDoor p (door_of s) × Refuses d h (refuser_of s))
 
-leaving-own : (d : Description) (s : SubnetNo) (h : Header) → IsOwn (leaving d s h)
-leaving-own d s h =
-    let a = acl_at d (acl_of d s) in
-    let verdict = acl_verdict a.rows Outward h in
-    cond_both verdict.0 None (Some (AclOut (acl_of d s) verdict.1)) IsOwn (λ _. tt) (λ _. refl)
-
-entering-own : (d : Description) (s : SubnetNo) (h : Header) → IsOwn (entering d s h)
-entering-own d s h =
-    let a = acl_at d (acl_of d s) in
-    let verdict = acl_verdict a.rows Inward h in
-    cond_both verdict.0 None (Some (AclIn (acl_of d s) verdict.1)) IsOwn (λ _. tt) (λ _. refl)
-
-or_else-own : (s t : Option Stop) → IsOwn s → IsOwn t → IsOwn (or_else s t)
-or_else-own None t a b = b
-or_else-own (Some s) t a b = a
-
-crossing-own : (d : Description) (s t : SubnetNo) (h : Header) → IsOwn (crossing d s t h)
-crossing-own d s t h =
-    cond_both (s.0 == t.0) None (or_else (leaving d s h) (entering d t h)) IsOwn (λ _. tt)
-    (λ _. or_else-own (leaving d s h) (entering d t h) (leaving-own d s h) (entering-own d t h))
-
-unless_stopped-flow : (h : Header) (s : Option Stop) (x : Next) → IsOwn s → Flows false h x → Flows false h (unless_stopped s x)
-unless_stopped-flow h None x own keeps = keeps
-unless_stopped-flow h (Some s) x own keeps = own
+abbrev pub Flows : Type 0 → Description → Place → Header → Next → Type 0
+Flows opens d p h (go q k) = GoesOn d h p q × IsFlow opens (is_rewriting p) h k
+Flows opens d p h (arrive end) = Unit {0}
+Flows opens d p h (stop s) = IsStopAt d p h s
 
 -- ---- interfaces
 
-out_passing-flow : (d : Description) (i : EniNo) (m : Moment) (by : Option By) (conns : List Connection) → Flows false m.header (out_passing d i m (record { by = by; conns = conns })).next
-out_passing-flow d i m None conns = refl
-out_passing-flow d i m (Some by) conns = record { proto = refl; q = refl; p = λ fits. fits; same = λ _. refl }
+out_passing-flow : (opens : Type 0) (d : Description) (i : EniNo) (m : Moment) (by : Option By) (conns : List Connection) → Flows opens d (OutOf i) m.header (out_passing d i m (record { by = by; conns = conns })).next
+out_passing-flow opens d i m None conns = (refl, (refl, tt))
+out_passing-flow opens d i m (Some by) conns = (past_none (λ s c e. cc) (λ j e. cc), itself)
 
 -- arrived or sent on, by the boxes of the appliance there
 abbrev pub taken_by : Description → EniNo → Header → Option (List Box5) → Next
 taken_by d i h None = arrive (Interface i)
 taken_by d i h (Some boxes) = cond (has_address (interface_at d i) h.dst) (arrive (Interface i)) (forwarded i h boxes)
 
-taken_by-flow : (d : Description) (i : EniNo) (h : Header) (boxes : Option (List Box5)) → Flows false h (taken_by d i h boxes)
-taken_by-flow d i h None = tt
-taken_by-flow d i h (Some boxes) =
-    cond_both (has_address (interface_at d i) h.dst) (arrive (Interface i)) (forwarded i h boxes) (λ (x : Next). Flows false h x) (λ _. tt)
-    (λ _. cond_both (passes boxes h) (go (OutOf i) h) (stop (ApplianceDrop i)) (λ (x : Next). Flows false h x) (λ _. record { proto = refl; q = refl; p = λ fits. fits; same = λ _. refl }) (λ _. refl))
+taken_by-flow : (opens : Type 0) (d : Description) (i : EniNo) (h : Header) (boxes : Option (List Box5)) → Flows opens d (Into i) h (taken_by d i h boxes)
+taken_by-flow opens d i h None = tt
+taken_by-flow opens d i h (Some boxes) =
+    cond_both (has_address (interface_at d i) h.dst) (arrive (Interface i)) (forwarded i h boxes) (Flows opens d (Into i) h) (λ _. tt)
+    (λ _. cond_both (passes boxes h) (go (OutOf i) h) (stop (ApplianceDrop i)) (Flows opens d (Into i) h) (λ _. (past_none (λ s c e. cc) (λ j e. cc), itself)) (λ _. (refl, (tt, tt))))
 
-in_passing-flow : (d : Description) (appliances : Appliances) (i : EniNo) (m : Moment) (by : Option By) (conns : List Connection) → Flows false m.header (in_passing d appliances i m (record { by = by; conns = conns })).next
-in_passing-flow d appliances i m None conns = refl
-in_passing-flow d appliances i m (Some by) conns = taken_by-flow d i m.header (boxes_at appliances i)
+in_passing-flow : (opens : Type 0) (d : Description) (appliances : Appliances) (i : EniNo) (m : Moment) (by : Option By) (conns : List Connection)
+    → Flows opens d (Into i) m.header (in_passing d appliances i m (record { by = by; conns = conns })).next
+in_passing-flow opens d appliances i m None conns = (refl, (refl, tt))
+in_passing-flow opens d appliances i m (Some by) conns = taken_by-flow opens d i m.header (boxes_at appliances i)
 
-step_out-flow : (d : Description) (label : Label) (i : EniNo) (m : Moment) → Flows false m.header (step_out d label i m).next
-step_out-flow d label i m =
+step_out-flow : (opens : Type 0) (d : Description) (label : Label) (i : EniNo) (m : Moment) → Flows opens d (OutOf i) m.header (step_out d label i m).next
+step_out-flow opens d label i m =
     let e = interface_at d i in
     let passing = passing_of d label i Outward m.header m.conns in
-    cond_both e.idle _ _ (λ (s : Step). Flows false m.header s.next) (λ _. refl)
-    (λ _. cond_both (e.checked && not (has_address e m.header.src)) _ _ (λ (s : Step). Flows false m.header s.next) (λ _. refl)
-    (λ _. out_passing-flow d i m passing.by passing.conns))
+    cond_both e.idle _ _ (λ (s : Step). Flows opens d (OutOf i) m.header s.next) (λ _. (refl, (tt, tt)))
+    (λ _. cond_both (e.checked && not (has_address e m.header.src)) _ _ (λ (s : Step). Flows opens d (OutOf i) m.header s.next) (λ _. (refl, (tt, tt)))
+    (λ _. out_passing-flow opens d i m passing.by passing.conns))
 
-step_into-flow : (d : Description) (appliances : Appliances) (label : Label) (i : EniNo) (m : Moment) → Flows false m.header (step_into d appliances label i m).next
-step_into-flow d appliances label i m =
+step_into-flow : (opens : Type 0) (d : Description) (appliances : Appliances) (label : Label) (i : EniNo) (m : Moment) → Flows opens d (Into i) m.header (step_into d appliances label i m).next
+step_into-flow opens d appliances label i m =
     let e = interface_at d i in
     let passing = passing_of d label i Inward m.header m.conns in
-    cond_both e.idle _ _ (λ (s : Step). Flows false m.header s.next) (λ _. refl)
-    (λ _. cond_both (e.checked && not (has_address e m.header.dst)) _ _ (λ (s : Step). Flows false m.header s.next) (λ _. refl)
-    (λ _. in_passing-flow d appliances i m passing.by passing.conns))
+    cond_both e.idle _ _ (λ (s : Step). Flows opens d (Into i) m.header s.next) (λ _. (refl, (tt, tt)))
+    (λ _. cond_both (e.checked && not (has_address e m.header.dst)) _ _ (λ (s : Step). Flows opens d (Into i) m.header s.next) (λ _. (refl, (tt, tt)))
+    (λ _. in_passing-flow opens d appliances i m passing.by passing.conns))
 
-deliver_by-flow : (d : Description) (i : EniNo) (h : Header) (n : Option NatNo) → Flows false h (deliver_by d i h n)
-deliver_by-flow d i h (Some n) = record { proto = refl; q = refl; p = λ fits. fits; same = λ _. refl }
-deliver_by-flow d i h None = let e = interface_at d i in cond_both (is_gateway e.kind) _ _ (λ (x : Next). Flows false h x) (λ _. refl) (λ _. record { proto = refl; q = refl; p = λ fits. fits; same = λ _. refl })
-
--- ---- routers
-
-to_host-flow : (d : Description) (s : SubnetNo) (h : Header) (i : Option EniNo) → Flows false h (to_host d s h i)
-to_host-flow d s h None = refl
-to_host-flow d s h (Some i) = unless_stopped-flow h (crossing d s (subnet_of d i) h) (deliver d i h) (crossing-own d s (subnet_of d i) h) (deliver_by-flow d i h (nat_of d i))
-
-to_internet-flow : (d : Description) (s : SubnetNo) (h : Header) → (g : IgwNo) → Flows false h (to_internet d s h g)
-to_internet-flow d s h g =
-    let v = vpc_of_subnet d s in
-    cond_both (is_attached g (gateway_of d v)) _ _ (λ (x : Next). Flows false h x) (λ _. unless_stopped-flow h (leaving d s h) (go (IgwOut v) h) (leaving-own d s h) record { proto = refl; q = refl; p = λ fits. fits; same = λ _. refl }) (λ _. refl)
-
-to_nat-flow : (d : Description) (s : SubnetNo) (h : Header) (n : NatNo) (life : NatLife) → Flows false h (to_nat d s h n life)
-to_nat-flow d s h n Gone = refl
-to_nat-flow d s h n WithoutSubnet = refl
-to_nat-flow d s h n (Live subnet eni address) = unless_stopped-flow h (crossing d s (subnet_no d subnet) h) (go (NatOut n) h) (crossing-own d s (subnet_no d subnet) h) record { proto = refl; q = refl; p = λ fits. fits; same = λ _. refl }
-
-to_peer-flow : (d : Description) (s : SubnetNo) (h : Header) (x : PeerNo) (pair : Option (List ℕ × List ℕ)) → Flows false h (to_peer d s h x pair)
-to_peer-flow d s h x None = refl
-to_peer-flow d s h x (Some pair) =
-    let v = vpc_of_subnet d s in
-    let row = vpc_at d v in
-    cond_both (has_vpc d (other_side row.id pair)) _ _ (λ (y : Next). Flows false h y) (λ _. unless_stopped-flow h (leaving d s h) (go (Peer x v) h) (leaving-own d s h) record { proto = refl; q = refl; p = λ fits. fits; same = λ _. refl }) (λ _. refl)
-
-to_zone-flow : (d : Description) (s : SubnetNo) (h : Header) (a : AttNo) (t : Option SubnetNo) → Flows false h (to_zone d s h a t)
-to_zone-flow d s h a None = refl
-to_zone-flow d s h a (Some t) = unless_stopped-flow h (or_else (leaving d s h) (entering d t h)) (go (Tgw a t) h) (or_else-own (leaving d s h) (entering d t h) (leaving-own d s h) (entering-own d t h)) record { proto = refl; q = refl; p = λ fits. fits; same = λ _. refl }
-
-to_transit-flow : (d : Description) (s : SubnetNo) (h : Header) (t : TableNo) (k : ℕ) (a : Option AttNo) → Flows false h (to_transit d s h t k a)
-to_transit-flow d s h t k None = refl
-to_transit-flow d s h t k (Some a) = to_zone-flow d s h a (zone_subnet d a s)
-
-to_interface-flow : (d : Description) (s : SubnetNo) (h : Header) (j : EniNo) → Flows false h (to_interface d s h j)
-to_interface-flow d s h j =
-    let e = interface_at d j in
-    unless_stopped-flow h (crossing d s (subnet_of d j) h) _ (crossing-own d s (subnet_of d j) h) (cond_both (is_gateway e.kind) (stop (NotAHost j)) (go (Into j) h) (λ (x : Next). Flows false h x) (λ _. refl) (λ _. record { proto = refl; q = refl; p = λ fits. fits; same = λ _. refl }))
-
-to_target-flow : (d : Description) (s : SubnetNo) (h : Header) (t : TableNo) (k : ℕ) (target : Target) → Flows false h (to_target d s h t k target)
-to_target-flow d s h t k Local = to_host-flow d s h (host_of d (vpc_of_subnet d s) h.dst)
-to_target-flow d s h t k (ToInternet id) = to_internet-flow d s h (igw_no d id)
-to_target-flow d s h t k (ToNat id) = let row = nat_at d (nat_no d id) in to_nat-flow d s h (nat_no d id) row.life
-to_target-flow d s h t k (ToPeer id) = let row = peering_at d (peer_no d id) in to_peer-flow d s h (peer_no d id) row.pair
-to_target-flow d s h t k (ToTransit id) = to_transit-flow d s h t k (attachment_for d id s)
-to_target-flow d s h t k (ToInterface id) = to_interface-flow d s h (eni_no d id)
-to_target-flow d s h t k (Other id) = refl
-
-by_route-flow : (d : Description) (s : SubnetNo) (h : Header) (t : TableNo) (k : Option ℕ) → Flows false h (by_route d s h t k)
-by_route-flow d s h t None = refl
-by_route-flow d s h t (Some k) =
-    let table = table_at d t in
-    let r = slice_index_or table.routes k no_route in
-    cond_both r.blackhole _ (to_target d s h t k r.target) (λ (x : Next). Flows false h x) (λ _. refl) (λ _. to_target-flow d s h t k r.target)
-
-step_router-flow : (d : Description) (s : SubnetNo) (m : Moment) → Flows false m.header (step_router d s m).next
-step_router-flow d s m =
-    let t = table_of d s in
-    let table = table_at d t in
-    by_route-flow d s m.header t (chosen_route d table.routes m.header.dst)
-
--- ---- gateways
-
-enter_host-flow : (d : Description) (v : VpcNo) (h : Header) (i : Option EniNo) → Flows false h (enter_host d v h i)
-enter_host-flow d v h None = refl
-enter_host-flow d v h (Some i) = unless_stopped-flow h (entering d (subnet_of d i) h) (deliver d i h) (entering-own d (subnet_of d i) h) (deliver_by-flow d i h (nat_of d i))
-
-go_public-flow : (d : Description) (v : VpcNo) (h : Header) (a : Option ℕ) → Flows true h (go_public d v h a)
-go_public-flow d v h None = refl
-go_public-flow d v h (Some a) = record { proto = refl; q = refl; p = λ fits. fits; same = λ e. absurd (true≢false e) }
-
-to_owner-flow : (d : Description) (h : Header) (v : Option VpcNo) → Flows false h (to_owner d h v)
-to_owner-flow d h None = tt
-to_owner-flow d h (Some v) = cond_both (is_none (gateway_of d v)) _ _ (λ (x : Next). Flows false h x) (λ _. refl) (λ _. record { proto = refl; q = refl; p = λ fits. fits; same = λ _. refl })
-
-step_internet-flow : (d : Description) (m : Moment) → Flows false m.header (step_internet d m).next
-step_internet-flow d m =
-    cond_both (is_unroutable m.header.src || is_unroutable m.header.dst) _ _ (λ (s : Step). Flows false m.header s.next)
-    (λ _. refl) (λ _. to_owner-flow d m.header (owner_of d m.header.dst))
+-- ---- NAT gateways
 
 -- what a look-up finds passes the test, and is as all are
 abbrev pub Found : {X : Type 0} → (X → Type 0) → (X → Bool) → Option X → Type 0
@@ -211,133 +111,285 @@ same_header-fields a b e =
       q = eqb-true a.q b.q ports.1;
     }
 
-translate-flow : (d : Description) (n : NatNo) (m : Moment) (t : Option Translation) → Found IsTranslation (is_of n m.header) t → Flows true m.header (translate d n m t).next
-translate-flow d n m None found =
+-- an open is there, and such translations are remembered
+abbrev pub IsOpenAmong : Label → List Translation → Type 0
+IsOpenAmong label nats = (label ≡ Opening) × AllByRecursion IsTranslation nats
+
+translate-flow : (d : Description) (n : NatNo) (m : Moment) (t : Option Translation) (opens : Type 0) → (opens → Found IsTranslation (is_of n m.header) t) → Flows opens d (NatOut n) m.header (translate d n m t).next
+translate-flow d n m None opens found =
     let row = nat_at d n in
-    cond_both (is_full m.nats n m.header) _ _ (λ (s : Step). Flows true m.header s.next) (λ _. refl)
-    (λ _. record { proto = refl; q = refl; p = λ fits. (new_translation-fits m.nats n (own_address row.life) m.header fits).1; same = λ e. absurd (true≢false e) })
-translate-flow d n m (Some t) (here, is) =
-    let same = same_header-fields t.before m.header (and_parts (t.nat.0 == n.0) (same_header t.before m.header) here).1 in
-    record { proto = is.proto ∙ same.proto; q = is.q ∙ same.q; p = λ fits. is.most (rw same.p fits); same = λ e. absurd (true≢false e) }
+    cond_both (is_full m.nats n m.header) _ _ (λ (s : Step). Flows opens d (NatOut n) m.header s.next) (λ _. (refl, (tt, tt)))
+    (λ _. (
+      past_none (λ s c e. cc) (λ j e. cc),
+      record {
+        proto = λ _. refl;
+        q = λ _. refl;
+        p = λ _ fits. (new_translation-fits m.nats n (own_address row.life) m.header fits).1;
+        same = λ e. absurd (true≢false e);
+      },
+    ))
+translate-flow d n m (Some t) opens found = (
+  past_none (λ s c e. cc) (λ j e. cc),
+  record {
+    proto = λ o. (found o).1.proto ∙ (same o).proto;
+    q = λ o. (found o).1.q ∙ (same o).q;
+    p = λ o fits. let from = (same o).p in (found o).1.most (rw from fits);
+    same = λ e. absurd (true≢false e);
+  },
+)
+  where
+    same : opens → IsSame t.before m.header
+    same o = same_header-fields t.before m.header (and_parts (t.nat.0 == n.0) (same_header t.before m.header) (found o).0).1
 
-step_nat_out-flow : (d : Description) (n : NatNo) (m : Moment) → AllByRecursion IsTranslation m.nats → Flows true m.header (step_nat_out d Opening n m).next
-step_nat_out-flow d n m all =
-    cond_both (is_translatable m.header.proto) (translate d n m (translation_of m.nats n m.header)) _ (λ (s : Step). Flows true m.header s.next)
-    (λ _. translate-flow d n m (translation_of m.nats n m.header) (find-found IsTranslation (is_of n m.header) m.nats all)) (λ _. refl)
+step_nat_out-flow : (d : Description) (label : Label) (n : NatNo) (m : Moment) → Flows (IsOpenAmong label m.nats) d (NatOut n) m.header (step_nat_out d label n m).next
+step_nat_out-flow d Answer n m = (refl, (tt, tt))
+step_nat_out-flow d Opening n m =
+    cond_both (is_translatable m.header.proto) (translate d n m (translation_of m.nats n m.header)) _ (λ (s : Step). Flows (IsOpenAmong Opening m.nats) d (NatOut n) m.header s.next)
+    (λ _. translate-flow d n m (translation_of m.nats n m.header) (IsOpenAmong Opening m.nats) (λ o. find-found IsTranslation (is_of n m.header) m.nats o.1)) (λ _. (refl, (tt, tt)))
 
-over_peering-flow : (d : Description) (x : PeerNo) (v w : VpcNo) (h : Header) → Flows false h (over_peering d x v w h)
-over_peering-flow d x v w h =
-    cond_both (not (has_block d v h.src)) _ _ (λ (y : Next). Flows false h y) (λ _. refl)
-    (λ _. cond_both (not (has_block d w h.dst)) _ _ (λ (y : Next). Flows false h y) (λ _. refl) (λ _. record { proto = refl; q = refl; p = λ fits. fits; same = λ _. refl }))
+Answer≢Opening : Answer ≡ Opening → ⊥
+Answer≢Opening e = cc
 
-by_pair-flow : (d : Description) (x : PeerNo) (v : VpcNo) (h : Header) (pair : Option (List ℕ × List ℕ)) → Flows false h (by_pair d x v h pair)
-by_pair-flow d x v h None = refl
-by_pair-flow d x v h (Some pair) = let row = vpc_at d v in over_peering-flow d x v (vpc_no d (other_side row.id pair)) h
+from_inward-flow : (d : Description) (n : NatNo) (h : Header) (nats : List Translation) (o : Option Header) → Flows (IsOpenAmong Answer nats) d (NatIn n) h (from_inward d n o)
+from_inward-flow d n h nats None = (refl, (tt, tt))
+from_inward-flow d n h nats (Some k) = (
+  past_none (λ s c e. cc) (λ j e. cc),
+  record {
+    proto = λ o. absurd (Answer≢Opening o.0);
+    q = λ o. absurd (Answer≢Opening o.0);
+    p = λ o. absurd (Answer≢Opening o.0);
+    same = λ e. absurd (true≢false e);
+  },
+)
 
-to_attachment-flow : (s : SubnetNo) (h : Header) (t : TgwTableNo) (k : ℕ) (a : Option AttNo) → Flows false h (to_attachment s h t k a)
-to_attachment-flow s h t k None = refl
-to_attachment-flow s h t k (Some a) = record { proto = refl; q = refl; p = λ fits. fits; same = λ _. refl }
+step_nat_in-flow : (d : Description) (label : Label) (n : NatNo) (m : Moment) → Flows (IsOpenAmong label m.nats) d (NatIn n) m.header (step_nat_in d label n m).next
+step_nat_in-flow d Opening n m = (refl, (tt, tt))
+step_nat_in-flow d Answer n m = from_inward-flow d n m.header m.nats (inward m.nats n m.header)
 
-by_attachment-flow : (d : Description) (s : SubnetNo) (h : Header) (t : TgwTableNo) (k : ℕ) (id : Option (List ℕ)) → Flows false h (by_attachment d s h t k id)
-by_attachment-flow d s h t k None = refl
-by_attachment-flow d s h t k (Some id) = to_attachment-flow s h t k (attachment_of_id d id)
+pub or_else-first : {X : Type 0} (first later : Option X) → or_else first later ≡ None → first ≡ None
+or_else-first None later e = refl
+or_else-first (Some x) later e = e
 
-by_tgw_route-flow : (d : Description) (s : SubnetNo) (h : Header) (t : TgwTableNo) (k : Option ℕ) → Flows false h (by_tgw_route d s h t k)
-by_tgw_route-flow d s h t None = refl
-by_tgw_route-flow d s h t (Some k) =
-    let table = tgw_table_at d t in
-    let r = slice_index_or table.routes k no_tgw_route in
-    cond_both r.blackhole _ (by_attachment d s h t k r.attachment) (λ (x : Next). Flows false h x) (λ _. refl) (λ _. by_attachment-flow d s h t k r.attachment)
+pub or_else-later : {X : Type 0} (first later : Option X) → or_else first later ≡ None → later ≡ None
+or_else-later None later e = e
+or_else-later (Some x) later e = absurd (cc)
 
-by_tgw_table-flow : (d : Description) (a : AttNo) (s : SubnetNo) (h : Header) (t : Option TgwTableNo) → Flows false h (by_tgw_table d a s h t)
-by_tgw_table-flow d a s h None = refl
-by_tgw_table-flow d a s h (Some t) = let table = tgw_table_at d t in by_tgw_route-flow d s h t (chosen_tgw_route table.routes h.dst)
+module _ (opens : Type 0) (d : Description) where
+  -- ---- ACLs
 
-leave_by-flow : (a : AttNo) (h : Header) (s : Option SubnetNo) → Flows false h (leave_by a h s)
-leave_by-flow a h None = refl
-leave_by-flow a h (Some s) = record { proto = refl; q = refl; p = λ fits. fits; same = λ _. refl }
+  -- a stop of a step, if there is one
+  abbrev StopsAt : Place → Header → Option Stop → Type 0
+  StopsAt p h None = Unit {0}
+  StopsAt p h (Some s) = IsStopAt d p h s
+
+  leaving-stops : (p : Place) (s : SubnetNo) (h : Header) → StopsAt p h (leaving d s h)
+  leaving-stops p s h =
+      let a = acl_at d (acl_of d s) in
+      let verdict = acl_verdict a.rows Outward h in
+      cond_both verdict.0 None (Some (AclOut (acl_of d s) verdict.1)) (StopsAt p h) (λ _. tt) (λ refused. (refl, (tt, refused)))
+
+  entering-stops : (p : Place) (s : SubnetNo) (h : Header) → StopsAt p h (entering d s h)
+  entering-stops p s h =
+      let a = acl_at d (acl_of d s) in
+      let verdict = acl_verdict a.rows Inward h in
+      cond_both verdict.0 None (Some (AclIn (acl_of d s) verdict.1)) (StopsAt p h) (λ _. tt) (λ refused. (refl, (tt, refused)))
+
+  or_else-stops : (p : Place) (h : Header) (first later : Option Stop) → StopsAt p h first → StopsAt p h later → StopsAt p h (or_else first later)
+  or_else-stops p h None later one two = two
+  or_else-stops p h (Some s) later one two = one
+
+  crossing-stops : (p : Place) (s t : SubnetNo) (h : Header) → StopsAt p h (crossing d s t h)
+  crossing-stops p s t h =
+      cond_both (s.0 == t.0) None (or_else (leaving d s h) (entering d t h)) (StopsAt p h) (λ _. tt)
+      (λ _. or_else-stops p h (leaving d s h) (entering d t h) (leaving-stops p s h) (entering-stops p t h))
+
+  unless_stopped-flow : (p : Place) (h : Header) (s : Option Stop) (x : Next) → StopsAt p h s → (s ≡ None → Flows opens d p h x) → Flows opens d p h (unless_stopped s x)
+  unless_stopped-flow p h None x stops leads = leads refl
+  unless_stopped-flow p h (Some s) x stops leads = stops
+
+  -- to the interface that has the destination, where the way into its subnet is free
+  deliver_by-flow : (p : Place) (h : Header) (v : VpcNo) (i : EniNo) (n : Option NatNo) → host_of d v h.dst ≡ Some i → nat_of d i ≡ n
+      → ((q : Place) → LiesIn d h q (subnet_of d i) → GoesOn d h p q) → Flows opens d p h (deliver_by d i h n)
+  deliver_by-flow p h v i (Some n) found has free = (free (NatIn n) (nat_answered v i n refl found has refl), itself)
+  deliver_by-flow p h v i None found has free =
+      let e = interface_at d i in cond_both (is_gateway e.kind) (stop (NotAHost i)) (go (Into i) h) (Flows opens d p h) (λ _. (refl, (tt, tt))) (λ _. (free (Into i) (host i refl refl), itself))
+
+  -- ---- routers
+
+  module _ (s : SubnetNo) (came : Came) (h : Header) where
+    abbrev here : Place
+    here = Router s came
+
+    abbrev Onward : Next → Type 0
+    Onward x = Flows opens d here h x
+
+    -- past the ACL of the router's subnet
+    leaves : (q : Place) → ((i : EniNo) → q ≡ Into i → ⊥) → Onward (unless_stopped (leaving d s h) (go q h))
+    leaves q elsewhere = unless_stopped-flow here h (leaving d s h) (go q h) (leaving-stops here s h) (λ passed. (out_of s came refl elsewhere passed, itself))
+
+    to_host-flow : (v : VpcNo) (i : Option EniNo) → host_of d v h.dst ≡ i → Onward (to_host d s h i)
+    to_host-flow v None found = (refl, (tt, tt))
+    to_host-flow v (Some i) found =
+        unless_stopped-flow here h (crossing d s (subnet_of d i) h) (deliver d i h) (crossing-stops here s (subnet_of d i) h)
+        (λ passed. deliver_by-flow here h v i (nat_of d i) found refl (λ q lies. across s (subnet_of d i) came refl lies passed))
+
+    to_internet-flow : (g : IgwNo) → Onward (to_internet d s h g)
+    to_internet-flow g = let v = vpc_of_subnet d s in cond_both (is_attached g (gateway_of d v)) _ _ Onward (λ _. leaves (IgwOut v) (λ i e. cc)) (λ _. (refl, (tt, tt)))
+
+    to_nat-flow : (n : NatNo) (life : NatLife) → (let row = nat_at d n in row.life ≡ life) → Onward (to_nat d s h n life)
+    to_nat-flow n Gone is = (refl, (tt, tt))
+    to_nat-flow n WithoutSubnet is = (refl, (tt, tt))
+    to_nat-flow n (Live subnet eni address) is =
+        unless_stopped-flow here h (crossing d s (subnet_no d subnet) h) (go (NatOut n) h) (crossing-stops here s (subnet_no d subnet) h)
+        (λ passed. (across s (subnet_no d subnet) came refl (nat_asked n refl (ap (λ (l : NatLife). subnet_no d (own_subnet l)) (sym is))) passed, itself))
+
+    to_peer-flow : (x : PeerNo) (pair : Option (List ℕ × List ℕ)) → Onward (to_peer d s h x pair)
+    to_peer-flow x None = (refl, (tt, tt))
+    to_peer-flow x (Some pair) =
+        let v = vpc_of_subnet d s in
+        let row = vpc_at d v in
+        cond_both (has_vpc d (other_side row.id pair)) _ _ Onward (λ _. leaves (Peer x v) (λ i e. cc)) (λ _. (refl, (tt, tt)))
+
+    to_zone-flow : (a : AttNo) (t : Option SubnetNo) → Onward (to_zone d s h a t)
+    to_zone-flow a None = (refl, (tt, tt))
+    to_zone-flow a (Some t) =
+        unless_stopped-flow here h (or_else (leaving d s h) (entering d t h)) (go (Tgw a t) h)
+        (or_else-stops here h (leaving d s h) (entering d t h) (leaving-stops here s h) (entering-stops here t h))
+        (λ passed. (out_of s came refl (λ i e. cc) (or_else-first (leaving d s h) (entering d t h) passed), itself))
+
+    to_transit-flow : (t : TableNo) (k : ℕ) (a : Option AttNo) → Onward (to_transit d s h t k a)
+    to_transit-flow t k None = (refl, (tt, tt))
+    to_transit-flow t k (Some a) = to_zone-flow a (zone_subnet d a s)
+
+    to_interface-flow : (j : EniNo) → Onward (to_interface d s h j)
+    to_interface-flow j =
+        let e = interface_at d j in
+        unless_stopped-flow here h (crossing d s (subnet_of d j) h) _ (crossing-stops here s (subnet_of d j) h)
+        (λ passed. cond_both (is_gateway e.kind) (stop (NotAHost j)) (go (Into j) h) Onward (λ _. (refl, (tt, tt))) (λ _. (across s (subnet_of d j) came refl (host j refl refl) passed, itself)))
+
+    to_target-flow : (t : TableNo) (k : ℕ) (target : Target) → Onward (to_target d s h t k target)
+    to_target-flow t k Local = to_host-flow (vpc_of_subnet d s) (host_of d (vpc_of_subnet d s) h.dst) refl
+    to_target-flow t k (ToInternet id) = to_internet-flow (igw_no d id)
+    to_target-flow t k (ToNat id) = let row = nat_at d (nat_no d id) in to_nat-flow (nat_no d id) row.life refl
+    to_target-flow t k (ToPeer id) = let row = peering_at d (peer_no d id) in to_peer-flow (peer_no d id) row.pair
+    to_target-flow t k (ToTransit id) = to_transit-flow t k (attachment_for d id s)
+    to_target-flow t k (ToInterface id) = to_interface-flow (eni_no d id)
+    to_target-flow t k (Other id) = (refl, (tt, tt))
+
+    by_route-flow : (t : TableNo) (k : Option ℕ) → Onward (by_route d s h t k)
+    by_route-flow t None = (refl, (tt, tt))
+    by_route-flow t (Some k) =
+        let table = table_at d t in
+        let r = slice_index_or table.routes k no_route in
+        cond_both r.blackhole _ (to_target d s h t k r.target) Onward (λ _. (refl, (tt, tt))) (λ _. to_target-flow t k r.target)
+
+  step_router-flow : (s : SubnetNo) (came : Came) (m : Moment) → Flows opens d (Router s came) m.header (step_router d s m).next
+  step_router-flow s came m =
+      let t = table_of d s in
+      let table = table_at d t in
+      by_route-flow s came m.header t (chosen_route d table.routes m.header.dst)
+
+  -- ---- gateways
+
+  enter_host-flow : (v : VpcNo) (by : EnterBy) (h : Header) (i : Option EniNo) → host_of d v h.dst ≡ i → Flows opens d (Enter v by) h (enter_host d v h i)
+  enter_host-flow v by h None found = (refl, (tt, tt))
+  enter_host-flow v by h (Some i) found =
+      unless_stopped-flow (Enter v by) h (entering d (subnet_of d i) h) (deliver d i h) (entering-stops (Enter v by) (subnet_of d i) h)
+      (λ passed. deliver_by-flow (Enter v by) h v i (nat_of d i) found refl (λ q lies. into v by (subnet_of d i) refl lies passed))
+
+  go_public-flow : (v : VpcNo) (h : Header) (a : Option ℕ) → Flows opens d (IgwOut v) h (go_public d v h a)
+  go_public-flow v h None = (refl, (tt, tt))
+  go_public-flow v h (Some a) = (past_none (λ s c e. cc) (λ j e. cc), record { proto = λ _. refl; q = λ _. refl; p = λ _ fits. fits; same = λ e. absurd (true≢false e) })
+
+  to_owner-flow : (h : Header) (v : Option VpcNo) → Flows opens d Internet h (to_owner d h v)
+  to_owner-flow h None = tt
+  to_owner-flow h (Some v) =
+      cond_both (is_none (gateway_of d v)) _ _ (Flows opens d Internet h) (λ _. (refl, (tt, tt))) (λ _. (past_none (λ s c e. cc) (λ j e. cc), itself))
+
+  step_internet-flow : (m : Moment) → Flows opens d Internet m.header (step_internet d m).next
+  step_internet-flow m =
+      cond_both (is_unroutable m.header.src || is_unroutable m.header.dst) _ _ (λ (s : Step). Flows opens d Internet m.header s.next)
+      (λ _. (refl, (tt, tt))) (λ _. to_owner-flow m.header (owner_of d m.header.dst))
+
+  over_peering-flow : (x : PeerNo) (v w : VpcNo) (h : Header) → Flows opens d (Peer x v) h (over_peering d x v w h)
+  over_peering-flow x v w h =
+      cond_both (not (has_block d v h.src)) _ _ (Flows opens d (Peer x v) h) (λ _. (refl, (tt, tt)))
+      (λ _. cond_both (not (has_block d w h.dst)) _ _ (Flows opens d (Peer x v) h) (λ _. (refl, (tt, tt))) (λ _. (past_none (λ s c e. cc) (λ j e. cc), itself)))
+
+  by_pair-flow : (x : PeerNo) (v : VpcNo) (h : Header) (pair : Option (List ℕ × List ℕ)) → Flows opens d (Peer x v) h (by_pair d x v h pair)
+  by_pair-flow x v h None = (refl, (tt, tt))
+  by_pair-flow x v h (Some pair) = let row = vpc_at d v in over_peering-flow x v (vpc_no d (other_side row.id pair)) h
+
+  module _ (from : AttNo) (s : SubnetNo) (h : Header) where
+    to_attachment-flow : (t : TgwTableNo) (k : ℕ) (a : Option AttNo) → Flows opens d (Tgw from s) h (to_attachment s h t k a)
+    to_attachment-flow t k None = (refl, (tt, tt))
+    to_attachment-flow t k (Some a) = (past_none (λ r c e. cc) (λ j e. cc), itself)
+
+    by_attachment-flow : (t : TgwTableNo) (k : ℕ) (id : Option (List ℕ)) → Flows opens d (Tgw from s) h (by_attachment d s h t k id)
+    by_attachment-flow t k None = (refl, (tt, tt))
+    by_attachment-flow t k (Some id) = to_attachment-flow t k (attachment_of_id d id)
+
+    by_tgw_route-flow : (t : TgwTableNo) (k : Option ℕ) → Flows opens d (Tgw from s) h (by_tgw_route d s h t k)
+    by_tgw_route-flow t None = (refl, (tt, tt))
+    by_tgw_route-flow t (Some k) =
+        let table = tgw_table_at d t in
+        let r = slice_index_or table.routes k no_tgw_route in
+        cond_both r.blackhole _ (by_attachment d s h t k r.attachment) (Flows opens d (Tgw from s) h) (λ _. (refl, (tt, tt))) (λ _. by_attachment-flow t k r.attachment)
+
+    by_tgw_table-flow : (t : Option TgwTableNo) → Flows opens d (Tgw from s) h (by_tgw_table d from s h t)
+    by_tgw_table-flow None = (refl, (tt, tt))
+    by_tgw_table-flow (Some t) = let table = tgw_table_at d t in by_tgw_route-flow t (chosen_tgw_route table.routes h.dst)
+
+  leave_by-flow : (a : AttNo) (entered : SubnetNo) (h : Header) (s : Option SubnetNo) → Flows opens d (TgwLeave a entered) h (leave_by a h s)
+  leave_by-flow a entered h None = (refl, (tt, tt))
+  leave_by-flow a entered h (Some s) = (past_none (λ r c e. cc) (λ j e. cc), itself)
 
 -- ---- all places
 
-pub step_at-flow : (d : Description) (appliances : Appliances) (p : Place) (m : Moment) → AllByRecursion IsTranslation m.nats → Flows (is_rewriting p) m.header (step_at d appliances Opening p m).next
-step_at-flow d appliances (OutOf i) m all = step_out-flow d Opening i m
-step_at-flow d appliances (Router s came) m all = step_router-flow d s m
-step_at-flow d appliances (Enter v by) m all = enter_host-flow d v m.header (host_of d v m.header.dst)
-step_at-flow d appliances (Into i) m all = step_into-flow d appliances Opening i m
-step_at-flow d appliances (IgwOut v) m all = go_public-flow d v m.header (public_of d v m.header.src)
-step_at-flow d appliances Internet m all = step_internet-flow d m
-step_at-flow d appliances (IgwIn v) m all = record { proto = refl; q = refl; p = λ fits. fits; same = λ e. absurd (true≢false e) }
-step_at-flow d appliances (NatOut n) m all = step_nat_out-flow d n m all
-step_at-flow d appliances (NatIn n) m all = refl
-step_at-flow d appliances (Peer x v) m all = let row = peering_at d x in by_pair-flow d x v m.header row.pair
-step_at-flow d appliances (Tgw a s) m all = by_tgw_table-flow d a s m.header (table_of_attachment d a)
-step_at-flow d appliances (TgwLeave a s) m all = leave_by-flow a m.header (leave_subnet d a s)
+pub step_at-flow : (d : Description) (appliances : Appliances) (label : Label) (p : Place) (m : Moment) → Flows (IsOpenAmong label m.nats) d p m.header (step_at d appliances label p m).next
+step_at-flow d appliances label (OutOf i) m = step_out-flow _ d label i m
+step_at-flow d appliances label (Router s came) m = step_router-flow _ d s came m
+step_at-flow d appliances label (Enter v by) m = enter_host-flow _ d v by m.header (host_of d v m.header.dst) refl
+step_at-flow d appliances label (Into i) m = step_into-flow _ d appliances label i m
+step_at-flow d appliances label (IgwOut v) m = go_public-flow _ d v m.header (public_of d v m.header.src)
+step_at-flow d appliances label Internet m = step_internet-flow _ d m
+step_at-flow d appliances label (IgwIn v) m = (past_none (λ s c e. cc) (λ j e. cc), record { proto = λ _. refl; q = λ _. refl; p = λ _ fits. fits; same = λ e. absurd (true≢false e) })
+step_at-flow d appliances label (NatOut n) m = step_nat_out-flow d label n m
+step_at-flow d appliances label (NatIn n) m = step_nat_in-flow d label n m
+step_at-flow d appliances label (Peer x v) m = let row = peering_at d x in by_pair-flow _ d x v m.header row.pair
+step_at-flow d appliances label (Tgw a s) m = by_tgw_table-flow _ d a s m.header (table_of_attachment d a)
+step_at-flow d appliances label (TgwLeave a s) m = leave_by-flow _ d a s m.header (leave_subnet d a s)
 
-pub Flows-keeps : (rewritten : Bool) (h : Header) (x : Next) → Flows rewritten h x → KeepsFlow h x
-Flows-keeps rewritten h (go p k) flow = (flow.proto, flow.q)
-Flows-keeps rewritten h (arrive end) flow = tt
-Flows-keeps rewritten h (stop s) flow = tt
+-- ---- the laws
+
+Flows-keeps : (opens : Type 0) (d : Description) (p : Place) (h : Header) (x : Next) → opens → Flows opens d p h x → KeepsFlow h x
+Flows-keeps opens d p h (go q k) o (on, flow) = (flow.proto o, flow.q o)
+Flows-keeps opens d p h (arrive end) o flow = tt
+Flows-keeps opens d p h (stop s) o flow = tt
 
 pub open_keeps_flow : (d : Description) (appliances : Appliances) (m : Moment) → AllByRecursion IsTranslation m.nats → KeepsFlow m.header (step_of d appliances Opening m).next
-open_keeps_flow d appliances m all = Flows-keeps (is_rewriting m.place) m.header (step_of d appliances Opening m).next (step_at-flow d appliances m.place m all)
+open_keeps_flow d appliances m all = Flows-keeps _ d m.place m.header _ (refl, all) (step_at-flow d appliances Opening m.place m)
 
-Flows-same : (h : Header) (x : Next) → Flows false h x → SendsSame h x
-Flows-same h (go p k) flow = flow.same refl
-Flows-same h (arrive end) flow = tt
-Flows-same h (stop s) flow = tt
-
-step_at-same : (d : Description) (appliances : Appliances) (label : Label) (p : Place) (m : Moment) → is_rewriting p ≡ false → SendsSame m.header (step_at d appliances label p m).next
-step_at-same d appliances label (OutOf i) m e = Flows-same m.header (step_out d label i m).next (step_out-flow d label i m)
-step_at-same d appliances label (Router s came) m e = Flows-same m.header (step_router d s m).next (step_router-flow d s m)
-step_at-same d appliances label (Enter v by) m e = Flows-same m.header (enter_host d v m.header (host_of d v m.header.dst)) (enter_host-flow d v m.header (host_of d v m.header.dst))
-step_at-same d appliances label (Into i) m e = Flows-same m.header (step_into d appliances label i m).next (step_into-flow d appliances label i m)
-step_at-same d appliances label (IgwOut v) m e = absurd (true≢false e)
-step_at-same d appliances label Internet m e = Flows-same m.header (step_internet d m).next (step_internet-flow d m)
-step_at-same d appliances label (IgwIn v) m e = absurd (true≢false e)
-step_at-same d appliances label (NatOut n) m e = absurd (true≢false e)
-step_at-same d appliances label (NatIn n) m e = absurd (true≢false e)
-step_at-same d appliances label (Peer x v) m e = let row = peering_at d x in Flows-same m.header (by_pair d x v m.header row.pair) (by_pair-flow d x v m.header row.pair)
-step_at-same d appliances label (Tgw a s) m e = Flows-same m.header (by_tgw_table d a s m.header (table_of_attachment d a)) (by_tgw_table-flow d a s m.header (table_of_attachment d a))
-step_at-same d appliances label (TgwLeave a s) m e = Flows-same m.header (leave_by a m.header (leave_subnet d a s)) (leave_by-flow a m.header (leave_subnet d a s))
+Flows-same : (opens : Type 0) (d : Description) (p : Place) (h : Header) (x : Next) → is_rewriting p ≡ false → Flows opens d p h x → SendsSame h x
+Flows-same opens d p h (go q k) e (on, flow) = flow.same e
+Flows-same opens d p h (arrive end) e flow = tt
+Flows-same opens d p h (stop s) e flow = tt
 
 pub header_stays : (d : Description) (appliances : Appliances) (label : Label) (m : Moment) → is_rewriting m.place ≡ false → SendsSame m.header (step_of d appliances label m).next
-header_stays d appliances label m e = step_at-same d appliances label m.place m e
+header_stays d appliances label m e = Flows-same _ d m.place m.header _ e (step_at-flow d appliances label m.place m)
 
--- ---- stops
-
-Flows-stops : (rewritten : Bool) (h : Header) (x : Next) → Flows rewritten h x → StopsItself x
-Flows-stops rewritten h (go p k) flow = tt
-Flows-stops rewritten h (arrive end) flow = tt
-Flows-stops rewritten h (stop s) flow = flow
-
-translate-stops : (d : Description) (n : NatNo) (m : Moment) (t : Option Translation) → StopsItself (translate d n m t).next
-translate-stops d n m (Some t) = tt
-translate-stops d n m None = cond_both (is_full m.nats n m.header) _ _ (λ (s : Step). StopsItself s.next) (λ _. refl) (λ _. tt)
-
-step_nat_out-stops : (d : Description) (label : Label) (n : NatNo) (m : Moment) → StopsItself (step_nat_out d label n m).next
-step_nat_out-stops d Answer n m = refl
-step_nat_out-stops d Opening n m =
-    cond_both (is_translatable m.header.proto) (translate d n m (translation_of m.nats n m.header)) _ (λ (s : Step). StopsItself s.next)
-    (λ _. translate-stops d n m (translation_of m.nats n m.header)) (λ _. refl)
-
-from_inward-stops : (d : Description) (n : NatNo) (h : Option Header) → StopsItself (from_inward d n h)
-from_inward-stops d n None = refl
-from_inward-stops d n (Some h) = tt
-
-step_at-stops : (d : Description) (appliances : Appliances) (label : Label) (p : Place) (m : Moment) → StopsItself (step_at d appliances label p m).next
-step_at-stops d appliances label (OutOf i) m = Flows-stops false m.header (step_out d label i m).next (step_out-flow d label i m)
-step_at-stops d appliances label (Router s came) m = Flows-stops false m.header (step_router d s m).next (step_router-flow d s m)
-step_at-stops d appliances label (Enter v by) m = Flows-stops false m.header (enter_host d v m.header (host_of d v m.header.dst)) (enter_host-flow d v m.header (host_of d v m.header.dst))
-step_at-stops d appliances label (Into i) m = Flows-stops false m.header (step_into d appliances label i m).next (step_into-flow d appliances label i m)
-step_at-stops d appliances label (IgwOut v) m = Flows-stops true m.header (go_public d v m.header (public_of d v m.header.src)) (go_public-flow d v m.header (public_of d v m.header.src))
-step_at-stops d appliances label Internet m = Flows-stops false m.header (step_internet d m).next (step_internet-flow d m)
-step_at-stops d appliances label (IgwIn v) m = tt
-step_at-stops d appliances label (NatOut n) m = step_nat_out-stops d label n m
-step_at-stops d appliances Opening (NatIn n) m = refl
-step_at-stops d appliances Answer (NatIn n) m = from_inward-stops d n (inward m.nats n m.header)
-step_at-stops d appliances label (Peer x v) m = let row = peering_at d x in Flows-stops false m.header (by_pair d x v m.header row.pair) (by_pair-flow d x v m.header row.pair)
-step_at-stops d appliances label (Tgw a s) m = Flows-stops false m.header (by_tgw_table d a s m.header (table_of_attachment d a)) (by_tgw_table-flow d a s m.header (table_of_attachment d a))
-step_at-stops d appliances label (TgwLeave a s) m = Flows-stops false m.header (leave_by a m.header (leave_subnet d a s)) (leave_by-flow a m.header (leave_subnet d a s))
+Flows-stops : (opens : Type 0) (d : Description) (p : Place) (h : Header) (x : Next) → Flows opens d p h x → StopsItself x
+Flows-stops opens d p h (go q k) flow = tt
+Flows-stops opens d p h (arrive end) flow = tt
+Flows-stops opens d p h (stop s) flow = flow.0
 
 pub steps_stop_themselves : (d : Description) (appliances : Appliances) (label : Label) (m : Moment) → StopsItself (step_of d appliances label m).next
-steps_stop_themselves d appliances label m = step_at-stops d appliances label m.place m
+steps_stop_themselves d appliances label m = Flows-stops _ d m.place m.header _ (step_at-flow d appliances label m.place m)
+
+Flows-leads : (opens : Type 0) (d : Description) (p : Place) (h : Header) (x : Next) → Flows opens d p h x → LeadsOn d p h x
+Flows-leads opens d p h (go q k) (on, flow) = on
+Flows-leads opens d p h (arrive end) flow = tt
+Flows-leads opens d p h (stop s) flow = flow.1
+
+pub steps_lead_on : (d : Description) (appliances : Appliances) (label : Label) (m : Moment) → LeadsOn d m.place m.header (step_of d appliances label m).next
+steps_lead_on d appliances label m = Flows-leads _ d m.place m.header _ (step_at-flow d appliances label m.place m)

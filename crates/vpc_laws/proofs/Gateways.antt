@@ -4,13 +4,14 @@ use Rattle.std.specs.List.{AllByRecursion}
 use Rattle.vpc_base.proofs.Lemmas.{AllByRecursion-at, Contains-push, and_parts, cases_Bool, cond_both, eq-eqb, eqb-true, filter-member, filter_map-member, find-member, flat_map-member, none-some, same_Some}
 use Rattle.vpc_base.specs.Header.{echo_reply, exchanged, reply_of}
 use Rattle.vpc_base.specs.declared.headers.Label.TheVariants.{Answer, Opening}
-use Rattle.vpc_model.specs.declared.places.Place.TheVariants.{OutOf, Router, Enter, Into, IgwOut, Internet, IgwIn, NatOut, NatIn, Peer, Tgw, TgwLeave}
+use Rattle.vpc_model.specs.declared.places.Place.TheVariants.{IgwIn, IgwOut, NatIn, NatOut}
 use Rattle.vpc_laws.specs.Types.{Description, Header, Hop, Label, NatNo, Place, VpcNo}
 use Rattle.vpc_model.specs.Terms.{Appliances, Connection, Moment, Next, Step, Translation, arrive, from_inward, go, go_public, inward, is_full, is_header, is_in_vpc, is_translatable, nat_at, new_translation, own_address, pair_of, pairs_in, pairs_of, private_of, same_header, step_at, step_nat_in, step_nat_out, step_of, stop, translate, translation_of, walk_of}
 use Rattle.vpc_laws.specs.Terms.{ChangesDestination, ChangesSource, ChangesSourceAndPort, HasPair, IfGoes, IsBook, IsGivenBack, IsToOwn, IsTranslation, KeepsFlow}
 use Rattle.vpc_laws.proofs.Books.{AllByRecursion-push}
+use Rattle.vpc_laws.proofs.ByMemory.{by_memory}
 use Rattle.vpc_laws.proofs.Flow.{is_of, open_keeps_flow}
-use Rattle.vpc_laws.proofs.Growth.{step_internet-nats, step_into-nats, step_nat_in-nats, step_out-nats}
+use Rattle.vpc_laws.proofs.Growth.{step_into-nats, step_out-nats}
 use Rattle.vpc_laws.proofs.Replies.{is_header-some}
 use Rattle.vpc_laws.proofs.Same.{NatNo-same, same_header-true, three}
 use Rattle.vpc_laws.proofs.Walking.{IsKept, NextFits, hop_at, open-in_order, walk_of-keeps}
@@ -127,18 +128,11 @@ step_nat_out-own d Opening n m all =
 
 -- the translations at a place are those before, or it is a NAT gateway's
 nats-own : (d : Description) (appliances : Appliances) (label : Label) (p : Place) (m : Moment) → AllByRecursion (IsToOwn d) m.nats → AllByRecursion (IsToOwn d) (step_at d appliances label p m).nats
-nats-own d appliances label (OutOf i) m all = subst (AllByRecursion (IsToOwn d)) (sym (step_out-nats d label i m)) all
-nats-own d appliances label (Into i) m all = subst (AllByRecursion (IsToOwn d)) (sym (step_into-nats d appliances label i m)) all
-nats-own d appliances label (Router s came) m all = all
-nats-own d appliances label (Enter v by) m all = all
-nats-own d appliances label (IgwOut v) m all = all
-nats-own d appliances label Internet m all = subst (AllByRecursion (IsToOwn d)) (sym (step_internet-nats d m)) all
-nats-own d appliances label (IgwIn v) m all = all
-nats-own d appliances label (NatOut n) m all = (step_nat_out-own d label n m all).0
-nats-own d appliances label (NatIn n) m all = subst (AllByRecursion (IsToOwn d)) (sym (step_nat_in-nats d label n m)) all
-nats-own d appliances label (Peer x v) m all = all
-nats-own d appliances label (Tgw a s) m all = all
-nats-own d appliances label (TgwLeave a s) m all = all
+nats-own d appliances label p m all =
+    by_memory (λ q. AllByRecursion (IsToOwn d) (step_at d appliances label q m).nats)
+    (λ i. subst (AllByRecursion (IsToOwn d)) (sym (step_out-nats d label i m)) all) (λ i. subst (AllByRecursion (IsToOwn d)) (sym (step_into-nats d appliances label i m)) all)
+    (λ n. (step_nat_out-own d label n m all).0)
+    (λ q rest. subst (AllByRecursion (IsToOwn d)) (sym (ap (λ (s : Step). s.nats) (rest.step d appliances label m))) all) p
 
 pub nat_gives_own_address : (d : Description) (appliances : Appliances) (label : Label) (m : Moment) → AllByRecursion (IsToOwn d) m.nats
     → let s = step_of d appliances label m in

@@ -1,24 +1,23 @@
 -- What a step adds to connections and translations.
-use Rattle.std.proofs.Common.{◌≡◌, ℕ, ◌&&◌, ◌||◌, not, List, [], ◌∷◌, ◌++◌, Option, Some, None, refl, inl, inr, ◌∙◌, sym}
+use Rattle.std.proofs.Common.{◌≡◌, ℕ, ◌&&◌, not, List, [], ◌∷◌, ◌++◌, Option, Some, None, ap, refl, inl, inr, ◌∙◌, sym}
 use Rattle.std.specs.List.{list_any}
 use Rattle.std.proofs.lemmas.Bool.{cond_both}
 use Rattle.std.proofs.lemmas.List.{append-nil}
 use Rattle.vpc_base.specs.declared.headers.Dir.TheVariants.{Inward, Outward}
 use Rattle.vpc_base.specs.declared.headers.Label.TheVariants.{Opening, Answer}
-use Rattle.vpc_model.specs.declared.places.Place.TheVariants.{OutOf, Router, Enter, Into, IgwOut, Internet, IgwIn, NatOut, NatIn, Peer, Tgw, TgwLeave}
+use Rattle.vpc_model.specs.declared.places.Place.TheVariants.{OutOf, Into, NatOut}
 use Rattle.vpc_laws.specs.Types.{By, Description, Dir, EniNo, Header, Label, NatNo, Place, RuleRef}
 use Rattle.vpc_laws.specs.Step.{AddsOwn, AddsTranslation, Begins, own_connection}
 use Rattle.vpc_model.specs.Appliances.{Appliances}
 use Rattle.vpc_model.specs.Connections.{Connection, Passing, added, answer_passing, is_tracked, label_passing, open_passing, passing_groups, passing_of, same_connection}
 use Rattle.vpc_model.specs.Groups.{first_rule}
-use Rattle.vpc_model.specs.Internet.{is_unroutable}
 use Rattle.vpc_model.specs.Lookup.{has_address, interface_at}
 use Rattle.vpc_model.specs.Nat.{Translation, is_full, is_translatable, translation_of}
 use Rattle.vpc_model.specs.Step.{step_at, step_of}
 use Rattle.vpc_model.specs.Step.Interface.{in_passing, out_passing, step_into, step_out}
-use Rattle.vpc_model.specs.Step.Internet.{step_internet}
-use Rattle.vpc_model.specs.Step.Nat.{step_nat_in, step_nat_out, translate}
+use Rattle.vpc_model.specs.Step.Nat.{step_nat_out, translate}
 use Rattle.vpc_model.specs.Step.Words.{Moment, Step}
+use Rattle.vpc_laws.proofs.ByMemory.{by_memory}
 
 -- ---- connections
 
@@ -69,9 +68,6 @@ step_into-adds d appliances label i m =
     (λ _. cond_both (e.checked && not (has_address e m.header.dst)) _ _ (λ (s : Step). AddsOwn label (Into i) m.header m.conns s.conns) (λ _. inl refl)
     (λ _. in_passing-adds d appliances label i (Into i) m passing.by passing.conns (passing_groups-adds d label i Inward (Into i) m.header m.conns e.groups refl)))
 
-pub step_internet-conns : (d : Description) (m : Moment) → (step_internet d m).conns ≡ m.conns
-step_internet-conns d m = cond_both (is_unroutable m.header.src || is_unroutable m.header.dst) _ _ (λ (s : Step). s.conns ≡ m.conns) (λ _. refl) (λ _. refl)
-
 translate-conns : (d : Description) (n : NatNo) (m : Moment) (t : Option Translation) → (translate d n m t).conns ≡ m.conns
 translate-conns d n m (Some t) = refl
 translate-conns d n m None = cond_both (is_full m.nats n m.header) _ _ (λ (s : Step). s.conns ≡ m.conns) (λ _. refl) (λ _. refl)
@@ -82,23 +78,11 @@ step_nat_out-conns d Opening n m =
     cond_both (is_translatable m.header.proto) (translate d n m (translation_of m.nats n m.header)) _ (λ (s : Step). s.conns ≡ m.conns)
     (λ _. translate-conns d n m (translation_of m.nats n m.header)) (λ _. refl)
 
-pub step_nat_in-conns : (d : Description) (label : Label) (n : NatNo) (m : Moment) → (step_nat_in d label n m).conns ≡ m.conns
-step_nat_in-conns d Opening n m = refl
-step_nat_in-conns d Answer n m = refl
-
 pub step_at-adds : (d : Description) (appliances : Appliances) (label : Label) (p : Place) (m : Moment) → AddsOwn label p m.header m.conns (step_at d appliances label p m).conns
-step_at-adds d appliances label (OutOf i) m = step_out-adds d label i m
-step_at-adds d appliances label (Into i) m = step_into-adds d appliances label i m
-step_at-adds d appliances label (Router s came) m = inl refl
-step_at-adds d appliances label (Enter v by) m = inl refl
-step_at-adds d appliances label (IgwOut v) m = inl refl
-step_at-adds d appliances label Internet m = inl (step_internet-conns d m)
-step_at-adds d appliances label (IgwIn v) m = inl refl
-step_at-adds d appliances label (NatOut n) m = inl (step_nat_out-conns d label n m)
-step_at-adds d appliances label (NatIn n) m = inl (step_nat_in-conns d label n m)
-step_at-adds d appliances label (Peer x v) m = inl refl
-step_at-adds d appliances label (Tgw a s) m = inl refl
-step_at-adds d appliances label (TgwLeave a s) m = inl refl
+step_at-adds d appliances label p m =
+    by_memory (λ q. AddsOwn label q m.header m.conns (step_at d appliances label q m).conns)
+    (λ i. step_out-adds d label i m) (λ i. step_into-adds d appliances label i m) (λ n. inl (step_nat_out-conns d label n m))
+    (λ q rest. inl (ap (λ (s : Step). s.conns) (rest.step d appliances label m))) p
 
 -- ---- translations
 
@@ -126,13 +110,6 @@ step_into-nats d appliances label i m =
     (λ _. cond_both (e.checked && not (has_address e m.header.dst)) _ _ (λ (s : Step). s.nats ≡ m.nats) (λ _. refl)
     (λ _. in_passing-nats d appliances i m passing.by passing.conns))
 
-pub step_internet-nats : (d : Description) (m : Moment) → (step_internet d m).nats ≡ m.nats
-step_internet-nats d m = cond_both (is_unroutable m.header.src || is_unroutable m.header.dst) _ _ (λ (s : Step). s.nats ≡ m.nats) (λ _. refl) (λ _. refl)
-
-pub step_nat_in-nats : (d : Description) (label : Label) (n : NatNo) (m : Moment) → (step_nat_in d label n m).nats ≡ m.nats
-step_nat_in-nats d Opening n m = refl
-step_nat_in-nats d Answer n m = refl
-
 translate-adds : (d : Description) (n : NatNo) (m : Moment) (t : Option Translation) → AddsTranslation Opening (NatOut n) m.header m.nats (translate d n m t).nats
 translate-adds d n m (Some t) = inl refl
 translate-adds d n m None =
@@ -146,18 +123,10 @@ step_nat_out-adds d Opening n m =
     (λ _. translate-adds d n m (translation_of m.nats n m.header)) (λ _. inl refl)
 
 pub step_at-translates : (d : Description) (appliances : Appliances) (label : Label) (p : Place) (m : Moment) → AddsTranslation label p m.header m.nats (step_at d appliances label p m).nats
-step_at-translates d appliances label (OutOf i) m = inl (step_out-nats d label i m)
-step_at-translates d appliances label (Into i) m = inl (step_into-nats d appliances label i m)
-step_at-translates d appliances label (Router s came) m = inl refl
-step_at-translates d appliances label (Enter v by) m = inl refl
-step_at-translates d appliances label (IgwOut v) m = inl refl
-step_at-translates d appliances label Internet m = inl (step_internet-nats d m)
-step_at-translates d appliances label (IgwIn v) m = inl refl
-step_at-translates d appliances label (NatOut n) m = step_nat_out-adds d label n m
-step_at-translates d appliances label (NatIn n) m = inl (step_nat_in-nats d label n m)
-step_at-translates d appliances label (Peer x v) m = inl refl
-step_at-translates d appliances label (Tgw a s) m = inl refl
-step_at-translates d appliances label (TgwLeave a s) m = inl refl
+step_at-translates d appliances label p m =
+    by_memory (λ q. AddsTranslation label q m.header m.nats (step_at d appliances label q m).nats)
+    (λ i. inl (step_out-nats d label i m)) (λ i. inl (step_into-nats d appliances label i m)) (λ n. step_nat_out-adds d label n m)
+    (λ q rest. inl (ap (λ (s : Step). s.nats) (rest.step d appliances label m))) p
 
 -- ---- what follows
 

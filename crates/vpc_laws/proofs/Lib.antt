@@ -1,3 +1,4 @@
+pub mod ByMemory
 pub mod Growth
 pub mod Flow
 pub mod Ports

@@ -1,16 +1,18 @@
 -- By what packets pass groups, and what is remembered of them.
-use Rattle.std.proofs.Common.{◌≡◌, ℕ, ◌&&◌, ◌||◌, ◌⊎◌, not, List, [], ◌∷◌, ◌++◌, Option, Some, None, ap, false, inl, inr, refl, subst, sym, true, ◌∙◌}
+use Rattle.std.proofs.Common.{◌≡◌, ℕ, ◌&&◌, ◌⊎◌, not, List, [], ◌∷◌, ◌++◌, Option, Some, None, ap, false, inl, inr, refl, subst, sym, true, ◌∙◌}
 use Rattle.vpc_base.proofs.Lemmas.{both_ways, cond_both, false≢true, none-some}
 use Rattle.vpc_base.specs.declared.headers.Dir.TheVariants.{Inward, Outward}
 use Rattle.vpc_base.specs.declared.headers.Label.TheVariants.{Answer, Opening}
 use Rattle.vpc_model.specs.declared.outcomes.By.TheVariants.{Nothing, Rule, Tracked}
 use Rattle.vpc_model.specs.declared.places.End.TheVariants.{Interface}
-use Rattle.vpc_model.specs.declared.places.Place.TheVariants.{OutOf, Router, Enter, Into, IgwOut, Internet, IgwIn, NatOut, NatIn, Peer, Tgw, TgwLeave}
+use Rattle.vpc_model.specs.declared.places.Place.TheVariants.{Into, NatOut, OutOf}
 use Rattle.vpc_laws.specs.Types.{Box5, By, Description, Dir, EniNo, Header, Label, NatNo, Place, RuleRef}
-use Rattle.vpc_model.specs.Terms.{Appliances, Connection, Moment, Next, Passing, Step, Translation, answer_passing, arrive, boxes_at, first_rule, first_rule_of, forwarded, has_address, in_passing, interface_at, is_full, is_tracked, is_translatable, is_unroutable, label_passing, nat_at, new_translation, open_passing, out_passing, own_address, passes, passing_groups, passing_of, step_at, step_internet, step_into, step_nat_in, step_nat_out, step_of, step_out, taken_in, translate, translation_of}
-use Rattle.vpc_laws.specs.Step.{AsksGroups, IsNewOpen, LetsPass, is_refused, own_connection, remembered}
+use Rattle.vpc_model.specs.Terms.{Appliances, Connection, Moment, Next, Passing, Step, Translation, answer_passing, arrive, boxes_at, first_rule, first_rule_of, forwarded, has_address, in_passing, interface_at, is_full, is_tracked, is_translatable, label_passing, nat_at, new_translation, open_passing, out_passing, own_address, passes, passing_groups, passing_of, step_at, step_into, step_nat_out, step_of, step_out, taken_in, translate, translation_of}
+use Rattle.vpc_laws.specs.Step.{AsksGroups, IsNewOpen, LetsPass, connection_of, is_refused, own_connection, remembered}
+use Rattle.vpc_laws.specs.Memory.{Memory}
+use Rattle.vpc_laws.proofs.ByMemory.{by_memory, plain-other}
 use Rattle.vpc_laws.proofs.Flow.{taken_by}
-use Rattle.vpc_laws.proofs.Growth.{step_internet-conns, step_internet-nats, step_into-nats, step_nat_in-conns, step_nat_in-nats, step_nat_out-conns, step_out-nats}
+use Rattle.vpc_laws.proofs.Growth.{step_into-nats, step_nat_out-conns, step_out-nats}
 
 -- ---- what a step says of groups
 
@@ -62,7 +64,7 @@ out_passing-passed : (d : Description) (label : Label) (i : EniNo) (m : Moment) 
 out_passing-passed d label i m c None conns decided = unasked d label c m _ refl refl
 out_passing-passed d label i m c (Some by) conns decided = record { asks = decided.0; leaves = decided.1; forgets = λ e. absurd (false≢true e) }
 
-taken_by-unrefused : (d : Description) (i : EniNo) (h : Header) (boxes : Option (List Box5)) → is_refused (taken_by d i h boxes) ≡ false
+pub taken_by-unrefused : (d : Description) (i : EniNo) (h : Header) (boxes : Option (List Box5)) → is_refused (taken_by d i h boxes) ≡ false
 taken_by-unrefused d i h None = refl
 taken_by-unrefused d i h (Some boxes) =
     cond_both (has_address (interface_at d i) h.dst) (arrive (Interface i)) (forwarded i h boxes) (λ (x : Next). is_refused x ≡ false) (λ _. refl)
@@ -97,9 +99,6 @@ elsewhere : (d : Description) (label : Label) (m : Moment) (s : Step) → s.by �
 elsewhere d Opening m s by same = record { asks = by; leaves = same ∙ ap (λ b. remembered Opening b None m.conns) (sym by); forgets = λ _. same }
 elsewhere d Answer m s by same = record { asks = by; leaves = same; forgets = λ _. same }
 
-step_internet-by : (d : Description) (m : Moment) → (step_internet d m).by ≡ Nothing
-step_internet-by d m = cond_both (is_unroutable m.header.src || is_unroutable m.header.dst) _ _ (λ (s : Step). s.by ≡ Nothing) (λ _. refl) (λ _. refl)
-
 translate-by : (d : Description) (n : NatNo) (m : Moment) (t : Option Translation) → (translate d n m t).by ≡ Nothing
 translate-by d n m (Some t) = refl
 translate-by d n m None = cond_both (is_full m.nats n m.header) _ _ (λ (s : Step). s.by ≡ Nothing) (λ _. refl) (λ _. refl)
@@ -110,23 +109,14 @@ step_nat_out-by d Opening n m =
     cond_both (is_translatable m.header.proto) (translate d n m (translation_of m.nats n m.header)) _ (λ (s : Step). s.by ≡ Nothing)
     (λ _. translate-by d n m (translation_of m.nats n m.header)) (λ _. refl)
 
-step_nat_in-by : (d : Description) (label : Label) (n : NatNo) (m : Moment) → (step_nat_in d label n m).by ≡ Nothing
-step_nat_in-by d Opening n m = refl
-step_nat_in-by d Answer n m = refl
-
 step_at-passed : (d : Description) (appliances : Appliances) (label : Label) (p : Place) (m : Moment) → IsPassed d label (own_connection p m.header) m.conns (step_at d appliances label p m)
-step_at-passed d appliances label (OutOf i) m = step_out-passed d label i m
-step_at-passed d appliances label (Into i) m = step_into-passed d appliances label i m
-step_at-passed d appliances label (Router s came) m = elsewhere d label m _ refl refl
-step_at-passed d appliances label (Enter v by) m = elsewhere d label m _ refl refl
-step_at-passed d appliances label (IgwOut v) m = elsewhere d label m _ refl refl
-step_at-passed d appliances label Internet m = elsewhere d label m _ (step_internet-by d m) (step_internet-conns d m)
-step_at-passed d appliances label (IgwIn v) m = elsewhere d label m _ refl refl
-step_at-passed d appliances label (NatOut n) m = elsewhere d label m _ (step_nat_out-by d label n m) (step_nat_out-conns d label n m)
-step_at-passed d appliances label (NatIn n) m = elsewhere d label m _ (step_nat_in-by d label n m) (step_nat_in-conns d label n m)
-step_at-passed d appliances label (Peer x v) m = elsewhere d label m _ refl refl
-step_at-passed d appliances label (Tgw a s) m = elsewhere d label m _ refl refl
-step_at-passed d appliances label (TgwLeave a s) m = elsewhere d label m _ refl refl
+step_at-passed d appliances label p m =
+    by_memory (λ q. IsPassed d label (own_connection q m.header) m.conns (step_at d appliances label q m))
+    (λ i. step_out-passed d label i m) (λ i. step_into-passed d appliances label i m)
+    (λ n. elsewhere d label m _ (step_nat_out-by d label n m) (step_nat_out-conns d label n m))
+    (λ q rest. let same = rest.step d appliances label m in
+    subst (λ (x : Memory). IsPassed d label (connection_of x m.header) m.conns (step_at d appliances label q m)) (sym rest.memory)
+    (elsewhere d label m _ (ap (λ (s : Step). s.by) same) (ap (λ (s : Step). s.conns) same))) p
 
 pub rules_are_remembered : (d : Description) (appliances : Appliances) (label : Label) (m : Moment) → let s = step_of d appliances label m in s.conns ≡ remembered label s.by (own_connection m.place m.header) m.conns
 rules_are_remembered d appliances label m = (step_at-passed d appliances label m.place m).leaves
@@ -196,18 +186,12 @@ untranslated : (d : Description) (label : Label) (m : Moment) (p : Place) (nats 
 untranslated d label m p nats here other same = inl (same, λ n is. other n (sym here ∙ is.here))
 
 step_at-new : (d : Description) (appliances : Appliances) (label : Label) (p : Place) (m : Moment) → m.place ≡ p → Translates d label m (step_at d appliances label p m).nats
-step_at-new d appliances label (OutOf i) m here = untranslated d label m (OutOf i) _ here (λ n e. cc) (step_out-nats d label i m)
-step_at-new d appliances label (Into i) m here = untranslated d label m (Into i) _ here (λ n e. cc) (step_into-nats d appliances label i m)
-step_at-new d appliances label (Router s came) m here = untranslated d label m (Router s came) _ here (λ n e. cc) refl
-step_at-new d appliances label (Enter v by) m here = untranslated d label m (Enter v by) _ here (λ n e. cc) refl
-step_at-new d appliances label (IgwOut v) m here = untranslated d label m (IgwOut v) _ here (λ n e. cc) refl
-step_at-new d appliances label Internet m here = untranslated d label m Internet _ here (λ n e. cc) (step_internet-nats d m)
-step_at-new d appliances label (IgwIn v) m here = untranslated d label m (IgwIn v) _ here (λ n e. cc) refl
-step_at-new d appliances label (NatOut n) m here = step_nat_out-translates d label n m here
-step_at-new d appliances label (NatIn n) m here = untranslated d label m (NatIn n) _ here (λ k e. cc) (step_nat_in-nats d label n m)
-step_at-new d appliances label (Peer x v) m here = untranslated d label m (Peer x v) _ here (λ n e. cc) refl
-step_at-new d appliances label (Tgw a s) m here = untranslated d label m (Tgw a s) _ here (λ n e. cc) refl
-step_at-new d appliances label (TgwLeave a s) m here = untranslated d label m (TgwLeave a s) _ here (λ n e. cc) refl
+step_at-new d appliances label p m =
+    by_memory (λ q. m.place ≡ q → Translates d label m (step_at d appliances label q m).nats)
+    (λ i here. untranslated d label m (OutOf i) _ here (λ n e. cc) (step_out-nats d label i m))
+    (λ i here. untranslated d label m (Into i) _ here (λ n e. cc) (step_into-nats d appliances label i m))
+    (λ n here. step_nat_out-translates d label n m here)
+    (λ q rest here. untranslated d label m q _ here (λ n. plain-other q n rest) (ap (λ (s : Step). s.nats) (rest.step d appliances label m))) p
 
 pub new_opens_are_translated : (d : Description) (appliances : Appliances) (label : Label) (m : Moment)
     → let s = step_of d appliances label m in

@@ -1,5 +1,5 @@
 -- Walks: what each of their steps keeps, they keep.
-use Rattle.std.proofs.Common.{Bool, Contains, List, Some, [], add-one, ap, append_assoc, arith, false, inl, inr, length, length-append, refl, subst, suc, sym, true, zero, ℕ, ◌++◌, ◌+◌, ◌<◌, ◌^◌, ◌||◌, ◌∙◌, ◌∷◌, ◌≡◌, ◌≤◌, ◌⊎◌}
+use Rattle.std.proofs.Common.{Contains, List, Some, [], add-one, ap, append_assoc, arith, false, inl, inr, length, length-append, refl, subst, suc, sym, true, zero, ℕ, ◌++◌, ◌+◌, ◌<◌, ◌^◌, ◌||◌, ◌∙◌, ◌∷◌, ◌≡◌, ◌≤◌, ◌⊎◌}
 use Rattle.std.specs.List.{list_any, IsDistinct}
 use Rattle.vpc_base.proofs.Lemmas.{Contains-append_left, Contains-push, Contains-push_cases, cond_both}
 use Rattle.vpc_base.specs.declared.headers.Label.TheVariants.{Opening, Answer}
@@ -7,7 +7,7 @@ use Rattle.vpc_model.specs.declared.outcomes.Outcome.TheVariants.{Stopped}
 use Rattle.vpc_model.specs.declared.places.Place.TheVariants.{NatOut}
 use Rattle.vpc_model.specs.declared.stops.Stop.TheVariants.{Loop, TooFar}
 use Rattle.vpc_laws.specs.Types.{Description, Header, Hop, Label, Place}
-use Rattle.vpc_laws.specs.Terms.{AddsOwn, AddsTranslation, Begins, IsBook, is_rewriting, own_connection, places_of}
+use Rattle.vpc_laws.specs.Terms.{AddsOwn, AddsTranslation, Begins, IsBook, own_connection, places_of}
 use Rattle.vpc_model.specs.Terms.{Appliances, Connection, Moment, Next, Translation, Walk, arrive, ended, go, is_visited, same_place, step_of, stop, walk_of, walk_on}
 use Rattle.vpc_laws.proofs.Books.{IsDistinct-push_new, step_keeps_book}
 use Rattle.vpc_laws.proofs.Flow.{Flows, step_at-flow}
@@ -207,17 +207,17 @@ NextFits (go p k) = k.p < 2 ^ 16
 NextFits (arrive end) = Unit {0}
 NextFits (stop s) = Unit {0}
 
-Flows-NextFits : (rewritten : Bool) (h : Header) (x : Next) → Flows rewritten h x → h.p < 2 ^ 16 → NextFits x
-Flows-NextFits rewritten h (go p k) flow fits = flow.p fits
-Flows-NextFits rewritten h (arrive end) flow fits = tt
-Flows-NextFits rewritten h (stop s) flow fits = tt
+Flows-NextFits : (opens : Type 0) (d : Description) (p : Place) (h : Header) (x : Next) → opens → Flows opens d p h x → h.p < 2 ^ 16 → NextFits x
+Flows-NextFits opens d p h (go q k) o (on, flow) fits = flow.p o fits
+Flows-NextFits opens d p h (arrive end) o flow fits = tt
+Flows-NextFits opens d p h (stop s) o flow fits = tt
 
 abbrev InOrder : Next → List Hop → List Connection → List Translation → Type 0
 InOrder x hops conns nats = NextFits x × IsBook nats
 
 pub open-in_order : (d : Description) (appliances : Appliances) (m : Moment) → m.header.p < 2 ^ 16 → IsBook m.nats → let s = step_of d appliances Opening m in NextFits s.next × IsBook s.nats
 open-in_order d appliances m fits book =
-    (Flows-NextFits (is_rewriting m.place) m.header (step_of d appliances Opening m).next (step_at-flow d appliances m.place m book.translations) fits, step_keeps_book d appliances Opening m fits book)
+    (Flows-NextFits _ d m.place m.header (step_of d appliances Opening m).next (refl, book.translations) (step_at-flow d appliances Opening m.place m) fits, step_keeps_book d appliances Opening m fits book)
 
 InOrder-kept : (d : Description) (appliances : Appliances) → IsKept d appliances Opening InOrder
 InOrder-kept d appliances hops m new good = open-in_order d appliances m good.0 good.1

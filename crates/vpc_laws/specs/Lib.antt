@@ -1,6 +1,8 @@
 pub mod Types
 pub mod Translations
+pub mod Memory
 pub mod Step
+pub mod Onward
 pub mod Walk
 pub mod Equality
 pub mod Choice

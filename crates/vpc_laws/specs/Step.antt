@@ -15,6 +15,7 @@ use Rattle.vpc_model.specs.Nat.{Translation, is_full, is_translatable, new_trans
 use Rattle.vpc_model.specs.Step.{step_of}
 use Rattle.vpc_model.specs.Step.Nat.{own_address}
 use Rattle.vpc_model.specs.Step.Words.{Moment, Next, arrive, go, stop}
+use Rattle.vpc_laws.specs.Memory.{Memory, connection, memory_at, nothing, translation}
 use Rattle.vpc_laws.specs.Translations.{IsTranslation}
 
 -- ---- words
@@ -23,11 +24,15 @@ use Rattle.vpc_laws.specs.Translations.{IsTranslation}
 abbrev pub Begins : {X : Type 0} → List X → List X → Type 0
 Begins {X = X} before after = (more : List X) × (after ≡ before ++ more)
 
+-- the connection that is remembered of a header, if one is
+abbrev pub connection_of : Memory → Header → Option Connection
+connection_of (connection i dir) h = Some (record { eni = i; dir = dir; header = h })
+connection_of (translation n) h = None
+connection_of nothing h = None
+
 -- the connection that an open makes where it leaves or reaches an interface
 abbrev pub own_connection : Place → Header → Option Connection
-own_connection (places.OutOf i) h = Some (record { eni = i; dir = dirs.Outward; header = h })
-own_connection (places.Into i) h = Some (record { eni = i; dir = dirs.Inward; header = h })
-own_connection _ h = None
+own_connection p h = connection_of (memory_at p) h
 
 -- the connections after a packet's step: those before it, or one more, that of an open at its place
 abbrev pub AddsOwn : Label → Place → Header → List Connection → List Connection → Type 0

@@ -1,4 +1,5 @@
 // Laws of one step.
+ghost use Rattle.vpc_laws.specs.Onward.{StepsLeadOn};
 ghost use Rattle.vpc_laws.specs.Step.{AnswerAddsNothing, ConnectionsChangeAtInterfaces, HeaderStays, NewOpensAreTranslated, OpenKeepsFlow, OpensPassByRules, PacketsPassByGroups, RefusedAreForgotten, RulesAreRemembered, StepAddsOwn, StepAddsTranslation, StepKeeps, StepsStopThemselves};
 
 /// A step adds at most one connection: that of an open at the interface where it is. It is kept also
@@ -40,6 +41,12 @@ pub fn rewrites_at_gateways()
 /// Only whole walks and verdicts stop packets by loops, by length, at wrong ends or without a reply.
 pub fn stops_by_own_cause()
     ensures { StepsStopThemselves }
+{}
+
+/// Packets go on past the network ACLs that let them. Groups stop them at the interface that the stop names, and ACLs
+/// stop those that they refuse.
+pub fn leads_on()
+    ensures { StepsLeadOn }
 {}
 
 /// Of the packets that leave and reach interfaces, opens that pass by a rule are remembered, and no
