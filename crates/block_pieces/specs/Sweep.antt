@@ -85,6 +85,6 @@ StartsAfter rows next a = (k : ℕ) (d : BlockRow) → next ≤ k → k < length
 abbrev pub inner_borders : Block → List ℕ
 inner_borders b = filter (λ c. nat_lt c (2 ^ 32)) (block_cuts b)
 
--- the same of all blocks
+-- where blocks begin and have ended, as far as there are addresses
 abbrev pub within_line : List BlockRow → List ℕ
 within_line rows = flat_map (λ r. inner_borders r.block) rows

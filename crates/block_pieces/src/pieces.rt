@@ -37,7 +37,7 @@ fn all_borders(alloc: Global, rows: &[BlockRow]) -> Result<Vec<u32>, AllocError>
     Ok(borders)
 }
 
-// The same numbers in ascending order, each once.
+// Numbers in ascending order, each once.
 fn ascending(mut numbers: Vec<u32>) -> Vec<u32>
     ensures order { IsStrictlyIncreasing result.items }
     ensures members { (x : ℕ) → Contains result.items x ↔ Contains numbers.items x }

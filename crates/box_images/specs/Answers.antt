@@ -17,7 +17,8 @@ pub record Answers {T : Type 0} (divide_enough : CutLists → Type 0) (answer : 
   pub body : IsBody x.body part
   pub aligned : (cuts : CutLists) → divide_enough cuts → IsAligned cuts x.body part
 
--- the same where the answer is a header, if there is one: it is that of the image which is told, a valid one over the body
+-- an answer that is a header, if there is one: for each header of the body it is that of the image which is told, a valid one
+-- over the body; and the body is aligned to all cuts that divide enough
 pub record AnswersImage (divide_enough : CutLists → Type 0) (answer : Header → Option Header) (part : Box5) (x : Part (Option Image)) : Type 0 where
   pub told : (h : Header) → holds h x.body ≡ true → option_map (λ i. header_at i h) x.told ≡ answer h
   pub body : IsBody x.body part

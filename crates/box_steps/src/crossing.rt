@@ -71,7 +71,7 @@ pub fn leaving_on(f: &Fabric, s: SubnetNo, i: &Image) -> Part<Option<Stop>>
     }
 }
 
-/// The same of headers that enter it.
+/// The stop of headers that enter the subnet, where its ACL refuses them (VPC User Guide, "Network ACLs").
 pub fn entering_on(f: &Fabric, s: SubnetNo, i: &Image) -> Part<Option<Stop>>
     requires subnet { IsTrue (is_subnet f.now s) }
     requires valid { IsValidImage i.now }

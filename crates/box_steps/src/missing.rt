@@ -52,7 +52,8 @@ fn is_elsewhere(aim: &Aim, e: EniNo) -> bool
     }
 }
 
-// The same of the interface that has a destination, if one has it.
+// Whether what is sent to a destination goes no further: no interface has it, or one that is neither the goal nor an
+// appliance's.
 fn is_away(aim: &Aim, host: Option<EniNo>) -> bool
     ensures { let a = aim.now in result ≡ is_away a.deciders.now.appliances a.goal host }
 {

@@ -37,7 +37,7 @@ with_rows network acls groups gateways appliances =
       appliances = appliances;
     }
 
--- the same with the rules that a bundle tells apart from their groups (EC2 API, DescribeSecurityGroupRules)
+-- the description of these rows, with the rules that a bundle tells apart from their groups (EC2 API, DescribeSecurityGroupRules)
 abbrev pub with_group_rules : Data → NetworkRows → FilterRows → GatewayRows → List Appliance → Result Description FieldFault
 with_group_rules bundle network filters gateways appliances =
     and_then (group_rules_of bundle filters.groups) (λ groups.

@@ -18,7 +18,7 @@ const RULES_INWARD: &str = r#"{"Vpcs":[{"VpcId":"vpc-1","CidrBlock":"10.0.0.0/16
  {"GroupId":"sg-a","VpcId":"vpc-1","IpPermissionsEgress":[{"IpProtocol":"-1","IpRanges":[{"CidrIp":"0.0.0.0/0"}]}]},
  {"GroupId":"sg-b","VpcId":"vpc-1","IpPermissions":[@@]}]}"#;
 
-// The same; the first host's address has no route.
+// Two hosts in one subnet, with rules in place of @@; the first one's address has no route.
 const RULES_INWARD_AND_NO_ROUTE: &str = r#"{"Vpcs":[{"VpcId":"vpc-1","CidrBlock":"10.0.0.0/16"}],
 "Subnets":[{"SubnetId":"subnet-a","VpcId":"vpc-1","AvailabilityZone":"us-east-1a"}],
 "NetworkAcls":[{"NetworkAclId":"acl-1","Associations":[{"SubnetId":"subnet-a"}]}],

@@ -31,7 +31,7 @@ pub const TWO_SUBNETS: &str = r#"{"Vpcs":[{"VpcId":"vpc-1","CidrBlock":"10.0.0.0
  {"GroupId":"sg-a","VpcId":"vpc-1","IpPermissions":[],"IpPermissionsEgress":[{"IpProtocol":"-1","IpRanges":[{"CidrIp":"0.0.0.0/0"}]}]},
  {"GroupId":"sg-b","VpcId":"vpc-1","IpPermissions":[{"IpProtocol":"tcp","FromPort":443,"ToPort":443,"UserIdGroupPairs":[{"GroupId":"sg-a"}]}],"IpPermissionsEgress":[]}]}"#;
 
-/// The same hosts; the ACL of the second subnet lets answers out to high ports alone.
+/// Two hosts, each in a subnet of its own; the ACL of the second subnet lets answers out to high ports alone.
 pub const OWN_ACL: &str = r#"{"Vpcs":[{"VpcId":"vpc-1","CidrBlock":"10.0.0.0/16"}],
 "Subnets":[
  {"SubnetId":"subnet-a","VpcId":"vpc-1","AvailabilityZone":"us-east-1a"},

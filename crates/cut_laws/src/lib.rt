@@ -8,27 +8,27 @@ pub fn fixed_are_standing()
     ensures { FixedAreStanding }
 {}
 
-/// So is where the blocks of a VPC begin and have ended.
+/// Where the blocks of a VPC begin and have ended is among the standing cuts.
 pub fn vpcs_are_standing()
     ensures { VpcsAreStanding }
 {}
 
-/// So are the private and the public addresses of an interface.
+/// The private and the public addresses of an interface are among the standing cuts.
 pub fn interfaces_are_standing()
     ensures { InterfacesAreStanding }
 {}
 
-/// So are all these addresses together, with what is cut in every network.
+/// All these addresses together, with what is cut in every network, are among the standing cuts.
 pub fn addresses_are_standing()
     ensures { AddressesAreStanding }
 {}
 
-/// So are the edges of an ACL's rows.
+/// The edges of an ACL's rows are among the standing cuts.
 pub fn acls_are_standing()
     ensures { AclsAreStanding }
 {}
 
-/// So are the sides of an appliance's boxes.
+/// The sides of an appliance's boxes are among the standing cuts.
 pub fn appliances_are_standing()
     ensures { AppliancesAreStanding }
 {}
@@ -39,12 +39,12 @@ pub fn places_have_their_cuts()
     ensures { PlacesHaveTheirCuts }
 {}
 
-/// They are cuts of the description.
+/// The cuts at each place are cuts of the description.
 pub fn places_cut_the_description()
     ensures { PlacesCutTheDescription }
 {}
 
-/// So are the cuts on which the verdict of one request depends: those at the places of its two walks.
+/// The cuts on which the verdict of one request depends, those at the places of its two walks, are cuts of the description.
 pub fn near_cuts_are_among_all()
     ensures { NearCutsAreAmongAll }
 {}

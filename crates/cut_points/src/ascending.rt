@@ -2,7 +2,7 @@
 ghost use Rattle.std.specs.Prelude.{ℕ, ◌↔◌, Contains};
 ghost use Rattle.std.specs.List.Sorted.{IsStrictlyIncreasing};
 
-/// The same numbers in ascending order, each once.
+/// Numbers in ascending order, each once.
 pub fn ascending(mut numbers: Vec<u32>) -> Vec<u32>
     ensures order { IsStrictlyIncreasing result.items }
     ensures members { (x : ℕ) → Contains result.items x ↔ Contains numbers.items x }

@@ -93,7 +93,7 @@ dropped-seen {A = A} same tells key_of seen row rows known =
         step other (list_any (same (key_of other)) (seen ++ key_of row ∷ [])) (list_any (same (key_of other)) seen) (unseen same key_of (seen ++ key_of row ∷ []) others) (unseen same key_of seen others)
         (list_any-seen same tells seen (key_of row) (key_of other) known) (equal others)
 
--- the same of ids
+-- a row whose id is new is kept
 pub kept-new_id : {A : Type 0} (id_of : A → List ℕ) (seen : List (List ℕ)) (kept : List A) (row : A) (rows : List A)
     → list_any (bytes_eq (id_of row)) seen ≡ false
     → kept ++ unseen bytes_eq id_of seen (first_of_each id_of (row ∷ rows)) ≡ (kept ++ row ∷ []) ++ unseen bytes_eq id_of (seen ++ id_of row ∷ []) (first_of_each id_of rows)

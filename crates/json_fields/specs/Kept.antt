@@ -25,7 +25,7 @@ each_kept read name rows = and_then (each_row read name rows) (λ all. Ok (those
 abbrev pub each_item : {A : Type 0} → (Data → List ℕ → Result A FieldFault) → Data → List ℕ → List ℕ → Result (List A) FieldFault
 each_item read row path field = and_then (list_of row path field) (each_row read (at_member path field))
 
--- the same, of the items that are kept
+-- what the items of the array that is the member of this name give, where they are kept
 abbrev pub each_kept_item : {A : Type 0} → (Data → List ℕ → Result (Option A) FieldFault) → Data → List ℕ → List ℕ → Result (List A) FieldFault
 each_kept_item read row path field = and_then (list_of row path field) (each_kept read (at_member path field))
 
@@ -33,7 +33,7 @@ each_kept_item read row path field = and_then (list_of row path field) (each_kep
 abbrev pub each_of : {A : Type 0} → (Data → List ℕ → Result A FieldFault) → Data → List ℕ → Result (List A) FieldFault
 each_of read bundle name = and_then (rows_of bundle name) (each_row read name)
 
--- the same, of the rows that are kept
+-- what the rows of the bundle's list of this name give, where they are kept
 abbrev pub each_kept_of : {A : Type 0} → (Data → List ℕ → Result (Option A) FieldFault) → Data → List ℕ → Result (List A) FieldFault
 each_kept_of read bundle name = and_then (rows_of bundle name) (each_kept read name)
 

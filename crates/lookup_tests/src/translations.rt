@@ -140,7 +140,7 @@ fn a_small_book(rt: HostRuntime) {
     assert_eq!(rt; answers(&book), ANSWERS);
 }
 
-// The same once more after the translations are sorted.
+// A growing book gives the ports of a small one, also after its translations are sorted.
 #[test]
 fn a_growing_book(rt: HostRuntime) -> Result<(), Fail> {
     let mut book = GrowingNats::new(rt.alloc());

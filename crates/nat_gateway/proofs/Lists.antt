@@ -43,7 +43,7 @@ first_free-jump taken (suc k) port end most all =
     ∙ rw (all port (omega arith) (omega arith)) (first_free-jump taken k (port + 1) end (omega arith) (λ x a b. all x (omega arith) (omega arith)))
     ∙ ap (λ x. first_free taken (end - x) x) e
 
--- the same over plain numbers
+-- a search from a port on goes on from a later one, where all between are taken
 pub first_free-over : (taken : ℕ → Bool) (port free end : ℕ) → port ≤ free → free ≤ end → ((x : ℕ) → port ≤ x → x < free → taken x ≡ true) → first_free taken (end - port) port ≡ first_free taken (end - free) free
 first_free-over taken port free end from most all =
     let e : port + (free - port) ≡ free = omega arith in

@@ -18,7 +18,7 @@ same_sent a b = (a.nat.0 == b.nat.0) && same_header a.header b.header
 abbrev pub flow_of : NatNo → Header → Sent
 flow_of n h = record { nat = n; header = record h { src = 0; p = 0 } }
 
--- the same with a port
+-- gateway and header with another port
 abbrev pub with_port : Sent → ℕ → Sent
 with_port s port = record { nat = s.nat; header = record s.header { p = port } }
 

@@ -136,9 +136,10 @@ impl AclIndex {
             Dir::Outward => first_verdict(self.outward.as_slice(), Dir::Outward, h),
         }
     }
-    /// The same for all headers of an image, on a body. It asks the rows in their order up to the first one
-    /// that matches, in time that grows with them: AWS allows 40 rows in a direction at most (VPC User Guide,
-    /// "Network ACL quotas").
+
+    /// Whether the ACL lets the headers of an image pass, and the number of the rule that decides, on a body. It asks the
+    /// rows in their order up to the first one that matches, in time that grows with them: AWS allows 40 rows in a direction
+    /// at most (VPC User Guide, "Network ACL quotas").
     pub fn decide_on(&self, dir: Dir, i: &Image) -> Part<(bool, u16)>
         requires valid { IsValidImage i.now }
         requires walk { IsImageOfWalk i.now }

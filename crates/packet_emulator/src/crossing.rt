@@ -24,7 +24,7 @@ pub fn leaving(f: &Fabric, s: SubnetNo, h: &Header) -> Option<Stop>
     }
 }
 
-/// The same of a packet that enters it.
+/// The stop of a packet that enters the subnet, where its ACL refuses it (VPC User Guide, "Network ACLs").
 pub fn entering(f: &Fabric, s: SubnetNo, h: &Header) -> Option<Stop>
     requires { IsTrue (is_subnet f.now s) }
     ensures { result ≡ entering f.now s h.now }

@@ -28,7 +28,7 @@ is_twice (claim.Twice r) = true
 abbrev pub chosen_table : Description → Subnet → Option ℕ
 chosen_table d s = or_else (position (is_table_of s.id) d.tables) (position (is_main_of s.vpc) d.tables)
 
--- the same for the subnet with a number
+-- the table of the subnet with a number
 abbrev pub chosen_at : Description → ℕ → Option ℕ
 chosen_at d k = chosen_table d (subnet_at d (record { 0 = k }))
 

@@ -9,7 +9,7 @@ use Rattle.reference_check.specs.declared.claims.Claim.TheVariants as claim
 abbrev pub claim_by : {X : Type 0} → (X → Bool) → List X → Claim
 claim_by names rows = elim (position names rows) [ None ↦ claim.Unclaimed | Some r ↦ if holds_twice names rows then claim.Twice r else claim.Once r ]
 
--- the same for each target
+-- which rows name each target
 abbrev pub claims_by : {X : Type 0} → (List ℕ → X → Bool) → List (List ℕ) → List X → List Claim
 claims_by names targets rows = map (λ t. claim_by (names t) rows) targets
 

@@ -42,7 +42,7 @@ counted_rows_of d locals number r =
     let rows = map (row_of (kind_of r) number) (blocks_of_reach d r.reach) in
     if r.propagated && not (is_local r.target) then filter (λ x. not (is_covered locals x.block)) rows else rows
 
--- the same of routes numbered from a number on
+-- the blocks of routes, numbered from a number on, without those of propagated ones that local blocks hold
 abbrev pub counted_rows : Description → PieceLists → ℕ → List Route → List BlockRow
 counted_rows d locals number [] = []
 counted_rows d locals number (r ∷ rs) = counted_rows_of d locals number r ++ counted_rows d locals (number + 1) rs

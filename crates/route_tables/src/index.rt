@@ -100,8 +100,8 @@ impl RouteIndex {
         told
     }
 
-    /// The same for all headers of an image: the route that the table chooses for their destination, and
-    /// those of them that go to the same piece as the low corner.
+    /// The number of the route that the table chooses for the destinations of an image's headers, for those of them that go
+    /// to the same piece as the low corner.
     pub fn choose_on<L: Ledger>(&self, i: &Image, steps: &mut Steps<L>) -> Part<Option<u32>>
         requires valid { IsValidImage i.now }
         requires walk { IsImageOfWalk i.now }

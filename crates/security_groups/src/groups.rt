@@ -128,7 +128,7 @@ fn body_by_group(
     rules_of(&groups[group as usize], dir).allowed_on(lists, members, dir, i)
 }
 
-// The same of some groups.
+// A body on which some rule of some of the groups allows all headers, if one is found.
 fn body_by_groups(
     lists: &[AddressSet],
     members: &NumberSet,

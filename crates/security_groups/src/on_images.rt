@@ -61,7 +61,7 @@ fn any_member_from(members: &NumberSet, named: &[u32], address: u32) -> (u32, bo
     (last, false)
 }
 
-// The same of the prefix lists and groups of a rule.
+// Whether the prefix lists or groups of a rule name an address, and how far the addresses from there on are alike.
 fn listed_from(lists: &[AddressSet], members: &NumberSet, rule: &Rule, address: u32) -> (u32, bool)
     ensures { IsStretchOf (DivideRule lists.now members.now rule.now)
         (λ a. lists_name lists.now members.now a rule.now) address result }

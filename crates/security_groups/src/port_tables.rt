@@ -103,7 +103,7 @@ fn least_in(
     least
 }
 
-// The same among the runs that don't end before the port, of which the first ones do.
+// The least number of a rule that allows the header, among the runs that don't end before the port: the first ones do.
 fn least_in_runs(
     lists: &[AddressSet],
     members: &NumberSet,

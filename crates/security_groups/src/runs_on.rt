@@ -63,7 +63,8 @@ pub struct BegunRules<'a> {
     pub ended: usize,
 }
 
-/// The same by runs of rules. Those that end before a port that no header is below, as the first ones do, aren't asked.
+/// Whether one of the rules allows the headers of an image, by runs of rules. Those that end before a port that no header is
+/// below, as the first ones do, aren't asked.
 pub fn any_in_runs_on(
     lists: &[AddressSet],
     members: &NumberSet,

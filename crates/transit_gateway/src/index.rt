@@ -143,8 +143,8 @@ impl TransitIndex {
         told
     }
 
-    /// The same for all headers of an image: the route that the table chooses for their destination, and
-    /// those of them that go to the same piece as the low corner.
+    /// The number of the route that a table chooses for the destinations of an image's headers, for those of them that go
+    /// to the same piece as the low corner.
     pub fn choose_on<L: Ledger>(
         &self,
         t: TgwTableNo,

@@ -30,7 +30,7 @@ cut_apart = record (bare (record { id = codes "vpc-1"; blocks = block (v4 10 0 0
 abbrev pub unroutable_cuts : List ℕ
 unroutable_cuts = v4 0 0 0 0 ∷ v4 1 0 0 0 ∷ v4 10 0 0 0 ∷ v4 11 0 0 0 ∷ v4 127 0 0 0 ∷ v4 128 0 0 0 ∷ v4 169 254 0 0 ∷ v4 169 255 0 0 ∷ v4 172 16 0 0 ∷ v4 172 32 0 0 ∷ v4 192 168 0 0 ∷ v4 192 169 0 0 ∷ v4 224 0 0 0 ∷ []
 
--- the same with the VPC's block, both addresses of the interface and the ACL row's block; an appliance's boxes begin at 0
+-- the standing addresses of the network above: those of every network, the VPC's block, both addresses of the interface and the ACL row's block; an appliance's boxes begin at 0
 abbrev pub standing_addresses : List ℕ
 standing_addresses =
     unroutable_cuts

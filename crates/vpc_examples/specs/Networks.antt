@@ -150,12 +150,12 @@ two_subnets acls = record (bare (vpc_1 ∷ []) (subnet_row (codes "subnet-a") (c
   groups = group (codes "sg-a") (codes "vpc-1") [] (allow_all ∷ []) ∷ group (codes "sg-b") (codes "vpc-1") (https_from_group (codes "sg-a") ∷ []) [] ∷ [];
 }
 
--- the same, where subnet-b has an ACL of its own that lets out TCP to the high half of the ports alone
+-- two subnets with a host each, where subnet-b has an ACL of its own that lets out TCP to the high half of the ports alone
 abbrev pub high_ports_only : Description
 high_ports_only = two_subnets (acl (codes "acl-1") (codes "subnet-a" ∷ []) open_rows
     ∷ acl (codes "acl-b") (codes "subnet-b" ∷ []) (allow_row 100 false anywhere ∷ tcp_row 100 true true 32768 65535 anywhere ∷ []) ∷ [])
 
--- the same, where the hosts have the public addresses 203.0.113.10 and 203.0.113.20, and the second's group lets in HTTPS by this rule
+-- two subnets with a host each, where the hosts have the public addresses 203.0.113.10 and 203.0.113.20, and the second's group lets in HTTPS by this rule
 abbrev pub public_hosts : Permission → Description
 public_hosts p = record (two_subnets (acl_1 ∷ [])) {
   interfaces = host_with (codes "eni-a") (codes "subnet-a") (v4 10 0 1 10) (Some (v4 203 0 113 10)) (codes "sg-a") ∷ host_with (codes "eni-b") (codes "subnet-b") (v4 10 0 2 20) (Some (v4 203 0 113 20)) (codes "sg-b") ∷ [];
@@ -234,7 +234,7 @@ attached from_a from_b = record (bare (site_vpc (codes "a") 1 ∷ site_vpc (code
   tgw_tables = record { id = codes "tgw-rtb-a"; routes = from_a } ∷ record { id = codes "tgw-rtb-b"; routes = from_b } ∷ [];
 }
 
--- the same with a third host, 10.1.3.10, in the subnet by which the first VPC is attached, whose ACL lets everything out and nothing in
+-- a network of two sites with a third host, 10.1.3.10, in the subnet by which the first VPC is attached, whose ACL lets everything out and nothing in
 abbrev pub host_at_attachment : Description → Description
 host_at_attachment d = record d {
   interfaces = d.interfaces ++ host (codes "eni-t") (codes "subnet-ta") (v4 10 1 3 10) (codes "sg-a") ∷ [];
