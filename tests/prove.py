@@ -1,24 +1,20 @@
 """Proves the crates of this checkout, lowest first, some at a time, over what earlier calls kept.
 
     python3 tests/prove.py [--at-once N] [CRATE..]       these crates and what stands below them; all where none is named
-    python3 tests/prove.py --edits CRATE [EDIT..]        tries edits of a crate that is proved, those of the gate and of tests/edits
 
 For those who prove, where every gate begins from nothing: the first call takes as long as the gate's proofs, a call after a change what
 that changed. A crate that isn't proved is told with its first error, what stands on it waits, and all others go on; `bench/out/check/NAME.log` has
-the whole of what was said. Each edit takes seconds. It gives no verdict for the gate: what it keeps is trusted, and tests aren't run.
+the whole of what was said. It gives no verdict for the gate: what it keeps is trusted, and tests aren't run. tests/edits.py tries
+edits over it.
 """
 
 import hashlib
 import os
-import re
-import shutil
 import subprocess
 import sys
-import tempfile
 from concurrent.futures import FIRST_COMPLETED, ThreadPoolExecutor, wait
 
 import check
-import edits
 
 PARTS = ("src", "specs", "proofs")
 
@@ -98,60 +94,14 @@ def prove_all(names, at_once):
     return sum(given.values()), sum(not it for it in given.values())
 
 
-def edited(path, room):
-    """Applies an edit to the copy of its crate."""
-    file, old = None, None
-    with open(path, encoding="utf-8") as lines:
-        for line in lines.read().split("\n"):
-            if line.startswith("file: "):
-                file = os.path.join(room, line[len("file: ") :].strip())
-            elif line.startswith("old: "):
-                old = line[len("old: ") :]
-            elif line.startswith("new:"):
-                with open(file, encoding="utf-8") as source:
-                    text = source.read()
-                with open(file, "w", encoding="utf-8") as source:
-                    source.write(text.replace(old, re.sub(r"\A ", "", line[len("new:") :])))
-
-
-def try_edits(crate, paths):
-    folders = [os.path.join(check.TOP, "crates", crate, "must-fail"), os.path.join(edits.EDITS, crate)]
-    paths = paths or [os.path.join(folder, name) for folder in folders for name in edits.edits_in(folder)]
-    passed, failed = 0, 0
-    with tempfile.TemporaryDirectory(prefix="edits-") as room:
-        kept = os.path.join(room, "kept")
-        shutil.copytree(os.path.join(check.KEPT, crate, "checks"), kept)
-        words = [kept if it == os.path.join(check.KEPT, crate, "checks") else it for it in check.command(check.KEPT, crate, ["--only", ""])]
-        at = words.index("--only")
-        words = [*words[:at], *words[at + 2 :]]
-        for path in paths:
-            name, copy = os.path.basename(path), os.path.join(room, "copy")
-            why = edits.unfit(crate, path)
-            if why is None:
-                for part in PARTS:
-                    if os.path.isdir(os.path.join(check.TOP, "crates", crate, part)):
-                        shutil.copytree(os.path.join(check.TOP, "crates", crate, part), os.path.join(copy, part))
-                edited(path, copy)
-                ran = subprocess.run(words, cwd=copy, stdin=subprocess.DEVNULL, stdout=subprocess.PIPE, stderr=subprocess.STDOUT, check=False)
-                shutil.rmtree(copy)
-                why = {0: "it is still proved", 1: None}.get(ran.returncode, "it did not reach the prover")
-            passed, failed = passed + (why is None), failed + (why is not None)
-            print(f"FAILED: {crate}/{name}: {why}" if why else f"{crate}/{name} refused", flush=True)
-    return passed, failed
-
-
 def main():
-    words = sys.argv[1:]
-    if words[:1] == ["--edits"] and len(words) > 1:
-        passed, failed = try_edits(words[1], words[2:])
-    else:
-        at_once = os.cpu_count()
-        if words[:1] == ["--at-once"] and len(words) > 1 and words[1].isdigit():
-            at_once, words = int(words[1]), words[2:]
-        if any(it.startswith("-") for it in words):
-            sys.exit(__doc__)
-        os.environ.setdefault("JOBS", "1")
-        passed, failed = prove_all(words, max(at_once, 1))
+    words, at_once = sys.argv[1:], os.cpu_count()
+    if words[:1] == ["--at-once"] and len(words) > 1 and words[1].isdigit():
+        at_once, words = int(words[1]), words[2:]
+    if any(it.startswith("-") for it in words):
+        sys.exit(__doc__)
+    os.environ.setdefault("JOBS", "1")
+    passed, failed = prove_all(words, max(at_once, 1))
     print(f"{passed} passed, {failed} failed")
     sys.exit(1 if failed else 0)
 
