@@ -1,11 +1,14 @@
 #!/bin/sh
 # Tests of the launcher, over a small checkout of its own and a stand-in for rt: nothing is proved, and it takes some
-# seconds. The last line is 'N passed, M failed'.
-unset CDPATH VPC_QUIET VPC_JOBS VPC_WAIT VPC_PROVE
+# seconds. The last line is 'N passed, M failed, K skipped'.
+unset CDPATH GZIP VPC_QUIET VPC_JOBS VPC_WAIT VPC_PROVE XDG_STATE_HOME
 here=$(cd -- "$(dirname -- "$0")" && pwd)
 room=$(mktemp -d)
 trap 'chmod -R u+w "$room"; rm -rf "$room"' EXIT
-passed=0 failed=0
+passed=0 failed=0 skipped=0
+# Where the launcher notes what was built here.
+HOME=$room/home
+export HOME
 stand_in=$here/kit:$PATH
 # The kit may be in PATH: without it there is none of its folder.
 no_kit=$(printf '%s' "$PATH" | tr ':' '\n' | while read -r it; do [ -x "$it/rt" ] || printf '%s:' "$it"; done)
@@ -283,7 +286,7 @@ prebuild() {
     mkdir -p "$1/prebuilt"
     gzip -9n <"$1/out/vpc" >"$1/prebuilt/vpc.gz"
     cp "$1/out/stamp" "$1/prebuilt/stamp"
-    rm -rf "$1/out" "$1"/crates/*/out
+    rm -rf "$1/out" "$1"/crates/*/out "$HOME"
 }
 checkout "$room/prebuilt"
 start "$stand_in" env VPC_QUIET=1 "$room/prebuilt/vpc" x
@@ -292,7 +295,7 @@ settle
 start "$no_kit" "$room/prebuilt/vpc" x
 is 'prebuilt, no kit' "$status $out" "0 one $PWD x"
 is 'prebuilt: one line' "$(wc -l <"$room/err")" 1
-fits 'prebuilt: words' "$err" 'vpc: took the program of prebuilt/, which stand-in 1 made *'
+is 'prebuilt: words' "$err" 'vpc: took the program of prebuilt/: whoever made this checkout says that stand-in 1 made it of exactly these sources; VPC_PROVE=1 proves and builds it here'
 start "$no_kit" "$room/prebuilt/vpc" y
 is 'prebuilt, once more' "$status $out $err" "0 one $PWD y "
 rm -rf "$room/prebuilt/out"
@@ -309,33 +312,223 @@ is 'proved here, and then not asked for' "$status $out $err" "0 one $PWD x "
 rm -rf "$room/prebuilt/out"
 start "$stand_in" env VPC_PROVE=1 "$room/prebuilt/vpc" x
 fits 'prebuilt passed over from the start' "$status $out $calls" "0 one $PWD x *rt all check*"
+
+# What came with a checkout isn't what was proved here: neither out/ nor what rt goes on from.
+cp -a "$room/prebuilt" "$room/came"
+settle
+start "$no_kit" "$room/came/vpc" x
+is 'an out/ that came with the checkout' "$status $out" "0 one $PWD x"
+for it in once 'once more'; do
+    start "$stand_in" env VPC_PROVE=1 "$room/came/vpc" x
+    fits "an out/ that came, proved here $it" "$status $out $err" '125  vpc: VPC_PROVE=1 takes nothing that came with the checkout, and crates/vpc_cli/out may have: *'
+    is "an out/ that came, proved here $it: one line" "$(wc -l <"$room/err")" 1
+done
+rm -rf "$room/came"/crates/*/out
+start "$stand_in" env VPC_PROVE=1 "$room/came/vpc" x
+fits "what came is not there any more" "$status $out $calls" "0 one $PWD x *rt all check*"
+start "$stand_in" env VPC_PROVE=1 "$room/came/vpc" x
+is 'proved here, once more' "$status $out $(grep -c 'all check' "$CALLS")" "0 one $PWD x 0"
+printf '#!/bin/sh\necho forged\n' >"$room/came/out/vpc"
+sed -i "\$s/^[0-9a-f]*/$(sha256sum <"$room/came/out/vpc" | cut -c 1-64)/" "$room/came/out/stamp"
+start "$stand_in" env VPC_PROVE=1 "$room/came/vpc" x
+fits 'another program and a stamp that tells of it' "$status $out $calls" "0 one $PWD x *rt all check*"
+# A build that was begun from nothing and failed goes on.
+rm -rf "$room/came"/crates/*/out "$room/came/out" "$HOME"
+start "$stand_in" env VPC_PROVE=1 FAILS=left VPC_QUIET=1 "$room/came/vpc" x
+is 'begun from nothing' "$status $out" '125 '
+mkdir -p "$room/came/crates/base/out"
+start "$stand_in" env VPC_PROVE=1 "$room/came/vpc" x
+fits 'begun from nothing, and on' "$status $out $calls" "0 one $PWD x *rt all check*"
+# A build without that, over what came with the checkout, isn't noted.
+rm -rf "$room/came/out" "$HOME"
+start "$stand_in" env KIT='stand-in 2' VPC_QUIET=1 "$room/came/vpc" x
+is 'built over what came' "$status $out" "0 one $PWD x"
+start "$stand_in" env KIT='stand-in 2' VPC_PROVE=1 "$room/came/vpc" x
+is 'built over what came: not noted' "$status $out" '125 '
+# Where nothing can be noted it is proved and built at each call.
+rm -rf "$room/came/out" "$room/came"/crates/*/out
+for it in once 'once more'; do
+    start "$stand_in" env -u HOME VPC_PROVE=1 "$room/came/vpc" x
+    fits "no home, $it" "$status $out $calls" "0 one $PWD x *rt all check*"
+    fits "no home, $it: said" "$err" '*vpc: nothing notes what was built here*'
+    rm -rf "$room/came"/crates/*/out
+done
+rm -rf "$room/prebuilt/out"
+
+# A stamp's first line is printed where it is plain text.
+cp "$room/prebuilt/prebuilt/stamp" "$room/stamp"
+for it in 'stand-in\033[31m 1' 'stand-in\r1' 'stand-in \302\2331' '' "$(printf '%0300d' 0)"; do
+    # shellcheck disable=SC2059
+    { printf "$it\n" && sed 1d "$room/stamp"; } >"$room/prebuilt/prebuilt/stamp"
+    start "$no_kit" "$room/prebuilt/vpc" x
+    fits "a first line that isn't plain, $(printf '%.30s' "$it")" "$status $out $err" '125  vpc: *no rt in PATH*'
+done
+cp "$room/stamp" "$room/prebuilt/prebuilt/stamp"
+rm -rf "$room/prebuilt/out"
+# What is in GZIP would have gzip do something else.
+mkdir "$room/old-gzip"
+# shellcheck disable=SC2016
+printf '#!/bin/sh\n[ -n "${GZIP+set}" ] || exec "%s" "$@"\n' "$(command -v gzip)" >"$room/old-gzip/gzip"
+chmod +x "$room/old-gzip/gzip"
+start "$room/old-gzip:$no_kit" env GZIP=--list "$room/prebuilt/vpc" x
+is 'GZIP' "$status $out" "0 one $PWD x"
+rm -rf "$room/prebuilt/out"
+# Some first starts at once: one takes it, all answer.
+for it in a b x y; do
+    PATH=$no_kit "$room/prebuilt/vpc" $it >"$room/out-$it" 2>"$room/err-$it" &
+done
+wait
+is 'prebuilt, four at once: answers' "$(cat "$room"/out-[abxy])" "one $PWD a
+one $PWD b
+one $PWD x
+one $PWD y"
+is 'prebuilt, four at once: one takes it' "$(cat "$room"/err-[abxy] | sed 's,/:.*,/,')" 'vpc: took the program of prebuilt/'
+is 'prebuilt, four at once: what stays' "$(cd "$room/prebuilt/out" && rm -f seen && echo *)" 'placing stamp taken vpc'
+rm -rf "$room/prebuilt/out"
+# More than 16 MiB are not unpacked, whatever the stamp tells.
+cp "$room/prebuilt/prebuilt/vpc.gz" "$room/whole.gz"
+{ printf '#!/bin/sh\necho large\nexit\n' && head -c 17000000 /dev/zero; } >"$room/large"
+gzip -9n <"$room/large" >"$room/prebuilt/prebuilt/vpc.gz"
+sed -i "\$s/^[0-9a-f]*/$(sha256sum <"$room/large" | cut -c 1-64)/" "$room/prebuilt/prebuilt/stamp"
+start "$no_kit" "$room/prebuilt/vpc" x
+fits 'more than 16 MiB' "$status $out $err" '125  vpc: *no rt in PATH*'
+head -c 16777216 "$room/large" | gzip -9n >"$room/prebuilt/prebuilt/vpc.gz"
+sed -i "\$s/^[0-9a-f]*/$(head -c 16777216 "$room/large" | sha256sum | cut -c 1-64)/" "$room/prebuilt/prebuilt/stamp"
+start "$no_kit" "$room/prebuilt/vpc" x
+is '16 MiB' "$status $out" '0 large'
+cp "$room/stamp" "$room/prebuilt/prebuilt/stamp"
+cp "$room/whole.gz" "$room/prebuilt/prebuilt/vpc.gz"
+rm -rf "$room/prebuilt/out" "$room/large"
+
+# Elsewhere than on Linux on x86-64 with the C library that the program needs: one sentence, before anything is taken or built,
+# also where the checkout has been used on another machine.
+elsewhere=$room/elsewhere
+mkdir "$elsewhere"
+# shellcheck disable=SC2016 # (the shells that are started expand them)
+{
+    printf '#!/bin/sh\n[ "$1" = -sm ] && echo "$SYSTEM"\n' >"$elsewhere/uname"
+    printf '#!/bin/sh\n[ "$1" = GNU_LIBC_VERSION ] && [ -n "$LIBRARY" ] && echo "$LIBRARY"\n' >"$elsewhere/getconf"
+    printf '#!/bin/sh\n[ -z "$LDD" ] || echo "$LDD"\n' >"$elsewhere/ldd"
+}
+chmod +x "$elsewhere"/*
+sentence='vpc: the program needs Linux on x86-64 with the GNU C library 2.34 or later, and this is'
+on() {
+    start "$elsewhere:$no_kit" env SYSTEM="$1" LIBRARY="$2" LDD="$3" "$room/prebuilt/vpc" x
+}
+while IFS='|' read -r system library ldd; do
+    on "$system" "$library" "$ldd"
+    fits "elsewhere, $system $library $ldd" "$status $out $err" "125  $sentence *$system, *"
+    is "elsewhere, $system $library $ldd: one line, nothing taken" "$(wc -l <"$room/err") $(ls -d "$room/prebuilt/out" 2>/dev/null)" '1 '
+done <<'END'
+Darwin arm64||
+FreeBSD amd64||
+Linux aarch64|glibc 2.36|
+Linux i686|glibc 2.36|
+Linux x86_64|glibc 2.33|
+Linux x86_64|glibc 2.9|
+Linux x86_64|glibc 2.17.1|
+Linux x86_64||ldd (Ubuntu GLIBC 2.31-0ubuntu9) 2.31
+END
+while IFS='|' read -r library ldd; do
+    on 'Linux x86_64' "$library" "$ldd"
+    is "here, $library $ldd" "$status $out" "0 one $PWD x"
+    rm -rf "$room/prebuilt/out"
+done <<'END'
+glibc 2.34|
+glibc 2.100|
+|ldd (Debian GLIBC 2.36-9) 2.36
+|
+END
+start "$no_kit" "$room/prebuilt/vpc" x
+sed -i 's|^loader=.*|loader=/lib64/none.so.2|' "$room/prebuilt/vpc"
+start "$no_kit" "$room/prebuilt/vpc" x
+fits 'elsewhere, no loader' "$status $out $err" "125  $sentence Linux x86_64, *"
+cp "$top/vpc" "$room/prebuilt/vpc"
 rm -rf "$room/prebuilt/out"
 
 # One of other sources, of another kit, damaged, or with no gzip isn't.
 no_gzip=$room/no-gzip
 mkdir "$no_gzip"
-for it in awk chmod cmp cp cut date find grep head mkdir mv nproc readlink rm sed sha256sum sh sort xargs cat; do
+for it in awk chmod cmp cp cut date find getconf grep head mkdir mv nproc readlink rm sed sha256sum sh sort stat tr uname xargs cat; do
     ln -s "$(command -v $it)" "$no_gzip/$it"
 done
 start "$no_gzip" "$room/prebuilt/vpc" x
 fits 'no gzip' "$status $out $err" '125  vpc: *no rt in PATH*'
+ln -s "$(command -v gzip)" "$no_gzip/gzip"
+start "$no_gzip" "$room/prebuilt/vpc" x
+is 'no flock' "$status $out" "0 one $PWD x"
+rm -rf "$room/prebuilt/out"
 start "$stand_in" env KIT='stand-in 2' "$room/prebuilt/vpc" x
 fits 'prebuilt by another kit' "$status $out $calls" "0 one $PWD x *rt all check*"
 rm -rf "$room/prebuilt/out"
-cp "$room/prebuilt/prebuilt/vpc.gz" "$room/whole.gz"
 head -c 40 "$room/whole.gz" >"$room/prebuilt/prebuilt/vpc.gz"
 start "$no_kit" "$room/prebuilt/vpc" x
 fits 'prebuilt cut short' "$status $out $err" '125  vpc: *no rt in PATH*'
 echo 'echo another' | gzip -9n >"$room/prebuilt/prebuilt/vpc.gz"
 start "$no_kit" "$room/prebuilt/vpc" x
 fits 'another prebuilt program' "$status $out $err" '125  vpc: *no rt in PATH*'
-is 'what was unpacked is gone' "$(ls "$room/prebuilt/out")" ''
+is 'what was unpacked is gone' "$(ls "$room/prebuilt/out")" placing
 cp "$room/whole.gz" "$room/prebuilt/prebuilt/vpc.gz"
 echo two >"$room/prebuilt/crates/vpc_cli/src/main.rt"
 start "$no_kit" "$room/prebuilt/vpc" x
 fits 'prebuilt of other sources' "$status $out $err" '125  vpc: *no rt in PATH*'
 start "$stand_in" "$room/prebuilt/vpc" x
 fits 'prebuilt of other sources, with a kit' "$status $out $calls" "0 two $PWD x *rt all check*"
+
+# A crate's name is letters, digits and _: no other is a folder, or printed.
+checkout "$room/names"
+printf '%s\n' '*: base' '../names: base' "$(printf 'a\033[31mb'): base" '-rf: base' >>"$room/names/crates.txt"
+sed -i 's/^vpc_cli: /&* ..\/names -rf /' "$room/names/crates.txt"
+start "$stand_in" env VPC_PROVE=1 "$room/names/vpc" x
+is 'names of crates' "$status $out $(printf '%s\n' "$err" | grep -c '^proving [a-z_]*, [1-4] of 4, [0-9]* s so far$')" "0 one $PWD x 4"
+
+# A file that may not grow: the program's write ends, and no signal.
+# shellcheck disable=SC3045
+(ulimit -f 1 && PATH=$stand_in "$room/names/vpc" long >"$room/out" 2>/dev/null)
+is 'a file that may not grow' $? 1
+
+# The first line of a log names the fields by which flows reads each line, or nothing is run.
+default='version account-id interface-id srcaddr dstaddr srcport dstport protocol packets bytes start end action log-status'
+cd "$room" || exit
+while read -r how names; do
+    # shellcheck disable=SC2059
+    printf "$names" >log.txt
+    names=$(printf '%.200s' "$names")
+    start "$stand_in" names/vpc flows bundle.json log.txt
+    case $how in
+    runs) is "flows, $names" "$status $out $err" "0 one $PWD flows bundle.json log.txt " ;;
+    *)
+        fits "flows, $names" "$status $out $err" '2  vpc: the first line of LOG names other fields *README.md*'
+        is "flows, $names: one line" "$(wc -l <err)" 1
+        ;;
+    esac
+done <<END
+runs $default
+runs $default\n2 1 eni-a - - - - - - - 1 2 - NODATA\n
+runs $default\r\n
+runs 2 1 eni-a - - - - - - - 1 2 - NODATA\n
+runs \n$default
+runs account-id version\n
+runs versions\n
+runs
+no version\n
+no version account-id interface-id dstaddr srcaddr srcport dstport protocol packets bytes start end action log-status\n
+no $default vpc-id\n
+no ${default% *}\n
+no version $(printf '%05000d' 0)\n
+END
+echo version >log.txt
+for it in 'flows bundle.json none.txt' 'flows bundle.json names' 'flows log.txt' 'flows bundle.json log.txt more' 'replay bundle.json log.txt'; do
+    # shellcheck disable=SC2086
+    start "$stand_in" names/vpc $it
+    is "not looked at, $it" "$status $out" "0 one $PWD $it"
+done
+mkfifo pipe
+cat log.txt >pipe &
+start "$stand_in" names/vpc flows bundle.json pipe
+is 'a pipe is not read' "$status $out" "0 one $PWD flows bundle.json pipe"
+cat pipe >/dev/null
+wait
 
 # The front door. Standard output and the status are the program's own, what is said of commands is on standard error.
 door=$room/door
@@ -386,7 +579,10 @@ if command -v script >/dev/null; then
     PATH=$stand_in TAKES=1.2 script -qec "stty cols 200; '$room/terminal/vpc' x" /dev/null >"$room/typed" </dev/null
     fits 'on a terminal' "$(tr '\r' '\n' <"$room/typed" | grep -c 'proving vpc_cli, 4 of 4, [0-9]* s so far')" '[1-9]*'
     is 'on a terminal: few lines' "$(wc -l <"$room/typed")" 2
+else
+    skipped=$((skipped + 1))
+    echo 'skipped: there is no script, which stands for a terminal'
 fi
 
-echo "$passed passed, $failed failed"
+echo "$passed passed, $failed failed, $skipped skipped"
 [ "$failed" = 0 ]

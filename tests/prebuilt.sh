@@ -7,7 +7,7 @@
 # GATE is a checkout of the same sources in which `rt ci` passed; without one it is this checkout's own build, by
 # `VPC_PROVE=1 ./vpc`. The program is stripped, which makes it smaller: two builds in different folders were equal without that
 # too. The last line is 'N passed, M failed'.
-unset CDPATH
+unset CDPATH GZIP
 top=$(cd -- "$(dirname -- "$0")/.." && pwd)
 room=$(mktemp -d)
 trap 'rm -rf "$room"' EXIT

@@ -23,8 +23,8 @@ TOP = os.path.dirname(os.path.dirname(os.path.abspath(__file__)))
 LINKED = ("vpc", "collect-bundle", "survey", "lines", "picture", "explain", "plan-bundle", "examples")
 # What a reader of README has, beside the program; and Python, which the scripts name.
 AT_HAND = (
-    "jq sh bash awk cat chmod cmp cp cut date dirname env find grep gzip head id ln ls mkdir mktemp mv nproc paste printf readlink rm sed "
-    "seq sha256sum sleep sort tail tr uniq wc xargs"
+    "jq sh bash awk cat chmod cmp cp cut date dirname env find getconf grep gzip head id ln ls mkdir mktemp mv nproc paste printf readlink rm sed "
+    "seq sha256sum sleep sort stat tail timeout tr uname uniq wc xargs"
 ).split()
 # The pages that name the kit.
 OF_THE_KIT = ("README.md", "docs/PROVED.md")
