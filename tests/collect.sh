@@ -1,10 +1,10 @@
 #!/bin/sh
 # Tests of collect-bundle over a stand-in for the command line of AWS, with the jq that is in PATH. The last line is
-# 'N passed, M failed'.
+# 'N passed, M failed, K skipped'.
 here=$(cd -- "$(dirname -- "$0")" && pwd)
 room=$(mktemp -d)
 trap 'rm -rf "$room"' EXIT
-passed=0 failed=0
+passed=0 failed=0 skipped=0
 CALLS=$room/calls
 PATH=$here/account:$PATH
 export CALLS PATH
@@ -83,6 +83,9 @@ if command -v script >/dev/null; then
     script -qec "'$collect' >/dev/null" /dev/null >"$room/typed" </dev/null
     is 'on a terminal no such lines' "$(grep -c asking "$room/typed")" 0
     is 'on a terminal one that moves' "$(tr '\r' '\n' <"$room/typed" | grep -c 'aws ec2 ')" "$(wc -l <"$CALLS")"
+else
+    skipped=$((skipped + 1))
+    echo 'skipped: there is no script, which stands for a terminal'
 fi
 
 # Entries, wrapped, and a note where a table is missing. A list that nothing names is left out.
@@ -216,5 +219,5 @@ if [ -w /dev/full ]; then
     is 'no room' "$? $(tail -n 1 "$room/err")" '1 collect-bundle: the bundle could not be written'
 fi
 
-echo "$passed passed, $failed failed"
+echo "$passed passed, $failed failed, $skipped skipped"
 [ "$failed" = 0 ]

@@ -1,12 +1,12 @@
 #!/bin/bash
 # Tests of completion/vpc.bash: tests/completion.sh [PROGRAM]. They call its function as bash does, and bash itself with keys typed where
 # `script` is there. With PROGRAM they ask whether the list in the launcher, from which it takes its words, has the commands
-# of that program and no others. The last line is 'N passed, M failed'.
+# of that program and no others. The last line is 'N passed, M failed, K skipped'.
 here=$(cd -- "$(dirname -- "$0")" && pwd)
 top=$(dirname -- "$here")
 room=$(mktemp -d)
 trap 'rm -rf "$room"' EXIT
-passed=0 failed=0
+passed=0 failed=0 skipped=0
 
 # Compares what was found ($2) with what is wanted ($3).
 is() {
@@ -184,7 +184,10 @@ if command -v script >/dev/null; then
     is 'typed at a terminal' "$(cat told)" \
         '<ask><my shop.json><from><eni-web><to><internet><port><443-443><trace><at-12:00.json><open><from><eni-app><udp><10.0.2.10><replay><folder/shop.json><at-12:00.json>'
     cd "$room" || exit
+else
+    skipped=$((skipped + 1))
+    echo 'skipped: there is no script, which stands for a terminal'
 fi
 
-printf '%s passed, %s failed\n' "$passed" "$failed"
+printf '%s passed, %s failed, %s skipped\n' "$passed" "$failed" "$skipped"
 ((failed == 0))
