@@ -2,7 +2,7 @@
 
 Usage: python3 bench/hostile.py [PROGRAM] [PART..]     (without PROGRAM, or with -: the program that ./vpc builds)
 
-The parts are ids, groups, addresses, blocks, ports, reports, events and texts; without them all are run. Each time is a
+The parts are ids, groups, addresses, blocks, ports, sides, reports, events and texts; without them all are run. Each time is a
 processor time (user and system), the least of up to three runs, beside that of python3's json.load of the same bundle where that is
 long enough to tell. No run may take more than 6 GiB, or it fails.
 """
@@ -141,6 +141,30 @@ def unanswered(count):
     return whole
 
 
+# ---- numbers on several sides, each of which is a piece of its own
+
+def numbers_on(*sides):
+    """Rows of ACLs that each refuse one number of a side (src, p or q), or an address more of the receiver (dst), so many on
+    each of these sides; no reply comes back."""
+    def made(count):
+        refused = {
+            "src": lambda k: acl_row(k + 1, False, "deny", block=f"{accounts.dotted((11 << 24) + 2 * k)}/32"),
+            "q": lambda k: acl_row(10_001 + k, False, "deny", (2 * k, 2 * k)),
+            "p": lambda k: acl_row(20_001 + k, True, "deny", (2 * k, 2 * k)),
+        }
+        whole = subnets([ALL], acl=[refused[side](k) for side in sides if side in refused for k in range(count)])
+        whole["NetworkAcls"][1]["Entries"].append(acl_row(31_000, True, "deny"))
+        # (replies to other sources go back to the first host)
+        whole["NetworkInterfaces"][0]["SourceDestCheck"] = "src" not in sides
+        whole["RouteTables"][1]["Routes"].append({"DestinationCidrBlock": "11.0.0.0/8", "NetworkInterfaceId": "eni-a", "State": "active"})
+        own = [accounts.dotted((10 << 24) + (2 << 8) + 20 + 2 * k) for k in range(count if "dst" in sides else 1)]
+        whole["NetworkInterfaces"][1]["PrivateIpAddresses"] = [{"PrivateIpAddress": a, "Primary": a == own[0]} for a in own]
+        return whole
+
+    made.__name__ = "sides-" + "-".join(sides)
+    return made
+
+
 # ---- reports, about bench/behind-nat.json
 
 WHOLE = [(0, 255), (0, 2**32 - 1), (0, 2**32 - 1), (0, 65535), (0, 65535)]
@@ -226,6 +250,33 @@ def many_hosts(count):
 def all_on_one_port(count):
     """Each host to one destination from the same port, so that each has to be given another one."""
     return "".join(f"open from eni-{k} tcp {accounts.dotted((10 << 24) + (1 << 16) + k)} {FAR} 1024 443\n" for k in range(count))
+
+
+APPLIANCES = 20
+
+
+def long_walk(count):
+    """A packet's way through 20 appliances, each in a subnet of its own, with an ACL that has so many other rows each way."""
+    whole = subnets([ALL])
+    local = {"DestinationCidrBlock": "10.0.0.0/16", "GatewayId": "local", "State": "active"}
+    names = [f"subnet-{s}" for s in range(APPLIANCES + 2)]
+    whole["Subnets"] = [{"SubnetId": name, "VpcId": "vpc-1", "AvailabilityZone": "z"} for name in names]
+    whole["NetworkInterfaces"] = [
+        {"NetworkInterfaceId": f"eni-{s}", "SubnetId": name, "PrivateIpAddress": f"10.0.{s}.10", "Groups": [{"GroupId": "sg-b"}, {"GroupId": "sg-a"}], "SourceDestCheck": s in (0, APPLIANCES + 1)}
+        for s, name in enumerate(names)
+    ]
+    whole["RouteTables"] = [{"RouteTableId": "rtb-1", "VpcId": "vpc-1", "Associations": [{"Main": True}], "Routes": [local]}]
+    for s, name in enumerate(names[:APPLIANCES]):
+        further = {"DestinationCidrBlock": f"10.0.{APPLIANCES + 1}.0/24", "NetworkInterfaceId": f"eni-{s + 1}", "State": "active"}
+        whole["RouteTables"].append({"RouteTableId": f"rtb-{s + 2}", "VpcId": "vpc-1", "Associations": [{"Main": False, "SubnetId": name}], "Routes": [local, further]})
+    whole["Appliances"] = [{"NetworkInterfaceId": f"eni-{s + 1}", "Kind": "service", "Ports": "443-443"} for s in range(APPLIANCES)]
+    others = [acl_row(k + 1, egress, "deny", block=f"11.{k // 256}.{k % 256}.0/24") for egress in (False, True) for k in range(count)]
+    whole["NetworkAcls"] = [{"NetworkAclId": "acl-1", "Associations": [{"SubnetId": name} for name in names], "Entries": [*others, acl_row(32000, False), acl_row(32000, True)]}]
+    return whole
+
+
+def through_all(count):
+    return "".join(f"open from eni-0 tcp 10.0.0.10 10.0.{APPLIANCES + 1}.10 {1024 + k} 443\n" for k in range(count))
 
 
 # ---- texts
@@ -330,6 +381,20 @@ def ports():
     bundle("a rule for each port and no reply, asked", unanswered, 65_536, f"ask {BETWEEN}", 1)
 
 
+def sides():
+    for named, on, counts in (
+        ("q", ("q",), (400, 1_600)), ("q and p", ("q", "p"), (200, 400, 800)), ("src, q and p", ("src", "q", "p"), (16, 32, 64)),
+        ("src, dst, q and p", ("src", "dst", "q", "p"), (8, 16, 32)),
+    ):
+        asked = f"ask {BETWEEN}{' src 11.0.0.0/8' if 'src' in on else ''}{' dst 10.0.2.0/24' if 'dst' in on else ''}"
+        for count in counts:
+            # (what lies between the numbers of the other sides goes on, to be cut by those of the last)
+            parts = (count + 1) ** (len(on) - 1) * (2 * count + 1)
+            bundle(f"numbers on {named}, so many on each", numbers_on(*on), count, asked, 1 if parts < 15_000 else 5)
+    for count in (200, 400, 800):
+        bundle("numbers on q and p, so many on each", numbers_on("q", "p"), count, "matrix", 0)
+
+
 def reports():
     for shape, make, count, code in (("one box again and again", same_box, 20_000, 1), ("slices, of which the last two overlap", one_overlap, 20_000, 1), ("each within the one before", concentric, 20_000, 1)):
         path = text_file(f"hostile-{make.__name__}.txt", make, count)
@@ -348,6 +413,11 @@ def events():
         hosts = written(f"hostile-hosts-{count}.json", many_hosts, count, separators=(",", ":"))
         path = text_file(f"hostile-hosts-{count}.txt", all_on_one_port, count)
         line(f"hosts that all send from one port: {count:,}", path, ["replay", hosts, path], 0, False)
+    for count in (0, 16_000):
+        way = written(f"hostile-way-{count}.json", long_walk, count, separators=(",", ":"))
+        for packets in (1, 1_000):
+            path = text_file(f"hostile-way-{packets}.txt", through_all, packets)
+            line(f"packets through 20 appliances, {count:,} rows of an ACL each way: {packets:,}", path, ["replay", way, path], 0, False)
 
 
 def texts():
@@ -356,7 +426,7 @@ def texts():
         line(f"{shape}, {answer}", path, ["trace", path, *WALK.split()], 3 if answer == "refused" else 4)
 
 
-PARTS = (ids, groups, addresses, blocks, ports, reports, events, texts)
+PARTS = (ids, groups, addresses, blocks, ports, sides, reports, events, texts)
 
 
 def main():

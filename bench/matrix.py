@@ -10,6 +10,7 @@ OTHER, the times of a second program stand beside those of the first, and their 
 - three tiers of one account: 480 hosts in one VPC of nine subnets, by groups that name each other; ACLs of a few rows
 - an account of 500 hosts in one VPC (accounts.py): groups of 20 rules by references, blocks and prefix lists
 - ten VPCs over a transit gateway with 50 hosts each: 100 groups of 60 rules, ACLs of a few rows
+- one VPC with 400 groups of 60 rules, each of which lets the whole VPC in to ports of its own; each host is in two of them
 """
 
 import hashlib
@@ -100,11 +101,27 @@ def over_transit(count):
     return wide.account(10)
 
 
+def many_ranges(count):
+    """So many hosts in one VPC, each in two of 400 groups with 60 ranges of ports for all of the VPC."""
+    whole = {"Vpcs": [{"VpcId": "vpc-1", "CidrBlock": "10.0.0.0/16"}], "Subnets": [], "NetworkInterfaces": [], "RouteTables": [], "NetworkAcls": []}
+    local = {"DestinationCidrBlock": "10.0.0.0/16", "GatewayId": "local"}
+    whole["RouteTables"].append({"RouteTableId": "rtb-main", "VpcId": "vpc-1", "Associations": [{"Main": True}], "Routes": [local]})
+    whole["Subnets"] = [{"SubnetId": f"subnet-{s}", "VpcId": "vpc-1", "AvailabilityZone": "zone-0"} for s in range(10)]
+    whole["NetworkAcls"].append({"NetworkAclId": "acl-1", "Associations": [{"SubnetId": f"subnet-{s}"} for s in range(10)], "Entries": [entry(100, False), entry(100, True)]})
+    for k in range(count):
+        groups = [{"GroupId": f"sg-{k % 400}"}, {"GroupId": f"sg-{(7 * k + 1) % 400}"}]
+        whole["NetworkInterfaces"].append({"NetworkInterfaceId": f"eni-{k}", "SubnetId": f"subnet-{k % 10}", "PrivateIpAddress": f"10.0.{k // 200}.{4 + k % 200}", "Groups": groups})
+    firsts = [[1000 + (61 * g + 977 * r) % 60000 for r in range(60)] for g in range(400)]
+    whole["SecurityGroups"] = [group(g, [tcp(first, first + r % 20, IpRanges=[{"CidrIp": "10.0.0.0/16"}]) for r, first in enumerate(its)]) for g, its in enumerate(firsts)]
+    return whole
+
+
 NETWORKS = [
     ("the network of `make 50`", made, 50, "eni-1 tcp 10.1.1.10 10.2.1.10"),
     ("three tiers", three_tiers, 480, "eni-web-0 tcp 10.0.0.4 10.0.16.4"),
     ("an account in one VPC", in_one_vpc, 500, f"{accounts.hexed('eni', 0)} tcp 10.0.1.4 10.0.17.4"),
     ("ten VPCs over a transit gateway", over_transit, 500, "eni-0-0 tcp 10.0.0.4 10.1.0.4"),
+    ("one VPC, 400 groups of 60 ranges", many_ranges, 500, "eni-0 tcp 10.0.0.4 10.0.0.5"),
 ]
 
 
