@@ -7,13 +7,14 @@
 
 _vpc_beside=$(cd -- "$(dirname -- "${BASH_SOURCE[0]}")/.." 2>/dev/null && pwd)/vpc
 
-# The commands, a line each, as the launcher that is called as $1 has them.
+# The commands, a line each, as the launcher that is called as $1 has them. That may be any file: of its list a line is kept only
+# where it is a name, and places of letters, blanks and brackets.
 _vpc_commands() {
     local launcher list=
     for launcher in "$(type -P -- "$1")" "$_vpc_beside"; do
         # (the built program, which may be called in its place, has no list)
         [[ -f $launcher && -r $launcher ]] || continue
-        list=$(head -c 65536 -- "$launcher" | LC_ALL=C sed -n "/^commands='\$/,/^'\$/s/^\([a-z][^|]*\)|.*/\1/p")
+        list=$(head -c 65536 -- "$launcher" | LC_ALL=C sed -n "/^commands='\$/,/^'\$/s/^\([a-z][a-z]*\( [][A-Za-z -]*\)\{0,1\}\)|.*/\1/p")
         [[ -z $list ]] || break
     done
     printf '%s\n' "$list"
@@ -32,15 +33,24 @@ _vpc_ends() {
         cut -d '"' -f 4 | LC_ALL=C sort -u
 }
 
+# The words of $2 that begin with $1. (compgen -W would call the commands that stand in them)
+_vpc_words() {
+    local words word
+    read -rd '' -a words <<<"$2"
+    for word in "${words[@]}"; do
+        [[ $word != "$1"* ]] || printf '%s\n' "$word"
+    done
+}
+
 # What a place of the kind $1 may have that begins with $2; the bundles of the line follow. Kinds are the words in the list:
 # those in small letters stand for themselves, and what isn't told apart here is the name of a file.
 _vpc_fill() {
     case $1 in
     END) _vpc_ends "${@:2}" ;;
-    LABEL) compgen -W 'open answer' -- "$2" ;;
-    PROTO) compgen -W 'tcp udp icmp' -- "$2" ;;
+    LABEL) _vpc_words "$2" 'open answer' ;;
+    PROTO) _vpc_words "$2" 'tcp udp icmp' ;;
     SRC | DST | P | Q | N | PREFIX | A-B) ;;
-    *[!A-Z]*) compgen -W "$1" -- "$2" ;;
+    *[!A-Z]*) _vpc_words "$2" "$1" ;;
     *) compgen -f -- "$2" ;;
     esac
 }

@@ -4,6 +4,7 @@
 # of that program and no others. The last line is 'N passed, M failed, K skipped'.
 here=$(cd -- "$(dirname -- "$0")" && pwd)
 top=$(dirname -- "$here")
+[[ -z ${1-} || $1 == /* ]] || set -- "$PWD/$1"
 room=$(mktemp -d)
 trap 'rm -rf "$room"' EXIT
 passed=0 failed=0 skipped=0
@@ -157,9 +158,46 @@ for it in ./built ./none /dev/null; do
 done
 is 'by PATH' "$(PATH=$room/work:$PATH behind 'other ')" "map|weigh|$commands|help"
 
+# A launcher may be any file that is called vpc: nothing that stands in its list is called, and what is no name or place isn't offered.
+mkdir "$room/strange" && cd "$room/strange" || exit
+cp "$top/examples/one-subnet.json" .
+cat >vpc <<'END'
+commands='
+ask$(>ran) FILE | |
+a`>ran`b FILE | |
+$(>ran) FILE | |
+alpha$IFS$(>ran) FILE | |
+beta FILE $(>ran) | |
+beta FILE from $(>ran) END | |
+gamma FILE [from END] [$(>ran) END] | |
+delta FILE ${bundles[$(>ran)]} | |
+epsilon FILE bundles[$(>ran)] | |
+zeta * ~ ? {a,b} | |
+eta FILE "$(>ran)" | |
+theta FILE <(>ran) | |
+iota [a[`>ran`] END] | |
+good FILE ask [from END] [to END] | |
+'
+END
+chmod +x vpc
+is 'hostile: commands' "$(behind './vpc ')" 'good|help'
+for it in ask alpha beta gamma delta epsilon zeta eta theta iota; do
+    is "hostile: behind $it" "$(behind "./vpc $it ")$(behind "./vpc $it one-subnet.json ")$(behind "./vpc $it one-subnet.json from ")" ''
+done
+is 'hostile: a word of its own' "$(behind './vpc good one-subnet.json ')" ask
+is 'hostile: pairs' "$(behind './vpc good one-subnet.json ask ')" 'from|to'
+is 'hostile: an end' "$(behind './vpc good one-subnet.json ask from eni-a to ')" 'internet|eni-a|eni-b'
+# (the words of the line too: it may have been pasted)
+# shellcheck disable=SC2016
+for it in '$(>ran)' '`>ran`' '${x[$(>ran)]}' '<(>ran)'; do
+    is "hostile: typed $it" "$(behind "./vpc $it")$(behind "./vpc good $it")$(behind "./vpc good one-subnet.json $it")$(behind "./vpc good one-subnet.json ask from $it")$(behind "./vpc $it ")" ''
+done
+is 'hostile: nothing was called' "$(echo ./*)" './one-subnet.json ./vpc'
+cd "$room/work" || exit
+
 # With the list of this program.
 if [[ ${1-} ]]; then
-    [[ $1 == /* ]] || set -- "$OLDPWD/$1"
+    is 'the program can be run' "$([[ -x $1 ]] && echo yes)" yes
     for it in trace ask check replay make matrix reach diff expect flows unused ${commands//|/ }; do
         is "the list has $it where the program does" "$(grep -q -x "$it" <<<"${commands//|/$'\n'}" && echo yes)" "$([[ $("$1" "$it") == 'refused words 1' ]] || echo yes)"
     done
