@@ -11,6 +11,7 @@ are damaged, or about another bundle, are refused. The last line is 'N passed, M
 import argparse
 import contextlib
 import copy
+import functools
 import io
 import itertools
 import json
@@ -595,6 +596,129 @@ def run_others(results, asked):
     results.add("as a process", (ran.returncode, ran.stdout.decode(), ran.stderr), (0, explain(walk, asked.path)[1], b""))
 
 
+# ---- bundles that were written to deceive, and such as vpc alone takes
+
+# Lines of its own, a colour, the clearing of a screen in two forms, and a change of direction.
+FORGED = "x.\n  Why: forged\r\x1b[31m\x1b[2J\x9b2J\u2028\u202e To change: nothing"
+STRAY = re.compile(r"[^\n -~]")
+NO_STATE, NO_CODE = f"the state of NAT gateway nat-1 is {json.dumps(FORGED)}.", f"the status of peering pcx-1 is {json.dumps(FORGED)}."
+
+
+def with_instance(bundle):
+    """An instance with a name, and tags of all kinds of rows."""
+    bundle["Reservations"] = [{"Instances": [{"InstanceId": "i-1", "Tags": [{"Key": "Name", "Value": "one"}], "NetworkInterfaces": [{"NetworkInterfaceId": "eni-b"}]}]}]
+    row(bundle, "eni-a")["Attachment"] = {"InstanceId": "i-1", "DeviceIndex": 0}
+    row(bundle, "vpc-a")["CidrBlockAssociationSet"] = [{"CidrBlock": "10.1.0.0/16", "CidrBlockState": {"State": "associated"}}]
+    bundle["SecurityGroupRules"] = [{"SecurityGroupRuleId": "sgr-1", "GroupId": "sg-c", "IsEgress": False, "IpProtocol": "-1", "CidrIpv4": ANYWHERE, "Tags": []},
+                                    {"SecurityGroupRuleId": "sgr-2", "GroupId": "sg-c", "IsEgress": True, "IpProtocol": "-1", "CidrIpv4": ANYWHERE, "ReferencedGroupInfo": {"GroupId": "sg-a"}}]
+    return bundle
+
+
+def places(value):
+    """Each place within a value: what has it, and its key."""
+    for key in value if isinstance(value, dict) else range(len(value)) if isinstance(value, list) else ():
+        yield value, key
+        yield from places(value[key])
+
+
+def is_plain(status, out, err):
+    """Whether nothing but lines of visible letters was printed, and one alone where it is refused."""
+    letters = STRAY.sub("", out + err) == (out + err).replace("\ufffd", "")
+    return letters and (status, out, err.count("\n"), err[:9]) == (2, "", 1, "explain: ") if status else letters and err == ""
+
+
+def run_forged(results, asked):
+    """Each text of a bundle in turn is one that would be lines of its own at a terminal. Of states vpc takes any."""
+    for name, member, words, stop, why in (("nat-1", {"State": FORGED}, TO_NET.format("198.51.100.7"), "stopped NatNotAvailable nat-1 -", NO_STATE),
+                                           ("pcx-1", {"Status": {"Code": FORGED}}, TO_NET.format("10.2.9.1"), "stopped PeerNotActive pcx-1 -", NO_CODE)):
+        bundle = copy.deepcopy(BASE)
+        updated(bundle, name, **member)
+        text = asked.answer(bundle, "trace", words)
+        status, out, err = explain(text, asked.path)
+        results.add(f"forged: {stop}", (stop in text, status, err, [why] == sentences(out)[0], is_plain(status, out, err)), (True, 0, "", True, True))
+    clean, wrong = with_instance(copy.deepcopy(BASE)), []
+    texts = [asked.answer(clean, "trace", it) for it in (TO_B.format(22), TO_B.format(5432), TO_NET.format("198.51.100.7"), TO_NET.format("10.2.9.1"), TO_NET.format("10.1.3.10"))]
+    texts += [asked.answer(clean, "ask", it) for it in ("from eni-a to eni-b", "from eni-a to eni-b port 22-22", "from internet to eni-c")]
+    for number in range(sum(1 for _ in places(clean))):
+        bundle = copy.deepcopy(clean)
+        part, key = next(itertools.islice(places(bundle), number, None))
+        if not isinstance(part[key], str):
+            continue
+        part[key] += FORGED
+        with open(asked.path, "w", encoding="utf-8") as file:
+            json.dump(bundle, file)
+        for text in texts:
+            told = explain(text, asked.path)
+            if not is_plain(*told) or "\n  Why: forged" in told[1]:
+                wrong.append((key, part[key], told))
+    results.add("forged: each text in turn", wrong[:3], [])
+    folder = os.path.join(asked.folder, "a\x1b[2J\nexplain: all is well")
+    status, out, err = explain(texts[0], folder)
+    results.add("forged: the name of a file", (status, out, is_plain(status, out, err)), (2, "", True))
+
+
+def misfit(asked, bundle, before):
+    """What is otherwise than it has to be: a bundle that vpc takes is told of, and of another one nothing is but one line or what the text before had."""
+    text = asked.answer(bundle, "trace", TO_B.format(5432))
+    is_taken = not text.startswith("refused")
+    told = explain(text if is_taken else before, asked.path)
+    return None if is_plain(*told) and (told[0] == 0 or not is_taken) else (text[:60], told)
+
+
+def run_taken(results, asked):
+    """What stands in the place of objects and lists that vpc reads over, and whatever anywhere."""
+    clean = with_instance(copy.deepcopy(BASE))
+    before, ids = asked.answer(clean, "trace", TO_B.format(5432)), ("vpc-a", "nat-1", "sg-b", "rtb-a", "acl-a", "igw-1", "pcx-1", "att-a", "sgr-1")
+    for member, name in [("Association", "att-b"), ("TagSet", "eni-a"), ("Attachment", "eni-a"), ("Associations", "rtb-a"), *(("Tags", it) for it in ids)]:
+        for value in (7, "x", [7], [[]], {"Key": "Name"}, True):
+            bundle = copy.deepcopy(clean)
+            updated(bundle, name, **{member: [value, *row(bundle, name)[member]] if member == "Associations" else value})
+            results.add(f"taken: {member} of {name} is {json.dumps(value)}", misfit(asked, bundle, before), None)
+    for part, key in ((("NetworkInterfaces", 1, "PrivateIpAddresses", 0), "Association"), (("SecurityGroupRules", 1), "ReferencedGroupInfo"), (("Vpcs", 0, "CidrBlockAssociationSet", 0), "CidrBlockState"),
+                      (("Reservations",), 0), (("Reservations", 0), "Instances"), (("Reservations", 0, "Instances"), 0), (("Reservations", 0, "Instances", 0), "NetworkInterfaces"), (("Reservations", 0, "Instances", 0), "InstanceId"),
+                      (("Reservations", 0, "Instances", 0, "NetworkInterfaces"), 0), (("NetworkInterfaces", 0, "TagSet"), 0), (("NetworkInterfaces", 0, "TagSet", 0), "Value")):
+        for value in (7, "x", [7], {"State": 7} if key != "CidrBlockState" else 8, None):
+            bundle = copy.deepcopy(clean)
+            functools.reduce(lambda value, it: value[it], part, bundle)[key] = value
+            results.add(f"taken: {key} in {part} is {json.dumps(value)}", misfit(asked, bundle, before), None)
+    rng, wrong = random.Random(5), []
+    for _ in range(300):
+        bundle = copy.deepcopy(clean)
+        part, key = rng.choice(list(places(bundle)))
+        part[key] = rng.choice([7, "x", [7], [[]], {"a": 1}, None, True, -1, 1.5, "", [], {}, "1" * 5000, "10.0.0.0/-99999999999", 10 ** 400])
+        wrong.append(misfit(asked, bundle, before))
+    results.add("taken: whatever stands anywhere", list(filter(None, wrong))[:3], [])
+
+
+def put(asked, bundle):
+    with open(asked.path, "w", encoding="utf-8") as file:
+        json.dump(bundle, file)
+    return asked.path
+
+
+def run_numbers(results, asked):
+    """Numbers that are none, and such as are too long, in a bundle and in a text."""
+    text, report, many = asked.answer(BASE, "trace", TO_B.format(22)), asked.answer(BASE, "ask", "from eni-a to eni-b port 22-22"), "1" * 5000
+    data = json.dumps(BASE)
+    for name, old, new in (("NaN", '"RuleNumber": 100', '"RuleNumber": NaN'), ("Infinity", '"RuleNumber": 100', '"RuleNumber": -Infinity'), ("5,000 digits", '"RuleNumber": 100', f'"RuleNumber": {many}'),
+                           ("5,000 digits in a text", '"IpProtocol": "-1"', f'"IpProtocol": "{many}"'), ("a port of 5,000 digits", '"Ports": "443-443"', f'"Ports": "443-{many}"'),
+                           ("a length", "10.1.0.0/16", f"10.1.0.0/{many}"), ("a length below 0", "10.1.0.0/16", "10.1.0.0/-99999999999"), ("a block of 2^32 bits", "10.1.1.10", "10.1.1.10." * 1000),
+                           ("a table that isn't there", '"SubnetId": "subnet-b"', '"SubnetId": "subnet-z"'), ("no ACL", '"Associations": [{"SubnetId": "subnet-a"}, ', '"Associations": ['),
+                           ("no main table", '"Associations": [{"Main": true}]', '"Associations": []')):
+        assert old in data, old
+        with open(asked.path, "w", encoding="utf-8") as file:
+            file.write(data.replace(old, new))
+        refused = subprocess.run([asked.program, "trace", asked.path, *TO_B.format(22).split()], capture_output=True, text=True, check=False).stdout
+        for words in (text, report):
+            status, out, err = explain(words, asked.path)
+            results.add(f"numbers: {name}", (refused[:7], status, out, is_plain(status, out, err)), ("refused", 2, "", True))
+    put(asked, BASE)
+    for name, words in (("a hop", text.replace("hop 2 ", f"hop {many} ")), ("a port", text.replace(" 5000 22", f" {many} 22")), ("a row", report.replace("row 1 ", f"row {many} ")), ("an end", report.replace("end 1", f"end {many}")),
+                        ("an event", f"event {many} stopped GroupsIn eni-b -\n"), ("a check", f"no overlap {many} {many}\n"), ("an untrue one", f"no untrue {many} tcp 10.0.1.10 10.0.1.20 {many} 443 through\n")):
+        status, out, err = explain(words, asked.path)
+        results.add(f"numbers: 5,000 digits of {name}", (status, out, is_plain(status, out, err)), (2, "", True))
+
+
 def main():
     parser = argparse.ArgumentParser(description=__doc__, formatter_class=argparse.RawDescriptionHelpFormatter)
     parser.add_argument("program")
@@ -608,6 +732,9 @@ def main():
         results.add("all stops", {it[0].split(",")[0].split(" ")[0] for it in STOPS}, set(EXPLAIN["NAMES"]))
         run_examples(results, asked)
         run_others(results, asked)
+        run_forged(results, asked)
+        run_taken(results, asked)
+        run_numbers(results, asked)
         run_random(results, asked, told.cases)
     print(f"{results.passed} passed, {results.failed} failed")
     return 1 if results.failed else 0
