@@ -226,18 +226,24 @@ def to(cidr, **target):
     return {"DestinationCidrBlock": cidr, **target, "Origin": "CreateRoute", "State": "active"}
 
 
+def lines_of(told):
+    """What stands on standard error where this is told: a line each, and at last of how many changes."""
+    about = {it.split(": ")[0] for it in told}
+    return [*(f"not applied: {it}" for it in told), *[f"{len(about)} changes not applied"] * bool(told)]
+
+
 def row_of(bundle, name, found):
     return next(it for it in bundle[name] if it[KEYS[name]] == found)
 
 
-def edited(edits):
-    """BASE with edits: `+LIST` adds rows, `-LIST` takes those with these ids away, and `LIST ID MEMBER` is what a member becomes."""
-    bundle = copy.deepcopy(BASE)
-    for place, value in edits.items():
+def edited(edits, base):
+    """A bundle with edits: `+LIST` adds rows, `-LIST` takes those with these ids away, and `LIST ID MEMBER` is what a member becomes."""
+    bundle = copy.deepcopy(base)
+    for place, value in sorted(edits.items(), key=lambda it: it[0][0] == "+"):
         if place[0] == "+":
             bundle[place[1:]] += value
         elif place[0] == "-":
-            bundle[place[1:]] = [it for it in bundle[place[1:]] if it[KEYS[place[1:]]] not in value]
+            bundle[place[1:]] = [it for it in bundle[place[1:]] if it.get(KEYS[place[1:]]) not in value]
         else:
             name, found, inner = place.split(" ")
             row_of(bundle, name, found)[inner] = value
@@ -261,7 +267,16 @@ ENI_WEB = row_of(BASE, "NetworkInterfaces", "eni-web")
 TIED = {"AssociationState": {"State": "associated"}}
 DOESNT = "plan-bundle doesn't know how; packets may go otherwise than the printed bundle has it"
 HIDDEN = "it makes, changes or takes away interfaces that a plan doesn't tell"
+UNSURE = "plan-bundle doesn't know whether packets go otherwise by it"
 LATER = "isn't known before the apply"
+
+MANY = "1" * 5000
+# Types that may touch a network for all that is known, and types that are known to touch none.
+STRANGE = ("rds_cluster_instance", "rds_cluster", "ecs_service", "autoscaling_group", "vpclattice_service", "fms_policy", "cloudformation_stack", "route53_resolver_endpoint", "spot_instance_request", "api_gateway_vpc_link",
+           "apigatewayv2_vpc_link", "organizations_policy", "ec2_fleet", "globalaccelerator_accelerator", "verifiedaccess_endpoint", "guardduty_detector", "made_up", "s3", "iamx_role", "subnet_group_of_all", "kmsx")
+KNOWN = ("s3_bucket", "s3_bucket_policy", "iam_role", "iam_role_policy_attachment", "iam_policy", "kms_key", "kms_alias", "cloudwatch_log_group", "cloudwatch_metric_alarm", "cloudwatch_event_rule", "sns_topic", "sns_topic_subscription", "sqs_queue", "route53_record", "route53_zone",
+         "dynamodb_table", "ecr_repository", "ssm_parameter", "key_pair", "secretsmanager_secret", "acm_certificate", "ebs_volume", "volume_attachment", "launch_template", "ecs_cluster", "ecs_task_definition", "lb_target_group_attachment", "lb_listener", "db_parameter_group",
+         "elasticache_subnet_group", "wafv2_web_acl", "lambda_permission", "cloudtrail", "flow_log", "vpc_dhcp_options_association", "vpc_peering_connection_options", "eip_domain_name")
 
 # Name; plan; what is told; what becomes of the bundle; packets, each with the program's last line.
 ROWS = [
@@ -554,19 +569,136 @@ ROWS += [
     ("other resources of the network", plan([change(f"{it}.a", "create", None, {}, {"id": True}) for it in ("aws_internet_gateway", "aws_nat_gateway", "aws_vpc_peering_connection", "aws_ec2_transit_gateway", "aws_ec2_transit_gateway_route", "aws_vpc_endpoint", "aws_vpc_ipv4_cidr_block_association", "aws_ec2_managed_prefix_list", "aws_eip", "aws_default_vpc", "awscc_ec2_subnet")]
                                             + [change("aws_internet_gateway.b", "delete", {"id": "igw-1"}, None), change("aws_nat_gateway.b", "update", {"id": "nat-1", "subnet_id": "a"}, {"id": "nat-1", "subnet_id": "b"})]),
      [f"{it}: {DOESNT}" for it in ("aws_internet_gateway.a", "aws_nat_gateway.a", "aws_vpc_peering_connection.a", "aws_ec2_transit_gateway.a", "aws_ec2_transit_gateway_route.a", "aws_vpc_endpoint.a", "aws_vpc_ipv4_cidr_block_association.a", "aws_ec2_managed_prefix_list.a", "aws_eip.a", "aws_default_vpc.a", "awscc_ec2_subnet.a", "aws_internet_gateway.b", "aws_nat_gateway.b")], {}, []),
-    ("resources with interfaces of their own", plan([change("aws_instance.a", "create", None, {"subnet_id": "subnet-web"}, {"id": True}), change("aws_instance.b", "update", {"id": "i-1", "vpc_security_group_ids": ["sg-web"]}, {"id": "i-1", "vpc_security_group_ids": ["sg-db"]}), change("aws_instance.c", "update", {"id": "i-2", "user_data": "a"}, {"id": "i-2", "user_data": "b"}),
-                                                     change("aws_lb.a", "create", None, {"subnets": ["subnet-web"]}, {"id": True}), change("aws_lambda_function.a", "delete", {"vpc_config": [{"subnet_ids": ["subnet-web"]}]}, None), change("aws_db_instance.a", "update", {"vpc_security_group_ids": ["sg-db"], "size": 1}, {"vpc_security_group_ids": ["sg-db"], "size": 2}),
+    ("resources with interfaces of their own", plan([change("aws_lb.a", "create", None, {"subnets": ["subnet-web"]}, {"id": True}), change("aws_lambda_function.a", "delete", {"vpc_config": [{"subnet_ids": ["subnet-web"]}]}, None), change("aws_db_instance.a", "update", {"vpc_security_group_ids": ["sg-db"], "size": 1}, {"vpc_security_group_ids": ["sg-db"], "size": 2}),
                                                      change("aws_eks_cluster.a", "create", None, {"vpc_config": [{}]}, {"vpc_config": [{"subnet_ids": True}]})]),
-     [f"{it}: {HIDDEN}" for it in ("aws_instance.a", "aws_instance.b", "aws_lb.a", "aws_lambda_function.a", "aws_eks_cluster.a")], {}, []),
+     [f"{it}: {HIDDEN}" for it in ("aws_lb.a", "aws_lambda_function.a", "aws_eks_cluster.a")], {}, []),
     ("what says nothing of packets", plan([change("aws_s3_bucket.a", "create", None, {"bucket": "b"}, {"id": True}), change("aws_db_subnet_group.a", "create", None, {"subnet_ids": ["subnet-db"]}, {"id": True}), change("aws_lb_target_group.a", "delete", {"vpc_id": "vpc-1"}, None), change("aws_vpc_dhcp_options.a", "create", None, {}, {"id": True}),
                                            change("aws_flow_log.a", "create", None, {"subnet_id": "subnet-db"}, {}), change("random_id.a", "create", None, {"subnet_id": "x"}, {}), change("google_compute_network.a", "create", None, {}, {})]), [], {}, []),
+    ("what decides where packets go, beside what only looks like it", plan([change(f"aws_{it}.a", "create", None, {}, {"id": True}) for it in ("networkfirewall_firewall_policy", "networkfirewall_rule_group", "ec2_transit_gateway_policy_table", "vpc_endpoint_service", "vpc_endpoint_connection_accepter", "dx_gateway", "vpc_endpoint_policy", "dx_lag", "network_interface_permission")]),
+     [f"aws_{it}.a: {DOESNT}" for it in ("networkfirewall_firewall_policy", "networkfirewall_rule_group", "ec2_transit_gateway_policy_table", "vpc_endpoint_service", "vpc_endpoint_connection_accepter", "dx_gateway")], {}, []),
+    ("what isn't known to touch no network", plan([change(f"aws_{it}.a", "create", None, {"name": "a"}, {"id": True}) for it in STRANGE] + [change("aws_made_up.b", "delete", {"id": "x"}, None), change("aws_made_up.c", "update", {"id": "x", "size": 1}, {"id": "x", "size": 2}),
+                                                   change("aws_made_up.d", "update", {"id": "x"}, {"id": "x"}, {"size": True}), change("aws_made_up.e", "update", {"id": "x", "tags": {}}, {"id": "x", "tags": {"a": "b"}}), no_op("aws_made_up.f", {"id": "x"}), change("aws_route53_resolver_endpoint.a", "create", None, {"ip_address": [{"subnet_id": "subnet-db"}]}, {})]),
+     [*(f"aws_{it}.a: {UNSURE}" for it in STRANGE), *(f"aws_made_up.{it}: {UNSURE}" for it in "bcd"), f"aws_route53_resolver_endpoint.a: {HIDDEN}"], {}, []),
+    ("what is known to touch none", plan([change(f"aws_{it}.a", actions, before, after) for it in KNOWN for actions, before, after in (("create", None, {"id": "x", "subnet_ids": ["subnet-db"]}), ("delete", {"id": "x"}, None), ("update", {"id": "x"}, {"id": "x", "size": 2}))]), [], {}, []),
+    ("functions outside of VPCs", plan([change("aws_lambda_function.a", "create", None, {"vpc_config": []}, {"id": True}), change("aws_lambda_function.b", "update", {"vpc_config": [{"subnet_ids": ["subnet-db"]}]}, {"vpc_config": [{"subnet_ids": ["subnet-db"]}], "timeout": 3}), change("aws_lambda_function.c", "delete", {}, None)]), [], {}, []),
+    ("a database that is made public", plan([change("aws_db_instance.a", "update", {"publicly_accessible": False}, {"publicly_accessible": True})]), [f"aws_db_instance.a: {HIDDEN}"], {}, []),
     ("what Terraform puts off", plan([], deferred_changes=[{"reason": "resource_config_unknown", "resource_change": change("aws_route.a", "create", None, {})}]), ["aws_route.a: Terraform puts it off"], {}, []),
     ("an address that is no id", plan([change('aws_security_group.a["b c\u00e9"]', "create", None, group("new"), NEW_GROUP)]), [], {"+SecurityGroups": [new_group("new", 'aws_security_group.a["b_c_"]~a39c7f05c4be')]}, []),
 ]
 
+ROWS += [
+    # texts and numbers to deceive, or to end a script by
+    ("lines in a reference", plan([change("aws_security_group_rule.a", "create", None, {it: value for it, value in rule("ingress", "sg-db", "tcp", 22, 22).items() if it != "source_security_group_id"}, {"source_security_group_id": True})],
+                                  {"aws_security_group_rule.a": {"source_security_group_id": {"references": ["local.x\nnot applied: all\r\x1b[2J\x9b1m\u202e"]}}}),
+     [f"aws_security_group_rule.a: source_security_group_id {LATER}: a plan doesn't tell local.x\\nnot applied: all\\r\\u001b[2J\\u009b1m\\u202e"], {}, []),
+    ("lines in an address", plan([change("aws_eip.a\nnot applied: x\x1b[2J", "create", None, {}, {}, type="aws_eip", name="a")]), [f'"aws_eip.a\\nnot applied: x\\u001b[2J": {DOESNT}'], {}, []),
+    ("lines in a block", plan([change("aws_security_group.web", "update", web(), web(egress=[block("tcp", 1, 2, cidr_blocks=["::1\n\x1b[2J"])]))]), ['aws_security_group.web: egress tcp 1-2: cidr_blocks "::1\\n\\u001b[2J" is no block'],
+     {"SecurityGroups sg-web IpPermissionsEgress": [], "-SecurityGroupRules": ["sgr-3"]}, []),
+    ("ports of 5,000 digits", plan([change("aws_security_group_rule.a", "create", None, rule("ingress", "sg-db", "tcp", MANY, 22, self=True)), change("aws_security_group_rule.b", "create", None, rule("ingress", "sg-db", MANY, 1, 2, self=True)),
+                                    change("aws_network_acl_rule.a", "create", None, acl_rule("acl-db", 50, False, "deny", "icmp", cidr_block="10.1.1.0/24", icmp_type=MANY, icmp_code="0")), change("aws_network_acl_rule.b", "create", None, acl_rule("acl-db", 50, False, "deny", "\u0661", cidr_block="10.1.1.0/24")),
+                                    change("aws_security_group.web", "update", web(), web(egress=[block("tcp", 1, 2, cidr_blocks=[f"10.0.0.0/{MANY}"])]))]),
+     [f'aws_security_group.web: egress tcp 1-2: cidr_blocks 10.0.0.0/{MANY} is no block', f"aws_security_group_rule.a: from_port is {MANY}", f"aws_security_group_rule.b: {MANY} is no protocol", f"aws_network_acl_rule.a: icmp_type is {MANY}", 'aws_network_acl_rule.b: "\\u0661" is no protocol'],
+     {"SecurityGroups sg-web IpPermissionsEgress": [], "-SecurityGroupRules": ["sgr-3"]}, []),
+]
+
+# BASE with instances: i-web by the attachments of its interfaces, the second of which outlives it, and i-db by what is told of it alone.
+HOSTS = copy.deepcopy(BASE)
+HOSTS["NetworkInterfaces"].append({"NetworkInterfaceId": "eni-two", "SubnetId": "subnet-db", "VpcId": "vpc-1", "PrivateIpAddress": "10.1.2.20", "Status": "in-use", "SourceDestCheck": True, "Groups": [{"GroupId": "sg-db", "GroupName": "db"}],
+                                   "PrivateIpAddresses": [{"Primary": True, "PrivateIpAddress": "10.1.2.20"}], "Attachment": {"DeviceIndex": 1, "InstanceId": "i-web", "DeleteOnTermination": False}})
+HOSTS["NetworkInterfaces"][0]["Attachment"] = {"DeviceIndex": 0, "InstanceId": "i-web", "DeleteOnTermination": True}
+HOSTS["RouteTables"][0]["Routes"].append({"DestinationCidrBlock": "10.8.0.0/16", "NetworkInterfaceId": "eni-web", "Origin": "CreateRoute", "State": "active"})
+HOSTS["Reservations"] = [{"Instances": [{"InstanceId": "i-web", "NetworkInterfaces": [{"NetworkInterfaceId": "eni-web"}, {"NetworkInterfaceId": "eni-two"}]}]}, {"Instances": [{"InstanceId": "i-db", "NetworkInterfaces": [{"NetworkInterfaceId": "eni-db"}]}]}]
+KEYS["Reservations"] = "of no id"
+# What a new instance's plan doesn't know.
+NEW_HOST = {"id": True, "private_ip": True, "public_ip": True, "primary_network_interface_id": True, "network_interface": True, "secondary_private_ips": True, "security_groups": True, "vpc_security_group_ids": True, "associate_public_ip_address": True, "source_dest_check": False}
+SSH = [block("tcp", 22, 22, cidr_blocks=["0.0.0.0/0"])]
+
+
+def host(name, groups, **more):
+    """The values of an aws_instance."""
+    return {"id": name, "instance_type": "t3.micro", "vpc_security_group_ids": groups, "source_dest_check": True, "secondary_private_ips": [], "tags": {}, **more}
+
+
+def new_host(subnet_, **more):
+    return {"instance_type": "t3.micro", "subnet_id": subnet_, "source_dest_check": True, **more}
+
+
+def unknown(*known_):
+    return {it: value for it, value in NEW_HOST.items() if it not in known_}
+
+
+def host_rows(address, subnet_, zone, addresses, groups, public=None, **more):
+    """The rows that come with a new instance."""
+    eni_ = f"{address}.primary_network_interface_id"
+    row = new_eni(eni_, subnet_, zone, addresses, groups, Status="in-use", Attachment={"DeviceIndex": 0, "InstanceId": address, "Status": "attached"}, **more)
+    if public:
+        row["Association"] = row["PrivateIpAddresses"][0]["Association"] = {"PublicIp": public}
+    return [row], [{"Instances": [{"InstanceId": address, "State": {"Name": "running"}, "Tags": [], "NetworkInterfaces": [{"NetworkInterfaceId": eni_}]}]}]
+
+
+def of_hosts(*rows):
+    return {"+NetworkInterfaces": [it for row in rows for it in row[0]], "+Reservations": [it for row in rows for it in row[1]]}
+
+
+DB, WEB, OLD = ({"GroupId": f"sg-{it}", "GroupName": it} for it in ("db", "web", "old"))
+A_HOST = "aws_instance.a"
+
+HOST_ROWS = [
+    ("an instance's groups, of the interface that the plan names", plan([change(A_HOST, "update", host("i-9", ["sg-web"], primary_network_interface_id="eni-db"), host("i-9", ["sg-old"], primary_network_interface_id="eni-db"))]), [], {"NetworkInterfaces eni-db Groups": [OLD]}, [(TO_DB, "stopped GroupsIn eni-db -")]),
+    ("of that at device 0", plan([change(A_HOST, "update", host("i-web", ["sg-web"], security_groups=["web"]), host("i-web", ["sg-old", "sg-web"], security_groups=["old", "web"]))]), [], {"NetworkInterfaces eni-web Groups": [WEB, OLD]}, []),
+    ("of the only one that is told of it", plan([change(A_HOST, "update", host("i-db", ["sg-db"]), host("i-db", ["sg-old"]))]), [], {"NetworkInterfaces eni-db Groups": [OLD]}, [(TO_DB, "stopped GroupsIn eni-db -")]),
+    ("a web server gains the new group for SSH", plan([change("aws_security_group.ssh", "create", None, group("ssh", ingress=SSH, egress=[]), {"id": True}), no_op("aws_security_group.web", web()),
+                                                      change(A_HOST, "update", host("i-web", ["sg-web"], primary_network_interface_id="eni-web"), {it: value for it, value in host("i-web", [], primary_network_interface_id="eni-web").items() if it != "vpc_security_group_ids"}, {"vpc_security_group_ids": True})],
+                                                     {A_HOST: {"vpc_security_group_ids": refer("aws_security_group.web.id", "aws_security_group.ssh.id")}}), [],
+     {"+SecurityGroups": [new_group("ssh", "aws_security_group.ssh", [permission("tcp", (22, 22), IpRanges=[{"CidrIp": "0.0.0.0/0"}])])], "+SecurityGroupRules": [listed("aws_security_group.ssh.ingress", "aws_security_group.ssh", False, "tcp", 22, 22, CidrIpv4="0.0.0.0/0")],
+      "NetworkInterfaces eni-web Groups": [WEB, {"GroupId": "aws_security_group.ssh", "GroupName": "ssh"}]}, [(SSH_WEB, "arrived eni-web"), (TO_WEB, "arrived eni-web")]),
+    ("an instance that the bundle doesn't have", plan([change(A_HOST, "update", host("i-9", ["sg-web"]), host("i-9", ["sg-old"]))]), [f"{A_HOST}: the bundle doesn't tell the interface of i-9 at device 0"], {}, []),
+    ("a group that the bundle doesn't have", plan([change(A_HOST, "update", host("i-web", ["sg-web"]), host("i-web", ["sg-9"]))]), [f"{A_HOST}: the bundle has no sg-9"], {}, []),
+    ("what of an instance says nothing of packets", plan([change(A_HOST, "update", host("i-9", ["sg-web"], user_data="a"), host("i-9", ["sg-web"], user_data="b", tags={"a": "b"}), {"password_data": True})]), [], {}, []),
+    ("its check and its other addresses", plan([change(A_HOST, "update", host("i-web", ["sg-web"], secondary_private_ips=["10.1.1.11"]), host("i-web", ["sg-web"], secondary_private_ips=["10.1.1.12"], source_dest_check=False))]), [],
+     {"NetworkInterfaces eni-web SourceDestCheck": False, "NetworkInterfaces eni-web PrivateIpAddresses": [ENI_WEB["PrivateIpAddresses"][0], {"Primary": False, "PrivateIpAddress": "10.1.1.12"}]}, []),
+    ("what can't be changed, or isn't known", plan([change(A_HOST, "update", host("i-web", ["sg-web"], subnet_id="subnet-web", public_ip="203.0.113.10"), host("i-web", ["sg-old"], subnet_id="subnet-db"), {"public_ip": True, "secondary_private_ips": True}), change("aws_instance.b", "update", host("i-db", ["sg-db"], security_groups=["db"]), host("i-db", ["sg-db"], security_groups=["old"]))]),
+     [f"{A_HOST}: its private addresses aren't known before the apply", f"{A_HOST}: subnet_id {LATER}, or can't be changed here", f"{A_HOST}: public_ip {LATER}: 203.0.113.10 is kept", f"aws_instance.b: security_groups {LATER}, or can't be changed here"], {"NetworkInterfaces eni-web Groups": [OLD]}, []),
+
+    ("an instance goes, and one of its interfaces stays", plan([change(A_HOST, "delete", host("i-web", ["sg-web"], primary_network_interface_id="eni-web"), None)]), [],
+     {"-NetworkInterfaces": ["eni-web", "eni-two"], "+NetworkInterfaces": [{**{it: value for it, value in HOSTS["NetworkInterfaces"][3].items() if it != "Attachment"}, "Status": "available"}], "RouteTables rtb-main Routes": [LOCAL, {**to("10.8.0.0/16", NetworkInterfaceId="eni-web"), "State": "blackhole"}],
+      "-Reservations": [None], "+Reservations": [{"Instances": []}, HOSTS["Reservations"][1]]}, [("open from eni-db tcp 10.1.2.10 10.1.1.10 5000 443", "stopped GroupsOut eni-db -")]),
+    ("an instance goes after its interface", plan([change("aws_network_interface.db", "delete", {"id": "eni-db"}, None), change(A_HOST, "delete", host("i-db", ["sg-db"], primary_network_interface_id="eni-db"), None)]), [],
+     {"-NetworkInterfaces": ["eni-db"], "-Reservations": [None], "+Reservations": [HOSTS["Reservations"][0], {"Instances": []}]}, []),
+    ("with its subnet and group", plan([change("aws_subnet.db", "delete", {"id": "subnet-db"}, None), change("aws_network_interface.two", "delete", {"id": "eni-two"}, None), change("aws_security_group.db", "delete", group("db", id="sg-db"), None), change(A_HOST, "delete", host("i-db", ["sg-db"]), None)]), [],
+     {"-Subnets": ["subnet-db"], "-NetworkInterfaces": ["eni-two", "eni-db"], "-SecurityGroups": ["sg-db"], "-SecurityGroupRules": ["sgr-4"], "NetworkAcls acl-db Associations": [], "-Reservations": [None], "+Reservations": [HOSTS["Reservations"][0], {"Instances": []}]}, []),
+    ("an instance goes that isn't there", plan([change(A_HOST, "delete", host("i-9", []), None)]), [f"{A_HOST}: the bundle has no interface of i-9"], {}, []),
+
+    ("a new instance", plan([change(A_HOST, "create", None, new_host("subnet-db", private_ip="10.1.2.30", vpc_security_group_ids=["sg-db"], associate_public_ip_address=False, secondary_private_ips=["10.1.2.31"]), unknown("private_ip", "vpc_security_group_ids", "secondary_private_ips", "associate_public_ip_address"))]), [],
+     of_hosts(host_rows(A_HOST, "subnet-db", "us-east-1b", ["10.1.2.30", "10.1.2.31"], [DB])), [("open from eni-web tcp 10.1.1.10 10.1.2.30 5000 5432", f"arrived {A_HOST}.primary_network_interface_id"), ("open from eni-web tcp 10.1.1.10 10.1.2.31 5000 5432", f"arrived {A_HOST}.primary_network_interface_id")]),
+    ("new instances at free addresses, with the default group", plan([*(change(f"{A_HOST}[{it}]", "create", None, new_host("subnet-web"), unknown()) for it in (0, 1)), change("aws_instance.b", "create", None, new_host("subnet-web", private_ip="10.1.1.6"), unknown("private_ip"))]),
+     [f"{A_HOST}[0]: private_ip {LATER}: 10.1.1.4 is taken for it", f"{A_HOST}[1]: private_ip {LATER}: 10.1.1.7 is taken for it"], of_hosts(*(host_rows(it, "subnet-web", "us-east-1a", [at], [{"GroupId": "sg-default", "GroupName": "default"}]) for it, at in ((f"{A_HOST}[0]", "10.1.1.4"), (f"{A_HOST}[1]", "10.1.1.7"), ("aws_instance.b", "10.1.1.6")))), []),
+    ("a new instance with a public address", plan([change("aws_security_group.ssh", "create", None, group("ssh", ingress=SSH, egress=[]), {"id": True}), change(A_HOST, "create", None, new_host("subnet-web", associate_public_ip_address=True), unknown("associate_public_ip_address"))], {A_HOST: {"vpc_security_group_ids": refer("aws_security_group.ssh.id")}}),
+     [f"{A_HOST}: private_ip {LATER}: 10.1.1.4 is taken for it", f"{A_HOST}: public_ip {LATER}: 192.0.2.1 stands for it"],
+     {"+SecurityGroups": [new_group("ssh", "aws_security_group.ssh", [permission("tcp", (22, 22), IpRanges=[{"CidrIp": "0.0.0.0/0"}])])], "+SecurityGroupRules": [listed("aws_security_group.ssh.ingress", "aws_security_group.ssh", False, "tcp", 22, 22, CidrIpv4="0.0.0.0/0")],
+      **of_hosts(host_rows(A_HOST, "subnet-web", "us-east-1a", ["10.1.1.4"], [{"GroupId": "aws_security_group.ssh", "GroupName": "ssh"}], "192.0.2.1"))}, [("open from internet tcp 198.51.100.7 192.0.2.1 5000 22", f"arrived {A_HOST}.primary_network_interface_id")]),
+    ("one whose public address the plan tells", plan([change(A_HOST, "create", None, new_host("subnet-web", private_ip="10.1.1.30", public_ip="203.0.113.30", vpc_security_group_ids=["sg-web"]), unknown("private_ip", "public_ip", "vpc_security_group_ids"))]), [], of_hosts(host_rows(A_HOST, "subnet-web", "us-east-1a", ["10.1.1.30"], [WEB], "203.0.113.30")), [("open from internet tcp 198.51.100.7 203.0.113.30 5000 443", f"arrived {A_HOST}.primary_network_interface_id")]),
+    ("in a new subnet that gives public addresses", plan([change("aws_subnet.a", "create", None, {**subnet("10.1.3.0/28", vpc_id="vpc-1"), "map_public_ip_on_launch": True}, NEW_SUBNET), change(A_HOST, "create", None, {it: value for it, value in new_host(None).items() if it != "subnet_id"}, {**unknown(), "subnet_id": True})], {A_HOST: {"subnet_id": refer("aws_subnet.a.id")}}),
+     [f"{A_HOST}: private_ip {LATER}: 10.1.3.4 is taken for it", f"{A_HOST}: public_ip {LATER}: 192.0.2.1 stands for it"],
+     {"+Subnets": [new_subnet("aws_subnet.a", "10.1.3.0/28", "us-east-1a", AvailabilityZoneId="use1-az6", MapPublicIpOnLaunch=True)], "NetworkAcls acl-default Associations": tied("acl-default", "subnet-web", "aws_subnet.a"), **of_hosts(host_rows(A_HOST, "aws_subnet.a", "us-east-1a", ["10.1.3.4"], [{"GroupId": "sg-default", "GroupName": "default"}], "192.0.2.1"))}, []),
+    ("in a default VPC, by the names of groups", plan([change(A_HOST, "create", None, new_host("subnet-web", private_ip="10.1.1.30", security_groups=["old", "web"]), unknown("private_ip", "security_groups"))], {A_HOST: {"security_groups": {"constant_value": ["old", "web"]}}}), [], of_hosts(host_rows(A_HOST, "subnet-web", "us-east-1a", ["10.1.1.30"], [OLD, WEB])), []),
+    ("with an interface of its own change", plan([change("aws_network_interface.a", "create", None, eni("subnet-db", ["10.1.2.40"], ["sg-db"]), NEW_ENI), change(A_HOST, "create", None, {"network_interface": [{"device_index": 0}]}, {"id": True, "network_interface": [{"network_interface_id": True}]})], {A_HOST: {"network_interface": [{"device_index": {"constant_value": 0}, "network_interface_id": refer("aws_network_interface.a.id")}]}}), [],
+     {"+NetworkInterfaces": [new_eni("aws_network_interface.a", "subnet-db", "us-east-1b", ["10.1.2.40"], [DB], Status="in-use", Attachment={"DeviceIndex": 0, "InstanceId": A_HOST, "Status": "attached"})]}, [("open from eni-web tcp 10.1.1.10 10.1.2.40 5000 5432", "arrived aws_network_interface.a")]),
+    ("with an interface that is there", plan([change(A_HOST, "create", None, {"network_interface": [{"device_index": 1, "network_interface_id": "eni-two"}]}, {"id": True, "network_interface": [{}]})]), [], {"NetworkInterfaces eni-two Attachment": {"DeviceIndex": 1, "InstanceId": A_HOST, "Status": "attached"}}, []),
+    ("an instance is replaced at its address", plan([change(A_HOST, "delete create", host("i-db", ["sg-db"], primary_network_interface_id="eni-db"), new_host("subnet-db", private_ip="10.1.2.10", vpc_security_group_ids=["sg-db"]), unknown("private_ip", "vpc_security_group_ids"))]), [],
+     {"-NetworkInterfaces": ["eni-db"], "+NetworkInterfaces": host_rows(A_HOST, "subnet-db", "us-east-1b", ["10.1.2.10"], [DB])[0], "-Reservations": [None], "+Reservations": [HOSTS["Reservations"][0], {"Instances": []}, *host_rows(A_HOST, "subnet-db", "us-east-1b", ["10.1.2.10"], [DB])[1]]}, [(TO_DB, f"arrived {A_HOST}.primary_network_interface_id")]),
+    ("instances that aren't made", plan([change(A_HOST, "create", None, new_host("subnet-db", private_ip="10.1.2.10"), unknown("private_ip")), change("aws_instance.b", "create", None, {}, {**unknown(), "subnet_id": True}), change("aws_instance.g", "create", None, {}, {**unknown(), "subnet_id": True}), change("aws_instance.c", "create", None, new_host("subnet-9"), unknown()), change("aws_subnet.a", "create", None, subnet("10.1.3.0/30", vpc_id="vpc-1"), NEW_SUBNET),
+                                         change("aws_instance.d", "create", None, {}, {**unknown(), "subnet_id": True}), change("aws_instance.e", "create", None, new_host("subnet-db", private_ip="10.1.2.50"), unknown("private_ip")), change("aws_instance.f", "create", None, new_host("subnet-db", private_ip="10.1.2.51", security_groups=["none"]), unknown("private_ip", "security_groups"))],
+                                        {"aws_instance.g": {}, "aws_instance.d": {"subnet_id": refer("aws_subnet.a.id")}, "aws_instance.e": {"vpc_security_group_ids": refer("local.groups")}}),
+     [f"{A_HOST}: 10.1.2.10 is an address of eni-db", f"aws_instance.b: subnet_id {LATER}", "aws_instance.g: it names no SubnetId", "aws_instance.c: the bundle has no subnet-9", "aws_instance.d: aws_subnet.a has no free address", f"aws_instance.e: vpc_security_group_ids {LATER}: a plan doesn't tell local.groups", "aws_instance.f: the bundle doesn't tell the group none of vpc-1"],
+     {"+Subnets": [new_subnet("aws_subnet.a", "10.1.3.0/30", "us-east-1a", AvailabilityZoneId="use1-az6")], "NetworkAcls acl-default Associations": tied("acl-default", "subnet-web", "aws_subnet.a")}, []),
+    ("a route to a new instance", plan([change(A_HOST, "create", None, new_host("subnet-web", private_ip="10.1.1.30", source_dest_check=False), unknown("private_ip")), change("aws_route.a", "create", None, {it: value for it, value in route("rtb-main", destination_cidr_block="10.7.0.0/16").items() if it != "network_interface_id"}, {"network_interface_id": True})], {"aws_route.a": {"network_interface_id": refer("aws_instance.a.primary_network_interface_id")}}), [],
+     {**of_hosts(host_rows(A_HOST, "subnet-web", "us-east-1a", ["10.1.1.30"], [{"GroupId": "sg-default", "GroupName": "default"}], SourceDestCheck=False)), "RouteTables rtb-main Routes": [*HOSTS["RouteTables"][0]["Routes"], to("10.7.0.0/16", NetworkInterfaceId=f"{A_HOST}.primary_network_interface_id")]}, []),
+]
+
 # Of each of Terraform's plans what is told, of which groups the rules are otherwise than moto has them, and how much is alike at least.
 TERRAFORM = {
-    "first": ([f"not applied: aws_security_group.web: ingress tcp {it}-{it}: security_groups {LATER}, and may be of aws_security_group.bastion, sg-cbae759a6429ecf8a" for it in (80, 22)], ["sg-fe6343d9545d01576"], 65),
+    "first": ([f"aws_security_group.web: ingress tcp {it}-{it}: security_groups {LATER}, and may be of aws_security_group.bastion, sg-cbae759a6429ecf8a" for it in (80, 22)], ["sg-fe6343d9545d01576"], 65),
     "second": ([], ["sg-f201565ddeeb561bd"], 100),
 }
 
@@ -586,6 +718,8 @@ FILES = [
     ("a plan in lines", b'{"@level": "info"}\n{"@level": "info"}\n', "it is not one JSON value in UTF-8"),
     ("a plan that isn't UTF-8", b'{"format_version": "\xff"}', "it is not one JSON value in UTF-8"),
     ("a plan with a number that is none", b'{"format_version": NaN}', "it is not one JSON value in UTF-8"),
+    ("a plan with a number that no float holds", b'{"format_version": "1.2", "resource_changes": [], "variables": {"a": {"value": -1e999}}}', "it is not one JSON value in UTF-8"),
+    ("a plan with a number of 5,000 digits", b'{"format_version": "1.2", "resource_changes": [], "variables": {"a": {"value": %s}}}' % (b"1" * 5000), "it is not one JSON value in UTF-8"),
     ("a plan nested too deep", b"[" * 100000, "it is not one JSON value in UTF-8"),
     ("a list", b"[]", "it is not what `terraform show -json` prints"),
     ("a bundle in its place", json.dumps(BASE).encode(), "it is not what `terraform show -json` prints"),
@@ -597,6 +731,7 @@ FILES = [
 ]
 BUNDLES = [
     ("a bundle that isn't JSON", b"{", "it is not one JSON value in UTF-8"),
+    *((f"a bundle with {it[:9]}", b'{"Vpcs": [{"VpcId": "vpc-1", "Extra": %s}]}' % it.encode(), "it is not one JSON value in UTF-8") for it in ("NaN", "Infinity", "-Infinity", "1e999", "-1e999", MANY)),
     ("a number", b"1", "it is neither an object nor an array of objects"),
     ("an array of others", b"[{}, 1]", "it is neither an object nor an array of objects"),
     ("a plan in its place", b'{"format_version": "1.2", "resource_changes": []}', "it has none of a bundle's lists"),
@@ -650,15 +785,16 @@ def last_line(program, *words):
     return ran.stdout.splitlines()[-1] if ran.stdout else ran.stderr
 
 
-def run_row(results, row, room, program):
+def run_row(results, row, room, program, base):
     name, value, told, edits, packets = row
-    paths = put(os.path.join(room, "plan.json"), value), put(os.path.join(room, "bundle.json"), BASE)
+    paths = put(os.path.join(room, "plan.json"), value), put(os.path.join(room, "bundle.json"), base)
     status, out, err = planned(*paths)
-    results.add(name, (status, err), (1 if told else 0, [f"not applied: {it}" for it in told]))
-    results.add(f"{name}: the bundle", json.loads(out), edited(edits))
+    results.add(name, (status, err), (1 if told else 0, lines_of(told)))
+    results.add(f"{name}: the bundle", json.loads(out), edited(edits, base))
     if program:
         path = put(os.path.join(room, "planned.json"), json.loads(out))
-        results.add(f"{name}: taken by the program", last_line(program, "trace", path, *TO_DB.split()).split()[0] in ("arrived", "stopped"), True)
+        start = next(it["NetworkInterfaceId"] for it in json.loads(out)["NetworkInterfaces"] if it.get("InterfaceType") != "nat_gateway")
+        results.add(f"{name}: taken by the program", last_line(program, "trace", path, *TO_DB.replace("eni-web", start).split()).split()[0] in ("arrived", "stopped"), True)
         for packet, last in packets:
             results.add(f"{name}: {packet}", last_line(program, "trace", path, *packet.split()), last)
 
@@ -672,7 +808,7 @@ def run_through(results, row, room):
     value = plan(changes, {"aws_security_group_rule.a": {"source_security_group_id": expression}}, calls, variables={"nothing": {"value": "x"}})
     status, out, err = planned(put(os.path.join(room, "plan.json"), value), put(os.path.join(room, "bundle.json"), BASE))
     found = [it["UserIdGroupPairs"][0]["GroupId"] for it in row_of(json.loads(out), "SecurityGroups", "sg-db")["IpPermissions"] if it["FromPort"] == 22]
-    results.add(name, (status, found, len(err)), (0, [wanted], 0) if wanted else (1, [], 1))
+    results.add(name, (status, found, len(err)), (0, [wanted], 0) if wanted else (1, [], 2))
 
 
 def run_files(results, room):
@@ -685,6 +821,12 @@ def run_files(results, room):
             words = (path, good[1]) if what == "plan" else (good[0], path)
             results.add(name, planned(*words), (2, "", [f"plan-bundle: {path} is no {what}: {why}"]))
     os.remove(path)
+    name = os.path.join(room, "x\nnot applied: x\x1b[2J")
+    results.add("a name that would be a line", (planned(name, good[1])[::2], planned(good[0], name)[::2]), ((2, [f"plan-bundle: {json.dumps(name)} can't be read: No such file or directory"]),) * 2)
+    with open(name, "wb") as file:
+        file.write(b"{}")
+    results.add("a file of such a name", planned(good[0], name), (2, "", [f"plan-bundle: {json.dumps(name)} is no bundle: it has none of a bundle's lists"]))
+    os.remove(name)
     results.add("no such plan", planned(path, good[1]), (2, "", [f"plan-bundle: {path} can't be read: No such file or directory"]))
     results.add("no such bundle", planned(good[0], path), (2, "", [f"plan-bundle: {path} can't be read: No such file or directory"]))
     results.add("a folder", planned(room, good[1]), (2, "", [f"plan-bundle: {room} can't be read: Is a directory"]))
@@ -708,10 +850,37 @@ def run_accounts(results, room):
     results.add("two accounts: the second", ([it["VpcId"] for it in found[1]["Vpcs"]], [(it["GroupId"], it["OwnerId"]) for it in found[1]["SecurityGroups"]], len(found[1]["SecurityGroupRules"])),
                 (["vpc-2", A_VPC], [(f"{A_VPC}.default_security_group_id", "444455556666"), ("aws_security_group.a", "444455556666")], 3))
     status, out, err = planned(put(os.path.join(room, "plan.json"), plan(changes[:1])), bundle)
-    results.add("two accounts, and none of them told", (status, json.loads(out), err), (1, [BASE, other], ["not applied: aws_vpc.a: which of the bundle's accounts it is made in isn't told"]))
+    results.add("two accounts, and none of them told", (status, json.loads(out), err), (1, [BASE, other], lines_of(["aws_vpc.a: which of the bundle's accounts it is made in isn't told"])))
 
 
-def run_bases(results, room):
+def run_listed(results, room, program):
+    """Groups whose list and permissions aren't the same, as where the list was edited. While the list has a rule of IPv4, permissions don't count."""
+    old, six = [permission("tcp", (1, 65535), IpRanges=[{"CidrIp": "0.0.0.0/0"}])], [permission("tcp", (22, 22), Ipv6Ranges=[{"CidrIpv6": "::/0"}])]
+    listed_six = listed("sgr-6", "sg-db", False, "tcp", 22, 22, CidrIpv6="::/0")
+    goes = change("aws_security_group_rule.a", "delete", rule("ingress", "sg-db", "tcp", 5432, 5432, source_security_group_id="sg-web"), None)
+    comes = change("aws_security_group_rule.b", "create", None, rule("ingress", "sg-db", "tcp", 22, 22, source_security_group_id="sg-web"))
+    for name, more, inward, changes, wanted, last in (
+        ("its only rule goes", [], old, [goes], [], "stopped GroupsIn eni-db -"), ("its only rule of IPv4 goes", [listed_six], old + six, [goes], six, "stopped GroupsIn eni-db -"),
+        ("and another one comes", [], old, [goes, comes], [permission("tcp", (22, 22), UserIdGroupPairs=[pair("sg-web")])], "stopped GroupsIn eni-db -"),
+    ):
+        bundle = copy.deepcopy(BASE)
+        row_of(bundle, "SecurityGroups", "sg-db")["IpPermissions"] = copy.deepcopy(inward)
+        bundle["SecurityGroupRules"] += more
+        status, out, err = planned(put(os.path.join(room, "plan.json"), plan(changes)), put(os.path.join(room, "bundle.json"), bundle))
+        found = row_of(json.loads(out), "SecurityGroups", "sg-db")
+        results.add(f"a list of its own: {name}", (status, err, found["IpPermissions"]), (0, [], wanted))
+        if program:
+            results.add(f"a list of its own: {name}: packets", last_line(program, "trace", put(os.path.join(room, "planned.json"), json.loads(out)), *TO_DB.split()), last)
+    bundle = copy.deepcopy(BASE)
+    bundle["SecurityGroupRules"] = [it for it in bundle["SecurityGroupRules"] if it["GroupId"] != "sg-db"] + [listed_six]
+    status, out, err = planned(put(os.path.join(room, "plan.json"), plan([comes])), put(os.path.join(room, "bundle.json"), bundle))
+    results.add("a list of IPv6 alone: permissions still count", (status, err, row_of(json.loads(out), "SecurityGroups", "sg-db")["IpPermissions"], json.loads(out)["SecurityGroupRules"][-1]["SecurityGroupRuleId"]),
+                (0, [], [IN_5432, permission("tcp", (22, 22), UserIdGroupPairs=[pair("sg-web")])], "sgr-6"))
+    if program:
+        results.add("a list of IPv6 alone: packets", last_line(program, "trace", put(os.path.join(room, "planned.json"), json.loads(out)), *TO_DB.split()), "arrived eni-db")
+
+
+def run_bases(results, room, program):
     """Bundles that are otherwise than BASE."""
     def told(bundle, value):
         status, out, err = planned(put(os.path.join(room, "plan.json"), value), put(os.path.join(room, "bundle.json"), bundle))
@@ -720,13 +889,14 @@ def run_bases(results, room):
     bundle = copy.deepcopy(BASE)
     for row in bundle["RouteTables"]:
         row["Associations"] = [it for it in row["Associations"] if it.get("Main") is not True]
-    wanted = (1, bundle, ["not applied: aws_subnet.a: the bundle doesn't tell the main route table of vpc-1"])
+    wanted = (1, bundle, lines_of(["aws_subnet.a: the bundle doesn't tell the main route table of vpc-1"]))
     results.add("a subnet of a VPC without a main table", told(bundle, plan([change("aws_subnet.a", "create", None, subnet("10.1.3.0/24", vpc_id="vpc-1"), NEW_SUBNET)])), wanted)
     bundle = copy.deepcopy(BASE)
     bundle["Vpcs"][0]["Ipv6CidrBlockAssociationSet"] = [{"Ipv6CidrBlock": "2001:db8::/56", "Ipv6CidrBlockState": {"State": "associated"}}]
     status, found, err = told(bundle, plan([change("aws_route_table.a", "create", None, {"vpc_id": "vpc-1", "route": []}, {"id": True})]))
     routes = [(it.get("DestinationCidrBlock"), it.get("DestinationIpv6CidrBlock"), it["GatewayId"]) for it in row_of(found, "RouteTables", "aws_route_table.a")["Routes"]]
     results.add("a table of a VPC with a block of IPv6", (status, err, routes), (0, [], [("10.1.0.0/16", None, "local"), (None, "2001:db8::/56", "local")]))
+    run_listed(results, room, program)
     values = {it: value for it, value in rule("ingress", "sg-db", "tcp", 22, 22).items() if it != "source_security_group_id"}
     changes = [change("aws_security_group.in[0]", "create", None, group("in"), NEW_GROUP), change("aws_security_group.in[1]", "delete", {"id": "sg-old", "vpc_id": "vpc-1"}, None),
                change("aws_security_group_rule.a[0]", "create", None, values, {"source_security_group_id": True})]
@@ -774,7 +944,7 @@ def run_terraform(results, name, wanted):
     didn't change."""
     told, otherwise, least = wanted
     status, out, err = planned(*(os.path.join(PLANS, it) for it in (f"{name}.json", f"{name}-before.json")))
-    results.add(f"the {name} plan", (status, err), (1 if told else 0, told))
+    results.add(f"the {name} plan", (status, err), (1 if told else 0, lines_of(told)))
     for address, found in stored(f"{name}-ids.json").items():
         out = out.replace(json.dumps(address), json.dumps(found))
     ours, theirs = facts(json.loads(out)), facts(stored(f"{name}-after.json"))
@@ -803,7 +973,7 @@ def damaged(value, source):
     elif kind == 1 and isinstance(part, list):
         part.append(copy.deepcopy(part[key]))
     else:
-        part[key] = source.choice([None, True, 0, -1, 1.5, "", "x", "sg-web", [], [None], {}, {"id": True}, [[]], ["sg-db"], "10.0.0.0/8", "aws_vpc.a"])
+        part[key] = source.choice([None, True, 0, -1, 1.5, "", "x", "sg-web", [], [None], {}, {"id": True}, [[]], ["sg-db"], "10.0.0.0/8", "aws_vpc.a", "x\nnot applied: x\x1b[2J\x9b\u202e", MANY, 10 ** 400, 1e308])
     return value
 
 
@@ -811,8 +981,8 @@ def run_damage(results, room, cases):
     source = random.Random(7)
     odd = []
     for number in range(cases):
-        row = source.choice(ROWS)
-        value, bundle = row[1], BASE
+        row = source.choice(ROWS + HOST_ROWS * 3)
+        value, bundle = row[1], HOSTS if row in HOST_ROWS else BASE
         if source.random() < 0.7:
             value = damaged(value, source)
         else:
@@ -825,9 +995,9 @@ def run_damage(results, room, cases):
             continue
         if status not in (0, 1, 2) or (status == 2) != (out == "") or bool(status) != bool(err) or status == 2 and len(err) != 1:
             odd.append((number, row[0], status, err))
-        if any("unexpected" in it for it in err):
+        if any("unexpected" in it or not it.isascii() or not it.isprintable() for it in err):
             odd.append((number, row[0], err))
-        if status != 2 and any(not it.startswith("not applied: ") for it in err):
+        if status == 1 and (any(not it.startswith("not applied: ") for it in err[:-1]) or not re.fullmatch("[0-9]+ changes not applied", err[-1])):
             odd.append((number, row[0], err))
     results.add(f"{cases} damaged plans and bundles", odd[:3], [])
 
@@ -839,11 +1009,13 @@ def main(words):
     results = Results()
     with tempfile.TemporaryDirectory() as room:
         for row in ROWS:
-            run_row(results, row, room, program)
+            run_row(results, row, room, program, BASE)
+        for row in HOST_ROWS:
+            run_row(results, row, room, program, HOSTS)
         for row in THROUGH:
             run_through(results, row, room)
         run_files(results, room)
-        run_bases(results, room)
+        run_bases(results, room, program)
         run_accounts(results, room)
         for name, wanted in TERRAFORM.items():
             run_terraform(results, name, wanted)
