@@ -155,6 +155,24 @@ is 'two regions: calls' "$(names | tr '\n' ' ')" 'describe-subnets describe-vpcs
 collect env ELSEWHERE=tools "$collect" --profile tools
 is 'another region' "$status $(told '.Subnets[].SubnetArn')" '0 arn:aws:ec2:eu-west-1:444455556666:subnet/subnet-tools'
 
+# Ids that would be several words, patterns, lines or colours are in no call, and in no line.
+collect env FORGED=1 "$collect" --profile shop --profile tools
+is 'forged: status' "$status" 0
+is 'forged: no other calls' "$(names)" "$(echo "$calls" | grep -v -e get-managed-prefix-list-entries -e search-transit-gateway-routes)"
+is 'forged: visible letters' "$(LC_ALL=C tr -d '\n -~' <"$room/err" | wc -c)" 0
+is 'forged: lines' "$(said)" 'collect-bundle: note: no route table is seen of attachment tgw-attach-?collect-bundle:?all?is?well?[31m?2Jshop of tgw-hub: what goes there will look blocked. Add a profile of its owner
+collect-bundle: note: no route table is seen of attachment tgw-attach-?collect-bundle:?all?is?well?[31m?2Jtools of tgw-hub: what goes there will look blocked. Add a profile of its owner'
+is 'forged: nothing was called' "$([ -e ran ] || echo none)" none
+collect env FORGED=1 ELSEWHERE=tools "$collect" --profile tools --profile shop
+is 'forged: one region' "$status $(said | wc -l)" '0 2'
+
+# A region without interfaces, of one profile, of one of two, and of none.
+collect env DESERTED=shop "$collect"
+is 'no interfaces' "$status $(told '.NetworkInterfaces | length') $(said | head -n 1)" '0 0 collect-bundle: note: no interfaces were found: another region may be meant'
+is 'no interfaces: survey says so too' "$(grep -c '^no interfaces: ' "$room/err")" 1
+collect env DESERTED=tools "$collect" --profile shop --profile tools
+is 'no interfaces of one of two' "$status $(said)" '0 collect-bundle: note: no interfaces of profile tools were found: another region may be meant'
+
 # Each call in turn fails, is cut short, is odd or answers nothing: nothing is printed, status 1, and the line names the
 # call.
 for it in $calls; do

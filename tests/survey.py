@@ -64,6 +64,7 @@ PLACES = {
     "vpc": ("Vpcs", "vpc-a", None),
     "subnet": ("Subnets", "subnet-b", None),
     "attachment": ("TransitGatewayVpcAttachments", "att-b", None),
+    "associated": ("TransitGatewayAttachments", "att-a", None),
 }
 
 TO_B = "open from eni-a tcp 10.1.1.10 10.2.1.10 5000 443"
@@ -74,6 +75,9 @@ IPV4 = "every answer is about IPv4 alone"
 BEHIND = "packets from behind it can't be asked about"
 ZONES = "a packet between accounts may cross the ACL and table of the wrong subnet"
 HIDDEN = "packets from it stop as NoPublic, and none to it comes to the interface"
+UNLISTED = "that SecurityGroupRules has no rule of sg-b: its IpPermissions and IpPermissionsEgress count"
+NO_TABLE = "which the bundle doesn't have: packets stop there as TgwNoTable"
+EMPTY = "no interfaces: there is no end but the internet to ask about; another region or account may be meant"
 LACKS = "its addresses that PrivateIpAddresses lacks stop as NoHost, and as sources as SourceCheck"
 
 # Name, what is put in by its place or list, the lines, the packet, the last line of its trace.
@@ -158,6 +162,14 @@ ROWS = [
      ["state stopped of instance i-1: eni-a takes and sends packets all the same"], "open from eni-a udp 10.1.1.10 10.2.1.10 1 2", "arrived eni-b"),
     ("a running one", {"Reservations": '{"Instances": [{"InstanceId": "i-1", "State": {"Name": "running"}, "NetworkInterfaces": [{"NetworkInterfaceId": "eni-a"}]}]}'}, [], None, None),
 
+    # groups
+    ("a group of which no rule is listed", {"SecurityGroupRules": '{"SecurityGroupRuleId": "sgr-1", "GroupId": "sg-a", "IsEgress": true, "IpProtocol": "-1", "CidrIpv4": "0.0.0.0/0"}'}, [UNLISTED], "open from eni-a udp 10.1.1.10 10.2.1.10 1 2", "arrived eni-b"),
+    ("one of which rules of IPv6 are", {"SecurityGroupRules": '{"SecurityGroupRuleId": "sgr-1", "GroupId": "sg-a", "IsEgress": true, "IpProtocol": "-1", "PrefixListId": "pl-1"}, {"SecurityGroupRuleId": "sgr-2", "GroupId": "sg-b", "IsEgress": false, "IpProtocol": "udp", "CidrIpv6": "::/0"}', "PrefixLists": '{"PrefixListId": "pl-1", "Cidrs": ["10.2.0.0/16"]}'},
+     [UNLISTED, f"IPv6 rules of sg-b, sgr-2: {IPV4}"], "open from eni-a udp 10.1.1.10 10.2.1.10 1 2", "arrived eni-b"),
+    ("both of which are listed", {"SecurityGroupRules": '{"SecurityGroupRuleId": "sgr-1", "GroupId": "sg-a", "IsEgress": true, "IpProtocol": "-1", "CidrIpv4": "0.0.0.0/0"}, {"SecurityGroupRuleId": "sgr-2", "GroupId": "sg-b", "IsEgress": false, "IpProtocol": "tcp", "CidrIpv4": "0.0.0.0/0"}'}, [], "open from eni-a udp 10.1.1.10 10.2.1.10 1 2", "stopped GroupsIn eni-b -"),
+    ("a group without rules beside one whose are listed", {"SecurityGroupRules": '{"SecurityGroupRuleId": "sgr-1", "GroupId": "sg-a", "IsEgress": true, "IpProtocol": "-1", "CidrIpv4": "0.0.0.0/0"}, {"SecurityGroupRuleId": "sgr-2", "GroupId": "sg-b", "IsEgress": false, "IpProtocol": "udp", "CidrIpv4": "0.0.0.0/0"}',
+                                                           "SecurityGroups": '{"GroupId": "sg-c", "VpcId": "vpc-b", "IpPermissions": [], "IpPermissionsEgress": []}, {"GroupId": "sg-d", "VpcId": "vpc-b", "IpPermissions": [{"IpProtocol": "-1", "IpRanges": [], "UserIdGroupPairs": []}]}'}, [], "open from eni-a udp 10.1.1.10 10.2.1.10 1 2", "arrived eni-b"),
+
     # gateways
     ("a NAT gateway of two addresses", {"NatGateways": '{"NatGatewayId": "nat-1", "State": "available", "SubnetId": "subnet-a", "NatGatewayAddresses": [{"NetworkInterfaceId": "eni-n", "PrivateIp": "10.1.1.5"}, {"NetworkInterfaceId": "eni-n", "PrivateIp": "10.1.1.6", "IsPrimary": true}]}',
                                        "NetworkInterfaces": '{"NetworkInterfaceId": "eni-n", "SubnetId": "subnet-a", "InterfaceType": "nat_gateway", "PrivateIpAddresses": [{"PrivateIpAddress": "10.1.1.5"}, {"PrivateIpAddress": "10.1.1.6"}]}',
@@ -185,13 +197,18 @@ ROWS = [
     ("to one without a subnet", {"attachment": '{"SubnetIds": []}'}, [f"route tgw-rtb 10.2.0.0/16 to att-b, which has no subnet: {STOPS}"], TO_B, "stopped Unmodelled att-b -"),
     ("without an attachment", {"transit": '{"DestinationCidrBlock": "10.2.1.0/24", "Type": "static", "State": "active"}'}, [f"route tgw-rtb 10.2.1.0/24 without an attachment: {STOPS}"], TO_B, "stopped Unmodelled tgw-rtb -"),
     ("one that is a blackhole", {"transit": '{"DestinationCidrBlock": "10.2.1.0/24", "Type": "static", "State": "blackhole"}'}, [], TO_B, "stopped TgwBlackhole tgw-rtb 10.2.1.0/24"),
+    ("a table without its routes", {"associated": '{"Association": {"TransitGatewayRouteTableId": "tgw-rtb-9"}}'}, [f"routes of tgw-rtb-9, the table of att-a, {NO_TABLE}"], TO_B, "stopped TgwNoTable att-a -"),
+    ("a table of two attachments", {"associated": '{"Association": {"TransitGatewayRouteTableId": "tgw-rtb-9"}}', "TransitGatewayVpcAttachments": '{"TransitGatewayAttachmentId": "att-c", "TransitGatewayId": "tgw-2", "VpcId": "vpc-b", "SubnetIds": ["subnet-b"], "State": "modifying"}, {"TransitGatewayAttachmentId": "att-d", "TransitGatewayId": "tgw-2", "VpcId": "vpc-b", "SubnetIds": ["subnet-b"], "State": "deleted"}',
+                                    "TransitGatewayAttachments": '{"TransitGatewayAttachmentId": "att-c", "Association": {"TransitGatewayRouteTableId": "tgw-rtb-9"}}, {"TransitGatewayAttachmentId": "att-d", "Association": {"TransitGatewayRouteTableId": "tgw-rtb-8"}}, {"TransitGatewayAttachmentId": "att-e", "Association": 7}'},
+     [f"routes of tgw-rtb-9, the table of att-a, att-c, {NO_TABLE}"], TO_B, "stopped TgwNoTable att-a -"),
+    ("no table", {"associated": '{"Association": null}'}, [], TO_B, "stopped TgwNoTable att-a -"),
     ("appliance mode", {"attachment": '{"Options": {"ApplianceModeSupport": "enable"}}'}, ["appliance mode of att-b: a packet leaves in the zone where it entered"], TO_B, "stopped GroupsIn eni-b -"),
     ("an attachment listed twice", {"TransitGatewayVpcAttachments": '{"TransitGatewayAttachmentId": "att-b", "TransitGatewayId": "tgw-1", "VpcId": "vpc-b", "SubnetIds": [], "State": "available"}'},
      ["another row of att-b, with other subnets: the first row counts"], TO_B, "stopped GroupsIn eni-b -"),
     ("a reference over a transit gateway", {"in": '{"IpProtocol": "tcp", "UserIdGroupPairs": [{"GroupId": "sg-a"}]}'},
      ["reference sg-b in 2 to sg-a over tgw-1: what it alone allows stops as GroupsIn"], TO_B, "stopped GroupsIn eni-b -"),
     ("outward, as a row of its own", {"SecurityGroupRules": '{"SecurityGroupRuleId": "sgr-1", "GroupId": "sg-a", "IsEgress": true, "IpProtocol": "-1", "ReferencedGroupInfo": {"GroupId": "sg-b"}}'},
-     ["reference sg-a sgr-1 to sg-b over tgw-1: what it alone allows stops as GroupsOut"], TO_B, "stopped GroupsOut eni-a -"),
+     [UNLISTED, "reference sg-a sgr-1 to sg-b over tgw-1: what it alone allows stops as GroupsOut"], TO_B, "stopped GroupsOut eni-a -"),
     ("over an active peering", {"in": '{"IpProtocol": "tcp", "UserIdGroupPairs": [{"GroupId": "sg-a"}]}',
                                 "VpcPeeringConnections": '{"VpcPeeringConnectionId": "pcx-1", "Status": {"Code": "active"}, "RequesterVpcInfo": {"VpcId": "vpc-a"}, "AccepterVpcInfo": {"VpcId": "vpc-b"}}'},
      [], TO_B, "arrived eni-b"),
@@ -217,7 +234,7 @@ FILES = [
     ("an array of numbers", b"[1]", 2, "is no bundle: it is neither an object nor an array of objects"),
     ("another object", b'{"Version": "2012-10-17"}', 2, "is no bundle: it has none of a bundle's lists"),
     ("a list that is none", b'{"Vpcs": {}}', 2, "is no bundle: its Vpcs is no list"),
-    ("odd rows", b'{"Vpcs": [1, {}], "RouteTables": [{"Routes": 7, "Associations": [null]}], "Subnets": null}', 0, None),
+    ("odd rows", b'{"Vpcs": [1, {}], "RouteTables": [{"Routes": 7, "Associations": [null]}], "Subnets": null, "NetworkInterfaces": [1, {}]}', 0, None),
 ]
 
 
@@ -289,10 +306,19 @@ def run_others(results, path):
     vpn = '{"RouteTables": [{"RouteTableId": "rtb-1", "Associations": [{"Main": true}], "Routes": [{"DestinationCidrBlock": "10.9.0.0/16", "GatewayId": "vpce-\\u001b"}]}]}'
     with open(path, "w", encoding="utf-8") as file:
         file.write(f"[{vpn}, {{}}, {vpn}]")
-    lines = [f'not followed: route rtb-1 10.9.0.0/16 to "vpce-\\u001b": {STOPS}']
+    lines = [EMPTY, f'not followed: route rtb-1 10.9.0.0/16 to "vpce-\\u001b": {STOPS}']
     results.add("an array", survey(path), (1, lines, []))
     results.add("as a process, something", process(path), (1, lines, []))
     results.add("as a process, nothing", process(os.path.join(TOP, "examples", "one-subnet.json")), (0, [], []))
+    for name, text in (("an empty region", '{"Vpcs": [], "Subnets": [], "NetworkInterfaces": []}'), ("a VPC without a host", '{"Vpcs": [{"VpcId": "vpc-1", "CidrBlock": "10.0.0.0/16"}]}'), ("two of them", '[{"NetworkInterfaces": null}, {"Vpcs": []}]')):
+        with open(path, "w", encoding="utf-8") as file:
+            file.write(text)
+        results.add(name, survey(path), (1, [EMPTY], []))
+    name = os.path.join(os.path.dirname(path), "x\nno interfaces\x1b[2J")
+    results.add("a name that would be a line", survey(name), (2, [], [f"survey: {json.dumps(name)} can't be read: No such file or directory"]))
+    with open(name, "wb"):
+        results.add("a file of such a name", survey(name), (2, [], [f"survey: {json.dumps(name)} is no bundle: it is not one JSON value in UTF-8"]))
+    os.remove(name)
     results.add("as a process, no bundle", process(os.devnull), (2, [], [f"survey: {os.devnull} is no bundle: it is not one JSON value in UTF-8"]))
     for words in ([], [path, path], ["--all"]):
         results.add(f"words {words}", survey(*words), (2, [], ["survey: one BUNDLE is meant; --help says more"]))
