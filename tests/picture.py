@@ -114,6 +114,7 @@ REFUSED = [
     ("lines that end with two bytes", NAT.replace("\n", "\r\n")), ("a number twice", REPORT.replace("row 2", "row 1")), ("a wrong count", REPORT.replace("end 2", "end 3")),
     ("an address beyond", STOPPED.replace("10.0.1.10", "10.0.1.256")), ("a range backwards", REPORT.replace("0-1023", "1023-0")),
     ("a port beyond", REPORT.replace("1024-32767", "1024-65536")), ("a row beyond the box", REPORT.replace("1024-32767", "1024-32768")),
+    ("a port of 5,000 digits", REPORT.replace("1024-32767", "1024-" + "1" * 5000)), ("as many rows", REPORT.replace("end 2", "end " + "1" * 5000)),
     ("another stop", REPORT.replace("AclOut", "AclOver")), ("another phase", REPORT.replace(" reply ", " answer ")), ("two blanks", REPORT.replace(" to ", "  to ")),
     ("a pair twice", MATRIX + "pair eni-a eni-b blocked\n"), ("a pair of one", MATRIX.replace("pair eni-b9 eni-b ", "pair eni-b9 eni-b9 ")),
     ("another word of a pair", MATRIX.replace("no-address", "closed")), ("a range of a pair backwards", MATRIX.replace("22-22", "23-22")),
