@@ -25,6 +25,7 @@ import tempfile
 from concurrent.futures import ThreadPoolExecutor
 
 import check
+import prove
 
 TOP = os.path.dirname(os.path.dirname(os.path.abspath(__file__)))
 EDITS = os.path.join(TOP, "tests", "edits")
@@ -184,7 +185,9 @@ def try_round(words, folder, room, edits):
 
 
 def prove_crate(gate, crate):
-    """Whether the crate is proved over what stands below it, which the tries begin with."""
+    """Whether the crate is proved over what stands below it, which the tries begin with; tests/prove.py may have done it."""
+    if gate == check.KEPT and prove.is_proved(crate, prove.stamps_of([crate])[crate]):
+        return True
     words = check.command(gate, crate, [])
     ran = subprocess.run(words, cwd=os.path.join(TOP, "crates", crate), stdin=subprocess.DEVNULL, stdout=subprocess.PIPE, stderr=subprocess.STDOUT, check=False)
     return ran.returncode == 0

@@ -49,6 +49,14 @@ def is_proved(crate, stamp):
         return False
 
 
+def stamps_of(names):
+    """What the proof of each of these crates stands on: checksums of its files and of those below it."""
+    all_crates = check.crates()
+    below = {name: check.below(all_crates, name) for name in names}
+    own = {it: sources(it) for it in {*names, *(low for lower in below.values() for low in lower)}}
+    return {name: " ".join([own[name], *[own[low] for low in below[name]]]) for name in names}
+
+
 def prove(crate, stamp):
     """Whether the crate is proved, and its tests where it has some; what isn't is told."""
     os.makedirs(check.KEPT, exist_ok=True)
@@ -75,8 +83,7 @@ def prove_all(names, at_once):
     wanted = []
     for name in names or all_crates:
         wanted += [it for it in [*check.below(all_crates, name), name] if it not in wanted]
-    own = {it: sources(it) for it in wanted}
-    stamps = {it: " ".join([own[it], *[own[low] for low in check.below(all_crates, it)]]) for it in wanted}
+    stamps = stamps_of(wanted)
     given = {it: True for it in wanted if is_proved(it, stamps[it])}
     left, running = [it for it in wanted if it not in given], {}
     with ThreadPoolExecutor(at_once) as pool:
