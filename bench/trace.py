@@ -4,8 +4,8 @@ Usage: python3 bench/trace.py [PROGRAM]     (default: the program that ./vpc bui
 
 All are processor times (user and system), each the least of some runs. The stages of an account are differences: PROGRAM on the
 same text as a member that no list has (the JSON reading alone), on the account with an END that is no interface (rows and
-acceptance besides), and with a packet from the first host to the last one (look-ups, walk and text besides). What the look-ups
-take of that is out/lookup_bench with all look-ups, less the same without; `rt ci lookup_bench` builds it.
+acceptance besides), and with a packet from the first host to the last one (look-ups, walk and text besides). What the look-ups take of
+that is told in instructions by lookups.py.
 """
 
 import json
@@ -15,7 +15,6 @@ import sys
 import accounts
 from measuring import OUT, RUNS, TOP, measured, program, written
 
-LOOKUPS = os.path.join(TOP, "crates/lookup_bench/out/lookup_bench")
 SMALL = [("one-subnet.json", "open from eni-a tcp 10.0.1.10 10.0.1.20 5000 443".split()),
          ("three-tiers.json", "open from eni-app-a-1 tcp 10.20.16.4 198.51.100.7 40000 443".split())]
 
@@ -26,7 +25,7 @@ def used(words):
     for _ in range(RUNS):
         child = os.posix_spawn(words[0], words, os.environ, file_actions=[(os.POSIX_SPAWN_OPEN, 1, os.devnull, os.O_WRONLY, 0)])
         _, status, usage = os.wait4(child, 0)
-        if os.waitstatus_to_exitcode(status) not in (0, 1, 4):
+        if os.waitstatus_to_exitcode(status) not in (0, 1, 4, 5):
             sys.exit(f"failed: {' '.join(words)}")
         took = usage.ru_utime + usage.ru_stime
         best = took if best is None else min(best, took)
@@ -64,12 +63,11 @@ def row(count):
     alone = used([program(), "trace", bare(path), *nowhere])
     rows = used([program(), "trace", path, *nowhere])
     whole = used([program(), "trace", path, *words])
-    indexes = used([LOOKUPS, path, "fabric"]) - used([LOOKUPS, path, "nothing"])
     theirs = used([sys.executable, "-c", f"import json; json.load(open({path!r}))"]) - used([sys.executable, "-c", "import json"])
     _, peak = measured([program(), "trace", path, *words], code=answered(path, words))
     size = os.path.getsize(path) / 2**20
     print(f"| {count:,} | {size:.1f} MiB | {whole * 1e3:.0f} ms | {whole / theirs:.2f} | {alone * 1e3:.0f} ms | {(rows - alone) * 1e3:.0f} ms"
-          f" | {(whole - rows) * 1e3:.0f} ms | {indexes * 1e3:.0f} ms | {(whole - alone) / alone:.2f} | {peak:.0f} MiB |", flush=True)
+          f" | {(whole - rows) * 1e3:.0f} ms | {(whole - alone) / alone:.2f} | {peak:.0f} MiB |", flush=True)
 
 
 def answered(path, words):
@@ -83,8 +81,8 @@ def main():
     for name, words in SMALL:
         path = os.path.join(TOP, "examples", name)
         print(f"| {name} | {os.path.getsize(path) / 1024:.0f} KiB | {used([program(), 'trace', path, *words]) * 1e3:.1f} ms |")
-    print("\n| interfaces | file | trace | of json.load | JSON alone | rows, acceptance | look-ups, walk, text | the look-ups | all but JSON, of the JSON | peak |")
-    print("|---:|---:|---:|---:|---:|---:|---:|---:|---:|---:|")
+    print("\n| interfaces | file | trace | of json.load | JSON alone | rows, acceptance | look-ups, walk, text | all but JSON, of the JSON | peak |")
+    print("|---:|---:|---:|---:|---:|---:|---:|---:|---:|")
     os.makedirs(OUT, exist_ok=True)
     for count in (1_000, 10_000, 100_000):
         row(count)
