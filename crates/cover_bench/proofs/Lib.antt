@@ -1,2 +1,0 @@
-mod PieceLemmas
-mod StairLemmas
