@@ -1,5 +1,5 @@
 -- The blocks of routes tell the route that the table chooses.
-use Rattle.std.proofs.Common.{All, Bool, Contains, List, None, Option, Some, [], ap, arith, false, filter, flat_map, if◌then◌else◌, inl, inr, is_some, length, length-append, map, nat_le, not, option_map, refl, slice_get, subst, suc, sym, true, unwrap_or, zero, ℕ, ◌&&◌, ◌*◌, ◌++◌, ◌+◌, ◌-◌, ◌<◌, ◌^◌, ◌∙◌, ◌∷◌, ◌≡◌, ◌≤◌, ◌⊎◌}
+use Rattle.std.proofs.Common.{All, Bool, Contains, List, None, Option, Some, [], ap, arith, false, filter, flat_map, if◌then◌else◌, inl, inr, is_some, length, map, nat_le, not, option_map, refl, slice_get, subst, suc, sym, true, unwrap_or, zero, ℕ, ◌&&◌, ◌*◌, ◌++◌, ◌+◌, ◌-◌, ◌<◌, ◌^◌, ◌∙◌, ◌∷◌, ◌≡◌, ◌≤◌, ◌⊎◌}
 use Rattle.std.specs.List.{list_any}
 use Rattle.vpc_base.proofs.Lemmas.{All-contains, Any-from_list_any, Contains-append_cases, Contains-append_left, Contains-append_right, Contains-cases, Contains-filter, Contains-flat_map, Contains-here, Contains-map, Contains-none, and_cases, and_from, and_left, and_parts, and_right, both_ways, cases_Bool, cases_lt, cond_both, false_from_ne_true, filter-member, flat_map-member, get_or_from_slice_get, le-leb, leb-true, length-filter-le, length-map, list_any-fails, map-member, not-false, not_from_false, not_from_true, slice_get-get_or, slice_get_within}
 use Rattle.prefix_text.specs.Block.{Block, IsBlock, holds, last_of}
@@ -14,7 +14,7 @@ use Rattle.block_pieces.specs.Terms.{IsAsGood, borders_of, told_by}
 use Rattle.block_pieces.proofs.Borders.{told-best, told-nothing}
 use Rattle.block_pieces.proofs.Nested.{nested}
 use Rattle.block_pieces.proofs.ToldLemmas.{best_is_told, none_is_told}
-use Rattle.route_tables.specs.Rows.{AreBlocks, blocks_in, counted_rows, counted_rows_of, is_covered, length_row, local_rows, local_rows_of, row_of}
+use Rattle.route_tables.specs.Rows.{AreBlocks, counted_rows, counted_rows_of, is_covered, length_row, local_rows, local_rows_of, row_of}
 
 -- ---- by which block a route matches
 
@@ -60,7 +60,7 @@ matches_as d a (reaches.List id) b listed here =
 -- ---- members of the rows
 
 -- a row of a route
-record IsRowOf (d : Description) (number : ℕ) (r : Route) (y : BlockRow) : Type 0 where
+pub record IsRowOf (d : Description) (number : ℕ) (r : Route) (y : BlockRow) : Type 0 where
   pub listed : Contains (blocks_of_reach d r.reach) y.block
   pub rank : y.rank ≡ (32 - y.block.length) * 4 + kind_of r
   pub row : y.row ≡ number
@@ -71,10 +71,10 @@ row_of-member d number r y h =
     subst (IsRowOf d number r) of.2 (record { listed = of.1; rank = refl; row = refl })
 
 -- whether a route is kept back by local ones
-abbrev is_kept_back : Route → Bool
+abbrev pub is_kept_back : Route → Bool
 is_kept_back r = r.propagated && not (is_local r.target)
 
-counted-member : (d : Description) (p : PieceLists) (number : ℕ) (r : Route) (y : BlockRow) → Contains (counted_rows_of d p number r) y → IsRowOf d number r y × (is_kept_back r ≡ true → is_covered p y.block ≡ false)
+pub counted-member : (d : Description) (p : PieceLists) (number : ℕ) (r : Route) (y : BlockRow) → Contains (counted_rows_of d p number r) y → IsRowOf d number r y × (is_kept_back r ≡ true → is_covered p y.block ≡ false)
 counted-member d p number r y h =
     let rows = map (row_of (kind_of r) number) (blocks_of_reach d r.reach) in
     elim (cases_Bool (is_kept_back r)) [
@@ -89,7 +89,7 @@ counted-member d p number r y h =
     not-true-of false e = refl
 
 -- a block of a route that isn't covered, or isn't kept back, has a row
-counted-listed : (d : Description) (p : PieceLists) (number : ℕ) (r : Route) (b : Block) → Contains (blocks_of_reach d r.reach) b → (is_kept_back r ≡ true → is_covered p b ≡ false) → Contains (counted_rows_of d p number r) (row_of (kind_of r) number b)
+pub counted-listed : (d : Description) (p : PieceLists) (number : ℕ) (r : Route) (b : Block) → Contains (blocks_of_reach d r.reach) b → (is_kept_back r ≡ true → is_covered p b ≡ false) → Contains (counted_rows_of d p number r) (row_of (kind_of r) number b)
 counted-listed d p number r b listed free =
     let rows = map (row_of (kind_of r) number) (blocks_of_reach d r.reach) in
     let all : Contains rows (row_of (kind_of r) number b) = Contains-map (row_of (kind_of r) number) (blocks_of_reach d r.reach) b listed in
@@ -98,7 +98,7 @@ counted-listed d p number r b listed free =
     (λ _. all)
 
 -- each row is one of a route's, and each of a route's is a row
-counted_rows-member : (d : Description) (p : PieceLists) (number : ℕ) (routes : List Route) (y : BlockRow) → Contains (counted_rows d p number routes) y
+pub counted_rows-member : (d : Description) (p : PieceLists) (number : ℕ) (routes : List Route) (y : BlockRow) → Contains (counted_rows d p number routes) y
     → (j : ℕ) × (r : Route) × (slice_get routes j ≡ Some r) × Contains (counted_rows_of d p (number + j) r) y
 counted_rows-member d p number [] y h = absurd (Contains-none y h)
 counted_rows-member d p number (r ∷ rs) y h =
@@ -109,7 +109,7 @@ counted_rows-member d p number (r ∷ rs) y h =
           (suc rest.0, rest.1, rest.2, subst (λ k. Contains (counted_rows_of d p k rest.1) y) (let e : number + 1 + rest.0 ≡ number + suc rest.0 = omega arith in e) rest.3)
     ]
 
-counted_rows-listed : (d : Description) (p : PieceLists) (number : ℕ) (routes : List Route) (j : ℕ) (r : Route) (y : BlockRow) → slice_get routes j ≡ Some r → Contains (counted_rows_of d p (number + j) r) y → Contains (counted_rows d p number routes) y
+pub counted_rows-listed : (d : Description) (p : PieceLists) (number : ℕ) (routes : List Route) (j : ℕ) (r : Route) (y : BlockRow) → slice_get routes j ≡ Some r → Contains (counted_rows_of d p (number + j) r) y → Contains (counted_rows d p number routes) y
 counted_rows-listed d p number [] j r y at h = cc
 counted_rows-listed d p number (x ∷ rs) zero r y at h =
     let same : x ≡ r = cc in
@@ -251,7 +251,7 @@ kept_back d routes a r here out_of =
     let both = and_parts (is_local l.target) (matches d a l) found.4 in
     record { back = parts.0; number = found.0; route = l; at = slice_get-get_or routes found.0 l found.2 ∙ ap Some found.3; local = both.0; here = both.1 }
 
-member-at : (routes : List Route) (j : ℕ) (r : Route) → slice_get routes j ≡ Some r → Contains routes r
+pub member-at : (routes : List Route) (j : ℕ) (r : Route) → slice_get routes j ≡ Some r → Contains routes r
 member-at routes j r at = (j, slice_get_within routes j r at, get_or_from_slice_get routes j r r at)
 
 -- the rows of the chosen route's block and of another block that holds the address: lengths m and n of
@@ -350,19 +350,12 @@ told_by-counted d routes p a locals blocks = by (chosen_route d routes a) refl (
 
 -- ---- how many rows, and where they begin and end
 
-length-counted_rows_of : (d : Description) (p : PieceLists) (k : ℕ) (r : Route) → length (counted_rows_of d p k r) ≤ length (blocks_of_reach d r.reach)
+pub length-counted_rows_of : (d : Description) (p : PieceLists) (k : ℕ) (r : Route) → length (counted_rows_of d p k r) ≤ length (blocks_of_reach d r.reach)
 length-counted_rows_of d p k r =
     let rows = map (row_of (kind_of r) k) (blocks_of_reach d r.reach) in
     let all = length-map (blocks_of_reach d r.reach) (row_of (kind_of r) k) in
     cond_both (is_kept_back r) (filter (λ (x : BlockRow). not (is_covered p x.block)) rows) rows (λ l. length l ≤ length (blocks_of_reach d r.reach))
     (λ _. let less = length-filter-le (λ (x : BlockRow). not (is_covered p x.block)) rows in omega arith) (λ _. omega arith)
-
-pub length-counted_rows : (d : Description) (p : PieceLists) (k : ℕ) (routes : List Route) → length (counted_rows d p k routes) ≤ length (blocks_in d routes)
-length-counted_rows d p k [] = omega arith
-length-counted_rows d p k (r ∷ rs) =
-    let one = length-counted_rows_of d p k r in
-    let rest = length-counted_rows d p (k + 1) rs in
-    omega (arith, length-append (counted_rows_of d p k r) (counted_rows d p (k + 1) rs), length-append (blocks_of_reach d r.reach) (blocks_in d rs))
 
 -- where blocks of routes begin, and where they have ended
 abbrev pub route_cuts : Description → List Route → List ℕ

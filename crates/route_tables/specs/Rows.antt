@@ -4,6 +4,7 @@ use Rattle.std.specs.List.{flat_map}
 use Rattle.block_pieces.specs.declared.rows.BlockRow.{BlockRow}
 use Rattle.piece_table.specs.Pieces.{PieceLists, told_at}
 use Rattle.prefix_text.specs.Block.{Block, IsBlock}
+use Rattle.route_tables.specs.Repeats.{given_once}
 use Rattle.vpc_laws.specs.Types.{Description, Route}
 use Rattle.vpc_model.specs.Cuts.{blocks_of_reach}
 use Rattle.vpc_model.specs.Routes.{chosen_route, is_local, kind_of}
@@ -46,6 +47,16 @@ counted_rows_of d locals number r =
 abbrev pub counted_rows : Description → PieceLists → ℕ → List Route → List BlockRow
 counted_rows d locals number [] = []
 counted_rows d locals number (r ∷ rs) = counted_rows_of d locals number r ++ counted_rows d locals (number + 1) rs
+
+-- ---- without repeats
+
+-- the blocks of the local routes, without those that repeat earlier routes
+abbrev pub local_rows_once : Description → List Route → List BlockRow
+local_rows_once d routes = given_once (λ _ r. local_rows_of d r) [] routes
+
+-- the blocks of routes without those that repeat earlier ones, and of propagated ones without those that local blocks hold
+abbrev pub counted_rows_once : Description → PieceLists → List Route → List BlockRow
+counted_rows_once d locals routes = given_once (counted_rows_of d locals) [] routes
 
 -- ---- what is told of addresses
 

@@ -2,9 +2,10 @@
 ghost use Rattle.std.specs.Prelude.{◌≡◌, ◌<◌, ◌∷◌, ◌++◌, ◌^◌, [], All, IfOk, OnOk, filter, length, map, not};
 ghost use Rattle.prefix_text.specs.Block.{IsBlock};
 ghost use Rattle.vpc_model.specs.Cuts.{blocks_of_reach};
-ghost use Rattle.route_tables.specs.Rows.{AreBlocks, counted_rows, counted_rows_of, is_covered, row_of};
+ghost use Rattle.route_tables.specs.Rows.{AreBlocks, counted_rows_of, counted_rows_once, is_covered, row_of};
 
 use crate::blocks::{blocks_of, is_block, is_local, kind_of};
+use crate::repeats::SeenUses;
 use block_pieces::BlockRow;
 use piece_table::{Pieces, Steps};
 use prefix_text::Prefix;
@@ -103,8 +104,8 @@ fn add_route<L: Ledger>(
     add_all(rows, blocks, kind_of(route), number)
 }
 
-/// The blocks of the routes, each of which tells the number of its route. Those of propagated routes that
-/// a local block holds are left out, as no address of theirs counts them.
+/// The blocks of the routes, each of which tells the number of its route. Routes that repeat earlier ones are
+/// left out, and so are blocks of propagated routes that a local block holds, as no address of theirs counts them.
 pub fn counted_rows<L: Ledger>(
     alloc: Global,
     n: &Network,
@@ -113,11 +114,15 @@ pub fn counted_rows<L: Ledger>(
     steps: &mut Steps<L>,
 ) -> Result<Vec<BlockRow>, AllocError>
     requires { length routes.now < 2 ^ 32 }
-    ensures rows { IfOk result (λ v. v.items ≡ counted_rows n.now locals.now 0 routes.now) }
+    ensures rows { IfOk result (λ v. v.items ≡ counted_rows_once n.now locals.now routes.now) }
     ensures blocks { OnOk result (AreBlocks n.now routes.now) }
 {
     let mut rows = Vec::new(alloc);
+    let mut seen = SeenUses::none(alloc);
     for (number, route) in routes.iter().enumerate() {
+        if !seen.is_new(alloc, route)? {
+            continue;
+        }
         add_route(&mut rows, n, locals, route, number as u32, steps)?;
     }
     Ok(rows)

@@ -6,5 +6,6 @@ mod blocks;
 mod counted;
 mod index;
 mod locals;
+mod repeats;
 
 pub use index::RouteIndex;

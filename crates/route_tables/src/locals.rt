@@ -2,9 +2,10 @@
 ghost use Rattle.std.specs.Prelude.{◌≡◌, ◌++◌, IfOk, OnOk, map};
 ghost use Rattle.std.specs.List.{flat_map};
 ghost use Rattle.vpc_model.specs.Cuts.{blocks_of_reach};
-ghost use Rattle.route_tables.specs.Rows.{length_row, local_rows, local_rows_of};
+ghost use Rattle.route_tables.specs.Rows.{length_row, local_rows_of, local_rows_once};
 
 use crate::blocks::{blocks_of, is_local};
+use crate::repeats::SeenUses;
 use block_pieces::BlockRow;
 use prefix_text::Prefix;
 use reference_check::Network;
@@ -41,12 +42,16 @@ fn add_local(rows: &mut Vec<BlockRow>, n: &Network, route: &Route) -> Result<(),
     Ok(())
 }
 
-/// The blocks of the local routes, each of which tells its length.
+/// The blocks of the local routes, each of which tells its length. Routes that repeat earlier ones are left out.
 pub fn local_rows(alloc: Global, n: &Network, routes: &[Route]) -> Result<Vec<BlockRow>, AllocError>
-    ensures { IfOk result (λ v. v.items ≡ local_rows n.now routes.now) }
+    ensures { IfOk result (λ v. v.items ≡ local_rows_once n.now routes.now) }
 {
     let mut rows = Vec::new(alloc);
+    let mut seen = SeenUses::none(alloc);
     for route in routes {
+        if !seen.is_new(alloc, route)? {
+            continue;
+        }
         add_local(&mut rows, n, route)?;
     }
     Ok(rows)

@@ -1,6 +1,6 @@
-use Rattle.std.proofs.Common.{◌≡◌, take}
-use Rattle.route_tables.specs.Rows.{local_rows}
+use Rattle.route_tables.specs.Rows.{local_rows_of}
+use Rattle.route_tables.proofs.Giving.{HasGiven}
 use Rattle.route_tables.proofs.locals.local_rows.Given as goal
 
 abbrev pub invariant-loop-route : goal.invariant-loop-route
-invariant-loop-route l = l.rows.items ≡ local_rows l.n (take l.route-index l.routes)
+invariant-loop-route l = HasGiven (λ _ r. local_rows_of l.n r) l.routes l.route-index l.rows.items l.seen
