@@ -2,7 +2,7 @@
 
 Usage: python3 bench/hostile.py [PROGRAM] [PART..]     (without PROGRAM, or with -: the program that ./vpc builds)
 
-The parts are ids, groups, addresses, blocks, ports, sides, reports, events and texts; without them all are run. Each time is a
+The parts are ids, groups, addresses, blocks, lists, ports, sides, reports, events and texts; without them all are run. Each time is a
 processor time (user and system), the least of up to three runs, beside that of python3's json.load of the same bundle where that is
 long enough to tell. No run may take more than 6 GiB, or it fails.
 """
@@ -125,6 +125,25 @@ def a_rule_a_source(count):
     """Rules for all ports, each for one source."""
     whole = subnets([{"IpProtocol": "-1", "IpRanges": [{"CidrIp": f"{accounts.dotted((11 << 24) + 1000 * k)}/32"}]} for k in range(count)])
     whole["NetworkInterfaces"][0]["SourceDestCheck"] = False
+    return whole
+
+
+# ---- prefix lists
+
+def routes_to_one_list(count):
+    """Routes of one table that all lead to one list, which has as many entries."""
+    route = {"DestinationPrefixListId": "pl-1", "NetworkInterfaceId": "eni-b", "State": "active"}
+    whole = subnets([tcp(443, 443)], routes=[route] * count)
+    whole["PrefixLists"] = [{"PrefixListId": "pl-1", "Cidrs": [f"{accounts.dotted((52 << 24) + 512 * k)}/24" for k in range(count)]}]
+    return whole
+
+
+def tables_to_one_list(count):
+    """Tables with a route each to one list, which has as many entries."""
+    whole = routes_to_one_list(count)
+    first = whole["RouteTables"][0]
+    first["Routes"] = first["Routes"][:2]
+    whole["RouteTables"] += [dict(first, RouteTableId=f"rtb-x{k}", Associations=[]) for k in range(count)]
     return whole
 
 
@@ -375,6 +394,13 @@ def blocks():
         bundle("a rule for each source, asked for all", a_rule_a_source, count, f"ask {BETWEEN} src 0.0.0.0/0 sport 5000-5000 port 443-443", 1)
 
 
+def lists():
+    for count in (8_000, MANY - 1):
+        bundle("routes of one table to one list of as many entries", routes_to_one_list, count, f"trace {TWO}", 0)
+    for count in (1_000, 2_000, 4_000):
+        bundle("tables with a route to one list of as many entries", tables_to_one_list, count, f"trace {TWO}", 0)
+
+
 def ports():
     bundle("a rule for each port", a_rule_a_port, 65_536, f"trace {TWO}", 0)
     bundle("the same, asked", a_rule_a_port, 65_536, f"ask {BETWEEN}", 0)
@@ -426,7 +452,7 @@ def texts():
         line(f"{shape}, {answer}", path, ["trace", path, *WALK.split()], 3 if answer == "refused" else 4)
 
 
-PARTS = (ids, groups, addresses, blocks, ports, sides, reports, events, texts)
+PARTS = (ids, groups, addresses, blocks, lists, ports, sides, reports, events, texts)
 
 
 def main():

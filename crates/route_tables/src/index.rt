@@ -77,7 +77,8 @@ fn index_of<L: Ledger>(
 impl RouteIndex {
     /// The index of a table. There are at most twice as many pieces as blocks in its routes and the prefix
     /// lists that they name, and one more; all but the first begin where such a block begins or has ended.
-    /// Takes time n log n in the number of blocks. Fails for want of memory alone.
+    /// Takes time n log n in the number of blocks, where those of a list count at most four times, however
+    /// often routes name it. Fails for want of memory alone.
     pub fn of(alloc: Global, n: &Network, t: TableNo) -> Result<RouteIndex, NoMemory>
         requires table { IsTrue (is_table n.now t) }
         ensures chosen { IfOk result (ChooseRoutes n.now (table_at n.now t).routes) }
