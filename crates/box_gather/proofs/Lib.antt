@@ -1,3 +1,5 @@
 pub mod Counting
+pub mod Order
+pub mod Parted
 pub mod Piles
 pub mod Trims

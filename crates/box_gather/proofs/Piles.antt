@@ -1,10 +1,9 @@
 -- What is known of piles of rows.
-use Rattle.std.proofs.Common.{All, AllPairs, Bool, Contains, IfSome, IsPermutation, List, None, Option, Some, [], ap, arith, cond, false, filter, get_or, inl, inr, is_lt, is_some, length, map, nat_le, not, refl, subst, sum_by, sym, take, true, zero, ℕ, ⊎_elim, ◌++◌, ◌+◌, ◌<◌, ◌||◌, ◌∙◌, ◌∷◌, ◌≡◌, ◌≢◌, ◌≤◌, ◌⊎◌}
+use Rattle.std.proofs.Common.{All, AllPairs, Bool, Contains, IfSome, IsPermutation, List, None, Option, Some, [], ap, arith, cond, false, filter, get_or, inl, inr, is_some, length, map, nat_le, not, refl, subst, sum_by, sym, take, true, zero, ℕ, ⊎_elim, ◌++◌, ◌+◌, ◌<◌, ◌||◌, ◌∙◌, ◌∷◌, ◌≡◌, ◌≢◌, ◌≤◌, ◌⊎◌}
 use Rattle.vpc_base.proofs.Lemmas.{All-append, All-cons, All-filter, All-head, All-map, All-nil, All-permutation, All-tail, All-take, All-weaker, AllPairs-map, Any-from_list_any, Contains-append_left, Contains-append_right, cases_lt, filter-append, filter_passes, get_or-take, length-append, length-map, length-take-le, length_permutation, list_any-IsPermutation, list_any-append, list_any_at, nat_tests, or_cases, or_left, or_right, ranks_by, sorted_far, sum_by-IsPermutation, sum_by-append, sum_by-cons, sum_by-take-le}
 use Rattle.std.specs.List.{list_any}
-use Rattle.std.specs.declared.cmp.Ordering.{Ordering}
-use Rattle.std.specs.declared.cmp.Ordering.TheVariants.{Equal, Greater, Less}
-use Rattle.vpc_base.specs.Terms.{AreAmong, CutLists, IsBefore, order_of}
+use Rattle.vpc_base.proofs.Members.{Contains-none}
+use Rattle.vpc_base.specs.Terms.{AreAmong, CutLists, IsBefore}
 use Rattle.vpc_base.specs.declared.headers.Header.{Header}
 use Rattle.header_boxes.proofs.Lemmas.{aligned_grows, holds_low, holds_whole, low_is_least, order_of_total, valid_if_within}
 use Rattle.header_boxes.specs.Terms.{AreDisjoint, HasWord, IsAligned, IsValid, IsWithin, cells_of, holds, is_covered, low_of}
@@ -17,24 +16,10 @@ use Rattle.ordered_cover.specs.Terms.{HoldAllTold, IsGathered, LeaveSomeOut, hol
 use Rattle.ordered_cover.specs.declared.rows.Gathered.{Gathered}
 use Rattle.ordered_cover.specs.declared.rows.Gathered.TheVariants as gathered
 use Rattle.box_gather.proofs.Counting.{count_by_disjoint, disjoint_by_count, filter_all, length-filter-le, none_before, none_from_any, one_from_any, sum_by-filter-le}
+use Rattle.box_gather.proofs.Order.{before_if, before_is, not_before}
+use Rattle.box_gather.proofs.Parted.{parted_in_one, parted_kept, parted_together}
 use Rattle.box_gather.specs.Over.{AreRowsOver, IsFirstLeftOut, IsGatheredOver, IsPartOf, IsPartOver, IsWholeOver, cells_over, is_in}
 use Rattle.box_gather.specs.Pile.{IsLeftOut, IsPast, IsPile, IsPiled, IsTrimmed, RiseByCorner, begins_before, cut, earlier, is_before, kept_before, whole}
-
--- ---- the order
-
-less_if : (o : Ordering) → is_lt o ≡ true → o ≡ Less
-less_if Less e = refl
-less_if Equal e = absurd cc
-less_if Greater e = absurd cc
-
-pub before_if : (a b : Header) → is_before a b ≡ true → IsBefore a b
-before_if a b e = less_if (order_of a b) e
-
-pub before_is : (a b : Header) → IsBefore a b → is_before a b ≡ true
-before_is a b e = ap is_lt e
-
-not_before : (a b : Header) → is_before a b ≡ false → ¬ (IsBefore a b)
-not_before a b e lt = let k = sym e ∙ before_is a b lt in absurd cc
 
 -- ---- two headers that are left out
 
@@ -260,6 +245,7 @@ pile_joined {W = W} meaning cuts boxes others room rows more next far apart a b 
       let less = kept_length (earlier next far) (rows ++ more) in
       let joined = length-append rows more in
       omega (arith, x, y, split, ones, less, joined);
+  parted = parted_kept (boxes ++ others) (rows ++ more) (parted_together cuts boxes others rows more apart a.parts b.parts a.parted b.parted) (earlier next far);
 }
 
 -- ---- one box, and none
@@ -274,6 +260,7 @@ pile_of_none meaning cuts room = record {
   begun = tt;
   many = tt;
   cells = λ all among. omega arith;
+  parted = λ first other has_first has_other can. absurd (Contains-none first has_first);
 }
 
 in_one : (b c : Bool) → (b || false) ≡ c → b ≡ c
@@ -325,6 +312,7 @@ module _ {W : Type 0} {meaning : Header → Option W} {cuts : CutLists} {sides :
         let l = cells_here cuts sides rows k.are_true.within k.ordered.aligned k.are_true.disjoint all among in
         let s = sum_by-cons (cells_of all) sides [] in
         omega (arith, l, s);
+    parted = parted_in_one rows k.ordered.ascending sides k.joined;
   }
 
   pub pile_of_part : (n : Header) → LeaveSomeOut meaning cuts sides room rows n → IsPile meaning cuts (sides ∷ []) room rows (Some n)
@@ -340,4 +328,5 @@ module _ {W : Type 0} {meaning : Header → Option W} {cuts : CutLists} {sides :
         let l = k.cells all among in let c = k.count in
         let s = sum_by-cons (cells_of all) sides [] in
         omega (arith, l, s, c);
+    parted = parted_in_one rows k.ordered.ascending sides k.joined;
   }

@@ -13,7 +13,8 @@ use Rattle.ordered_cover.specs.Terms.{IsGathered, holders, one_if, row_holders}
 use Rattle.ordered_cover.specs.declared.rows.Gathered.{Gathered}
 use Rattle.ordered_cover.specs.declared.rows.Gathered.TheVariants as gathered
 use Rattle.box_gather.proofs.Counting.{count_by_disjoint, disjoint_by_count, none_before, two_at}
-use Rattle.box_gather.proofs.Piles.{before_if, pile_joined, pile_of_part, pile_of_whole}
+use Rattle.box_gather.proofs.Parted.{joined_if_parted, parted_cut, parted_permuted}
+use Rattle.box_gather.proofs.Piles.{pile_joined, pile_of_part, pile_of_whole}
 use Rattle.box_gather.specs.Over.{AreRowsOver, IsGatheredOver, IsPartOf, IsPartOver, IsWholeOver, cells_over, is_in}
 use Rattle.box_gather.specs.Pile.{IsLeftOut, IsPast, IsPile, IsPiled, IsShortened, IsTrimmed, RiseByCorner, cut, earlier, is_before, kept, kept_before, trimmed, whole}
 
@@ -70,6 +71,7 @@ module _ {W : Type 0} (meaning : Header → Option W) (cuts : CutLists) (boxes :
     begun = begun_permuted sorted same next k.begun;
     many = subst (λ (n : ℕ). IfSome next (λ h. room ≤ n)) (sym (length_permutation rows sorted same)) k.many;
     cells = λ all among. let c = k.cells all among in let l = length_permutation rows sorted same in omega (arith, c, l);
+    parted = parted_permuted boxes rows k.parted sorted same;
   }
 
 -- ---- piles that are cut
@@ -161,6 +163,7 @@ module _ {W : Type 0} (meaning : Header → Option W) (cuts : CutLists) (boxes :
     begun = cut_begun;
     many = let l = length-take-le room rows (omega (arith, more)) in omega (arith, l);
     cells = λ all among. let c = k.cells all among in let l = length-take-le room rows (omega (arith, more)) in omega (arith, c, l, more);
+    parted = parted_cut rows up boxes room more k.parted;
   }
 
   pub cut_ascends : AllPairs (λ a b. IsBefore (low_of a.part) (low_of b.part)) (take room rows)
@@ -212,6 +215,7 @@ module _ {W : Type 0} (meaning : Header → Option W) (cuts : CutLists) (boxes :
     word = k.pile.word;
     disjoint = disjoint_by_count (λ (r : Row W). r.part) rows (λ h. let e = k.pile.each h in let a = apart h in omega (arith, e, a));
     ascending = k.ascending;
+    joined = joined_if_parted rows k.ascending boxes k.pile.parted;
   }
 
   whole_over : IsOrderedPile meaning cuts boxes room rows None → IsWholeOver meaning cuts boxes room rows

@@ -9,6 +9,7 @@ use Rattle.header_boxes.specs.Cells.{IsAligned, cells_of}
 use Rattle.header_boxes.specs.Rows.{HasWord, is_covered}
 use Rattle.header_boxes.specs.declared.boxes.Box5.{Box5}
 use Rattle.header_boxes.specs.declared.rows.Row.{Row}
+use Rattle.ordered_cover.specs.Joined.{AreJoined, GoesOnEitherWay}
 use Rattle.ordered_cover.specs.declared.rows.Gathered.{Gathered}
 use Rattle.ordered_cover.specs.declared.rows.Gathered.TheVariants.{All as Whole, More}
 
@@ -23,12 +24,21 @@ pub record IsPartOf (cuts : CutLists) (boxes : List Box5) (part : Box5) : Type 0
   pub within : IsWithin part whole
   pub aligned : IsAligned cuts part whole
 
--- disjoint parts of the boxes, each with the word of all its headers, by ascending low corners
+-- the other box goes on from the first, by p or by q, and both lie in one of the boxes
+pub record GoesOnWithin (boxes : List Box5) (first other : Box5) : Type 0 where
+  pub whole : Box5
+  pub among : Contains boxes whole
+  pub first_in : IsWithin first whole
+  pub other_in : IsWithin other whole
+  pub on : GoesOnEitherWay first other
+
+-- disjoint parts of the boxes, each with the word of all its headers, by ascending low corners; no row could be one with the next in one of the boxes
 pub record AreRowsOver {W : Type 0} (meaning : Header → Option W) (cuts : CutLists) (boxes : List Box5) (rows : List (Row W)) : Type 0 where
   pub parts : All (λ r. IsPartOf cuts boxes r.part) rows
   pub word : All (HasWord meaning) rows
   pub disjoint : AllPairs (λ a b. AreDisjoint a.part b.part) rows
   pub ascending : AllPairs (λ a b. IsBefore (low_of a.part) (low_of b.part)) rows
+  pub joined : AreJoined (GoesOnWithin boxes) rows
 
 -- how many cells the cuts make of the boxes
 abbrev pub cells_over : CutLists → List Box5 → ℕ

@@ -1,5 +1,5 @@
 -- How rows of several boxes are piled up.
-use Rattle.std.specs.Prelude.{ℕ, ◌≡◌, ◌≢◌, ◌≤◌, ◌<◌, ◌+◌, ◌⊎◌, All, Bool, IfSome, IsPermutation, List, None, Option, Some, false, filter, if◌then◌else◌, length, slice_index_or, take, true}
+use Rattle.std.specs.Prelude.{ℕ, ◌≡◌, ◌≢◌, ◌≤◌, ◌<◌, ◌+◌, ◌⊎◌, All, Bool, Contains, IfSome, IsPermutation, List, None, Option, Some, false, filter, if◌then◌else◌, length, slice_index_or, take, true}
 use Rattle.std.specs.List.Sorted.{IsSortedBy}
 use Rattle.std.specs.Option.{is_some}
 use Rattle.std.specs.Ordering.{is_lt}
@@ -10,10 +10,11 @@ use Rattle.header_boxes.specs.Boxes.{low_of}
 use Rattle.header_boxes.specs.Rows.{HasWord, is_covered}
 use Rattle.header_boxes.specs.declared.boxes.Box5.{Box5}
 use Rattle.header_boxes.specs.declared.rows.Row.{Row}
+use Rattle.ordered_cover.specs.Joined.{CanJoin}
 use Rattle.ordered_cover.specs.Open.{holders, one_if, row_holders}
 use Rattle.ordered_cover.specs.declared.rows.Gathered.{Gathered}
 use Rattle.ordered_cover.specs.declared.rows.Gathered.TheVariants.{All as Whole, More}
-use Rattle.box_gather.specs.Over.{IsPartOf, cells_over, is_in}
+use Rattle.box_gather.specs.Over.{GoesOnWithin, IsPartOf, cells_over, is_in}
 
 -- the first header comes before the other
 abbrev pub is_before : Header → Header → Bool
@@ -68,6 +69,18 @@ pub record IsLeftOut {W : Type 0} (meaning : Header → Option W) (boxes : List 
   pub told : meaning h ≢ None
   pub outside : is_covered rows h ≡ false
 
+-- a row that begins after one box and before the other
+pub record StandsBetween {W : Type 0} (rows : List (Row W)) (first other : Box5) : Type 0 where
+  pub row : Row W
+  pub among : Contains rows row
+  pub after : IsBefore (low_of first) (low_of row.part)
+  pub before : IsBefore (low_of row.part) (low_of other)
+
+-- between two rows of one box that could be one begins a third
+abbrev pub AreParted : {W : Type 0} → List Box5 → List (Row W) → Type 0
+AreParted {W} boxes rows =
+    (first other : Row W) → Contains rows first → Contains rows other → CanJoin (GoesOnWithin boxes) first other → StandsBetween rows first.part other.part
+
 -- rows of some boxes, in any order: up to a header that is left out they hold all that is told something, and then they are room or more
 pub record IsPile {W : Type 0} (meaning : Header → Option W) (cuts : CutLists) (boxes : List Box5) (room : ℕ) (rows : List (Row W)) (next : Option Header) : Type 0 where
   pub parts : All (λ r. IsPartOf cuts boxes r.part) rows
@@ -78,3 +91,4 @@ pub record IsPile {W : Type 0} (meaning : Header → Option W) (cuts : CutLists)
   pub begun : IfSome next (λ n. All (λ r. IsBefore (low_of r.part) n) rows)
   pub many : IfSome next (λ n. room ≤ length rows)
   pub cells : (all : CutLists) → AreAmong cuts all → one_if (is_some next) + length rows ≤ cells_over all boxes
+  pub parted : AreParted boxes rows

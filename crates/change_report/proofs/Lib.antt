@@ -1,6 +1,7 @@
 pub mod BoxLemmas
 pub mod StartLemmas
 pub mod GatherLemmas
+pub mod JoinedLemmas
 pub mod RowLemmas
 pub mod BodyLemmas
 pub mod AnswerLemmas

@@ -1,11 +1,14 @@
 -- What is told of a question: for each start the boxes of requests for which something changes, each with what does.
 use Rattle.std.specs.Prelude.{List, None, Option, Some, option_map, ℕ}
+use Rattle.box_gather.specs.Over.{AreRowsOver}
+use Rattle.header_boxes.specs.declared.rows.Row.{Row}
 use Rattle.journey_changes.specs.Changes.{change_of, cuts_of_both}
 use Rattle.journey_changes.specs.Sent.{Sent, sent}
 use Rattle.journey_changes.specs.declared.changes.Change.{Change}
 use Rattle.journey_changes.specs.declared.fates.Toward.{Toward}
 use Rattle.journey_changes.specs.declared.fates.Toward.TheVariants as towards
 use Rattle.listing_text.specs.Told.{AreToldAll as AllOf, StartRows, Wanted}
+use Rattle.ordered_cover.specs.Joined.{AreJoined, GoesOnEitherWay}
 use Rattle.query_words.specs.declared.changes.ChangedEnd.{ChangedEnd}
 use Rattle.vpc_base.specs.Cuts.{CutLists}
 use Rattle.vpc_laws.specs.Types.{End, Header}
@@ -47,3 +50,9 @@ ChangeRows = StartRows ChangedEnd Change
 -- disjoint rows, by their low corners, of requests from each start for which something changes, which hold all of them
 abbrev pub AreToldAll : Comparison → List (ℕ × ℕ) → List ChangedEnd → List ChangeRows → Type 0
 AreToldAll c targets starts told = AllOf (wanted c targets) starts told
+
+-- no row from a start could be one with the next, whatever boxes they lie in
+abbrev pub RowsAreJoined : Type 0
+RowsAreJoined =
+    (c : Comparison) (targets : List (ℕ × ℕ)) (start : ChangedEnd) (rows : List (Row Change))
+    → AreRowsOver (change_in c start) (cuts_in c) (boxes_at c targets start) rows → AreJoined GoesOnEitherWay rows

@@ -4,11 +4,13 @@
 mod answers;
 mod bodies;
 mod command;
+mod laws;
 mod rows;
 mod sides;
 mod starts;
 
 pub use answers::is_too_many;
 pub use command::ReachCommand;
+pub use laws::rows_are_joined;
 pub use sides::{boxes_at, targets_of};
 pub use starts::starts_of;

@@ -1,13 +1,14 @@
 -- What a search answers about the stops of requests is a report about their verdicts.
-use Rattle.std.proofs.Common.{Err, IfOk, List, None, Ok, Option, Result, Some, ap, option_map, refl, slice_index_or, subst, sym, ℕ, ◌<◌, ◌∙◌, ◌≡◌}
+use Rattle.std.proofs.Common.{[], Err, IfOk, List, None, Ok, Option, Result, Some, ap, arith, length, option_map, refl, slice_index_or, subst, sym, ℕ, ◌+◌, ◌<◌, ◌∙◌, ◌∷◌, ◌≡◌}
 use Rattle.std.specs.Global.{Vec}
-use Rattle.std.proofs.lemmas.List.{length-map}
+use Rattle.std.proofs.lemmas.List.{get_or-map, length-map}
 use Rattle.header_boxes.proofs.Held.{holds_low, valid_if_within}
 use Rattle.header_boxes.specs.Terms.{AreTrueRows, IsFirst, IsFirstThrough, NoneThrough, low_of}
 use Rattle.block_report.specs.Reports.{HaveText, told_row, told_rows}
 use Rattle.box_walk.proofs.Texts.{ending_of-stop, stop_told}
-use Rattle.box_walk.specs.Asking.{Asking, asked, stopped_of, whether, word_of}
+use Rattle.box_walk.specs.Asking.{Asking, asked, stop_of, stopped_of, whether, word_of}
 use Rattle.ordered_cover.specs.Cover.{IsBlocked, IsMore, IsSearched}
+use Rattle.ordered_cover.specs.Joined.{AreJoined, CanJoin, GoesOn}
 use Rattle.ordered_cover.specs.declared.rows.Searched.{Searched}
 use Rattle.ordered_cover.specs.declared.rows.Searched.TheVariants as searches
 use Rattle.query_words.specs.declared.queries.Query.{Query}
@@ -15,7 +16,7 @@ use Rattle.vpc_laws.proofs.Telling.{verdicts_are_told}
 use Rattle.vpc_laws.specs.Types.{Box5, Description, Header, Phase, Row, Stop, StopText}
 use Rattle.vpc_model.specs.Terms.{IsAccepted, IsCellCount, appliances_of, cuts_of, told_stop, verdict_of}
 use Rattle.network_reach.proofs.Told.{Tells, begun_told, first_told, none_through_told, ordered_told, outside_told, true_told, whole_told}
-use Rattle.network_reach.specs.Reached.{IsPartReportIn, IsQueryIn, IsReached, IsReportIn, meaning_in}
+use Rattle.network_reach.specs.Reached.{AreJoinedIn, GoesOnAlike, IsPartReportIn, IsQueryIn, IsReached, IsReportIn, meaning_in}
 use Rattle.network_reach.specs.declared.reach.Reached.TheVariants as answers
 
 -- ---- the stops of a query's headers, and what is told of each
@@ -89,6 +90,45 @@ untold d o e = ap (option_map (tell d)) e
 pub none_unstopped : (d : Description) (query : Query) → NoneThrough (meaning_in d query) query.sides → NoneThrough (stops_of d query) query.sides
 none_unstopped d query none h held e = none h held (tells d query h held ∙ untold d (stops_of d query h) e)
 
+-- ---- rows that could be one
+
+module _ (d : Description) (query : Query) (rows : List (Row (Phase × Stop))) (some : Row (Phase × Stop)) (are : AreTrueRows (stops_of d query) query.sides rows) where
+  row_told : (k : ℕ) (none : Row StopText) → k < length rows → slice_index_or (told_rows d rows) k none ≡ told_row d (slice_index_or rows k some)
+  row_told k none lt = get_or-map (told_row d) rows k some none lt
+
+  -- what stops the first header of a row
+  stops_first : (k : ℕ) → k < length rows → stops_of d query (low_of (slice_index_or rows k some).part) ≡ Some (slice_index_or rows k some).word
+  stops_first k lt =
+      let row = slice_index_or rows k some in
+      are.word k some lt (low_of row.part) (holds_low row.part (valid_if_within row.part query.sides (are.within k some lt)))
+
+  -- rows of which the first headers have one verdict have the same word
+  joined_alike : AreJoined GoesOn rows → AreJoinedIn d query (told_rows d rows)
+  joined_alike joined k none below can =
+      let lt : k + 1 < length rows = subst (λ (n : ℕ). k + 1 < n) (length-map rows (told_row d)) below in
+      let before : k < length rows = omega (arith, lt) in
+      let first = slice_index_or rows k some in
+      let other = slice_index_or rows (k + 1) some in
+      let one = subst (λ (r : Row StopText). CanJoin (GoesOnAlike d query) r (slice_index_or (told_rows d rows) (k + 1) none)) (row_told k none before) can in
+      let both = subst (λ (r : Row StopText). CanJoin (GoesOnAlike d query) (told_row d first) r) (row_told (k + 1) none lt) one in
+      let same : Some first.word ≡ Some other.word = sym (stops_first k before) ∙ (ap stop_of both.0.alike ∙ stops_first (k + 1) lt) in
+      joined k some lt (both.0.on, cc)
+
+-- no row of stops goes on from one with the same stop, so none that is told does
+told_are_joined : (d : Description) (query : Query) (rows : List (Row (Phase × Stop))) → AreTrueRows (stops_of d query) query.sides rows → AreJoined GoesOn rows → AreJoinedIn d query (told_rows d rows)
+told_are_joined d query [] are joined = λ k none below can. absurd (omega (arith, below))
+told_are_joined d query (row ∷ rows) are joined = joined_alike d query (row ∷ rows) row are joined
+
+-- of the same network, in a slice
+pub told_as : (d n : Description) (rows given : List (Row (Phase × Stop))) → n ≡ d → given ≡ rows → HaveText d rows → HaveText n given
+told_as d n rows given same are told = subst (λ (x : Description). HaveText x given) (sym same) (subst (HaveText d) (sym are) told)
+
+pub joined_as : (d n : Description) (query : Query) (rows given : List (Row (Phase × Stop))) → n ≡ d → given ≡ rows → AreJoinedIn d query (told_rows d rows)
+    → AreJoinedIn n query (told_rows n given)
+joined_as d n query rows given same are joined =
+    subst (λ (x : Description). AreJoinedIn x query (told_rows x given)) (sym same)
+    (subst (λ (l : List (Row (Phase × Stop))). AreJoinedIn d query (told_rows d l)) (sym are) joined)
+
 -- ---- reports
 
 report : (d : Description) (query : Query) (rows : List (Row (Phase × Stop))) → IsBlocked (stops_of d query) (cuts_of d) query.sides query.max rows → IsReportIn d query (told_rows d rows)
@@ -102,7 +142,7 @@ report d query rows is = record {
 
 pub blocked_is : (d : Description) (query : Query) (rows : Vec (Row (Phase × Stop))) → IsAccepted d → IsQueryIn d query
     → IsBlocked (stops_of d query) (cuts_of d) query.sides query.max rows.items → IsReached d query (answers.Blocked rows)
-blocked_is d query rows accepted asked is = (have-text d query rows.items accepted asked is.are_true, (report d query rows.items is, (is.few, is.joined)))
+blocked_is d query rows accepted asked is = (have-text d query rows.items accepted asked is.are_true, (report d query rows.items is, (is.few, (is.joined, told_are_joined d query rows.items is.are_true is.joined))))
 
 part-report : (d : Description) (query : Query) (rows : List (Row (Phase × Stop))) (next : Header) (n : ℕ)
     → IsCellCount d query.sides n → IsMore (stops_of d query) (cuts_of d) query.sides query.max rows next → NoneThrough (stops_of d query) query.sides
@@ -122,4 +162,4 @@ pub more_is : (d : Description) (query : Query) (rows : Vec (Row (Phase × Stop)
     → IsCellCount d query.sides n → IsMore (stops_of d query) (cuts_of d) query.sides query.max rows.items next → NoneThrough (stops_of d query) query.sides
     → IsReached d query (answers.More rows next n)
 more_is d query rows next n accepted asked cells is none =
-    (have-text d query rows.items accepted asked is.are_true, (part-report d query rows.items next n cells is none, is.joined))
+    (have-text d query rows.items accepted asked is.are_true, (part-report d query rows.items next n cells is none, (is.joined, told_are_joined d query rows.items is.are_true is.joined)))

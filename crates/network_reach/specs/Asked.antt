@@ -3,7 +3,7 @@ use Rattle.std.specs.Prelude.{◌≡◌, ◌≤◌, Err, List, Ok, length, true,
 use Rattle.header_boxes.specs.Boxes.{holds}
 use Rattle.header_boxes.specs.Rows.{IsFirstThrough, NoneThrough}
 use Rattle.block_report.specs.Reports.{more_text, reachable_text, report_text}
-use Rattle.network_reach.specs.Reached.{IsPartReportIn, IsQueryIn, IsReportIn, meaning_in}
+use Rattle.network_reach.specs.Reached.{AreJoinedIn, IsPartReportIn, IsQueryIn, IsReportIn, meaning_in}
 use Rattle.query_words.specs.Query.{query_of}
 use Rattle.query_words.specs.declared.queries.Query.{Query}
 use Rattle.query_words.specs.declared.refusal.QueryRefusal.{QueryRefusal}
@@ -36,21 +36,23 @@ pub record IsReachable (d : Description) (query : Query) (text : List ℕ) : Typ
 abbrev pub report_about : Query → List (Row StopText) → Report
 report_about query rows = record { start = query.start; goal = query.goal; sides = query.sides; rows = rows }
 
--- an ordered true report of at most max rows; its text reads as that report, and is short enough for a file
+-- an ordered true report of at most max rows, of which none could be one with the next; its text reads as that report, and is short enough for a file
 pub record IsReported (d : Description) (query : Query) (text : List ℕ) : Type 0 where
   pub rows : List (Row StopText)
   pub report : IsReportIn d query rows
+  pub joined : AreJoinedIn d query rows
   pub few : length rows ≤ query.max
   pub text_is : text ≡ report_text d query.start query.goal query.sides rows
   pub reads : report_of_text d text ≡ Ok (report_about query rows)
   pub short : length text ≤ file_limit
 
--- exactly max true rows, the first header that they leave out, and the number of cells, which is greater; no header gets through
+-- exactly max true rows, of which none could be one with the next, the first header that they leave out, and the number of cells, which is greater; no header gets through
 pub record IsReportedInPart (d : Description) (query : Query) (text : List ℕ) : Type 0 where
   pub rows : List (Row StopText)
   pub next : Header
   pub cells : ℕ
   pub report : IsPartReportIn d query rows next cells
+  pub joined : AreJoinedIn d query rows
   pub text_is : text ≡ more_text d query.start query.goal query.sides rows next cells
 
 -- ---- answers

@@ -1,14 +1,15 @@
 -- What is answered to a query, in the words of the model.
 use Rattle.std.specs.Prelude.{◌≡◌, ◌≤◌, List, Option, length, true, ℕ}
-use Rattle.header_boxes.specs.Boxes.{IsValid}
+use Rattle.header_boxes.specs.Boxes.{IsValid, low_of}
 use Rattle.header_boxes.specs.Rows.{IsFirstThrough}
 use Rattle.block_report.specs.Reports.{HaveText, told_rows}
 use Rattle.ordered_cover.specs.Joined.{AreJoined, GoesOn}
 use Rattle.query_words.specs.declared.queries.Query.{Query}
-use Rattle.vpc_laws.specs.Types.{Description, Header, Row, StopText}
+use Rattle.vpc_laws.specs.Types.{Box5, Description, Header, Row, StopText, Verdict}
 use Rattle.vpc_model.specs.Appliances.{appliances_of}
 use Rattle.vpc_model.specs.Report.{IsOrderedReport, IsPartReport, meaning_of}
 use Rattle.vpc_model.specs.Sound.{is_end}
+use Rattle.vpc_model.specs.Verdict.{verdict_of}
 use Rattle.network_reach.specs.declared.reach.Reached.{Reached}
 use Rattle.network_reach.specs.declared.reach.Reached.TheVariants as answers
 
@@ -31,8 +32,21 @@ IsReportIn d query rows = IsOrderedReport d (appliances_of d) query.start query.
 abbrev pub IsPartReportIn : Description → Query → List (Row StopText) → Header → ℕ → Type 0
 IsPartReportIn d query rows next cells = IsPartReport d (appliances_of d) query.start query.goal query.sides query.max rows next cells
 
+-- the verdict of each request of a query, with the described appliances
+abbrev pub verdict_in : Description → Query → Header → Verdict
+verdict_in d query = verdict_of d (appliances_of d) query.start query.goal
+
+-- the other box goes on from the first, and the first request of each ends in the same verdict
+pub record GoesOnAlike (d : Description) (query : Query) (first other : Box5) : Type 0 where
+  pub on : GoesOn first other
+  pub alike : verdict_in d query (low_of first) ≡ verdict_in d query (low_of other)
+
+-- no row of a report goes on from the one before it and tells of the same verdict
+abbrev pub AreJoinedIn : Description → Query → List (Row StopText) → Type 0
+AreJoinedIn d query rows = AreJoined (GoesOnAlike d query) rows
+
 -- the first header that gets through; or an ordered true report of at most max rows; or max rows that leave headers out. No row could be one with the next
 abbrev pub IsReached : Description → Query → Reached → Type 0
 IsReached d query (answers.Through h) = IsFirstThrough (meaning_in d query) query.sides h
-IsReached d query (answers.Blocked rows) = HaveText d rows.items × (IsReportIn d query (told_rows d rows.items) × ((length rows.items ≤ query.max) × AreJoined GoesOn rows.items))
-IsReached d query (answers.More rows next cells) = HaveText d rows.items × (IsPartReportIn d query (told_rows d rows.items) next cells × AreJoined GoesOn rows.items)
+IsReached d query (answers.Blocked rows) = HaveText d rows.items × (IsReportIn d query (told_rows d rows.items) × ((length rows.items ≤ query.max) × (AreJoined GoesOn rows.items × AreJoinedIn d query (told_rows d rows.items))))
+IsReached d query (answers.More rows next cells) = HaveText d rows.items × (IsPartReportIn d query (told_rows d rows.items) next cells × (AreJoined GoesOn rows.items × AreJoinedIn d query (told_rows d rows.items)))

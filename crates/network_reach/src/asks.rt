@@ -2,7 +2,7 @@
 ghost use Rattle.std.specs.Prelude.{◌≡◌, ◌≤◌, IfOk, length, map, string_bytes};
 ghost use Rattle.block_report.specs.Reports.{HaveText, told_rows};
 ghost use Rattle.header_boxes.specs.Rows.{IsFirstThrough};
-ghost use Rattle.network_reach.specs.Reached.{IsPartReportIn, IsQueryIn, IsReportIn, meaning_in};
+ghost use Rattle.network_reach.specs.Reached.{AreJoinedIn, IsPartReportIn, IsQueryIn, IsReportIn, meaning_in};
 ghost use Rattle.network_reach.specs.Asked.{IsAnswerTo, IsAsked, IsPut, IsReachable, IsReported, IsReportedInPart};
 ghost use Rattle.vpc_model.specs.Appliances.{appliances_of};
 
@@ -55,6 +55,7 @@ fn answer_blocked(
     requires query { IsPut n.now query.now }
     requires told { HaveText n.now rows.now }
     requires report { IsReportIn n.now query.now (told_rows n.now rows.now) }
+    requires joined { AreJoinedIn n.now query.now (told_rows n.now rows.now) }
     requires few { length rows.now ≤ query.now.max }
     ensures { IfOk result (λ a.
         (a.status ≡ Status.No) × IsReported n.now query.now a.text.items) }
@@ -78,6 +79,7 @@ fn answer_more(
     requires query { IsQueryIn n.now query.now }
     requires told { HaveText n.now rows.now }
     requires report { IsPartReportIn n.now query.now (told_rows n.now rows.now) next.now cells }
+    requires joined { AreJoinedIn n.now query.now (told_rows n.now rows.now) }
     ensures { IfOk result (λ a.
         (a.status ≡ Status.More) × IsReportedInPart n.now query.now a.text.items) }
 {

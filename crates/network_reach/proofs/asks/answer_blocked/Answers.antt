@@ -18,6 +18,7 @@ returns c = (
   record {
     rows = told_rows c.args.n.now c.args.rows.now;
     report = c.requires.report;
+    joined = c.requires.joined;
     few = subst (λ (n : ℕ). n ≤ c.args.query.now.max) (sym (length-map c.args.rows.now (told_row c.args.n.now))) c.requires.few;
     text_is = c.in_ok-text.ensures.text;
     reads = c.in_ok-text.ensures.reads_back;

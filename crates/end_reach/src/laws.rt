@@ -1,0 +1,8 @@
+// What is known of the rows that `reach` tells, as a clause.
+ghost use Rattle.end_reach.specs.Told.{RowsAreJoined};
+
+/// Of the rows from one start no two that stand beside one another could be one: its boxes differ in their destinations
+/// alone, and rows that could be one have the same.
+pub fn rows_are_joined()
+    ensures { RowsAreJoined }
+{}
