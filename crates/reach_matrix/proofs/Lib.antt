@@ -3,3 +3,4 @@ pub mod AnswerLemmas
 pub mod LineLemmas
 pub mod NamingLemmas
 pub mod PortLemmas
+pub mod AskedLemmas

@@ -1,4 +1,5 @@
 pub mod Answered
+pub mod Asked
 pub mod Laws
 pub mod Matrix
 pub mod Naming

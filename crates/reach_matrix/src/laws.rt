@@ -1,4 +1,5 @@
 // What a matrix has to do with the questions of `ask`. The functions do nothing: their contracts say the laws.
+ghost use Rattle.reach_matrix.specs.Asked.{PortsAreThoseOfAsk};
 ghost use Rattle.reach_matrix.specs.Laws.{BlockedPairsAreAnswered, PortsAreAnswered, PortsAreAsked, PortsHaveFirsts};
 ghost use Rattle.reach_matrix.specs.Naming.{WordsGiveTheQuery};
 
@@ -26,4 +27,10 @@ pub fn blocked_pairs_are_answered()
 /// The words of `ask` about a pair give the query of which the other laws speak, where neither id is the word `internet`.
 pub fn words_give_the_query()
     ensures { WordsGiveTheQuery }
+{}
+
+/// The whole of it: of each port that was asked for, `ask` about the pair and that port alone ends with the status Yes exactly
+/// where the port stands in the pair's line.
+pub fn ports_are_those_of_ask()
+    ensures { PortsAreThoseOfAsk }
 {}

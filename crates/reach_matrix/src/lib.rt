@@ -11,7 +11,7 @@ mod words;
 pub use answer::matrix;
 pub use command::MatrixCommand;
 pub use laws::{
-    blocked_pairs_are_answered, ports_are_answered, ports_are_asked, ports_have_firsts,
-    words_give_the_query,
+    blocked_pairs_are_answered, ports_are_answered, ports_are_asked, ports_are_those_of_ask,
+    ports_have_firsts, words_give_the_query,
 };
 pub use pairs::reach;
