@@ -1,5 +1,6 @@
 pub mod Ends
 pub mod Events
+pub mod Laws
 pub mod Packet
 pub mod Pairs
 pub mod Query

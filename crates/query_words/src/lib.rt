@@ -7,6 +7,7 @@
 mod changes;
 mod ends;
 mod events;
+mod laws;
 mod lines;
 mod packets;
 mod pairs;
@@ -20,6 +21,7 @@ mod words;
 
 pub use changes::{ChangeQuery, ChangedEnd, read_change_query, read_line_change_query};
 pub use events::{EventFault, read_events};
+pub use laws::queries_without_max_are_one;
 pub use lines::{first_words, lines_of};
 pub use packets::read_packet;
 pub use queries::{Query, read_line_query, read_query};
