@@ -1,13 +1,10 @@
-//! Tests of the words and texts of commands, and of the numbers, addresses and prefixes in them.
+//! Tests of texts that no command prints or is given, and what the words of worked commands mean, computed. Words and
+//! texts that a command can show are rows of `cli_rows`.
 #![tactic(auto)]
 
 #[cfg(test)]
-mod block_report_tests;
+mod damaged;
 #[cfg(test)]
-mod networks;
+mod printed;
 #[cfg(test)]
-mod prefix_text_tests;
-#[cfg(test)]
-mod query_words_tests;
-#[cfg(test)]
-mod report_reader_tests;
+mod words;

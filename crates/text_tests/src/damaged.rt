@@ -1,0 +1,91 @@
+// Whatever byte of a report is another one, it is no report, or one that prints as the damaged text.
+use block_report::{
+    phase_text, put, put_box_word, put_end, put_number_line, put_number_word, put_stop_words,
+    put_word,
+};
+use bundle::read_bundle;
+use header_boxes::Row;
+use reference_check::Network;
+use report_reader::{Report, read_report};
+use std::alloc::Global;
+use std::process::Abort;
+use std::test::Fail;
+use vpc_base::NoMemory;
+use vpc_model::StopText;
+
+const BUNDLE: &str = r#"{
+    "Vpcs": [{"VpcId": "vpc-1", "CidrBlock": "10.0.0.0/16"}],
+    "Subnets": [{"SubnetId": "subnet-a", "VpcId": "vpc-1", "AvailabilityZone": "zone-a"}],
+    "RouteTables": [{"RouteTableId": "rtb-1", "VpcId": "vpc-1", "Associations": [{"Main": true}], "Routes": []}],
+    "NetworkAcls": [{"NetworkAclId": "acl-1", "Associations": [{"SubnetId": "subnet-a"}], "Entries": []}],
+    "NetworkInterfaces": [
+        {"NetworkInterfaceId": "eni-a", "SubnetId": "subnet-a"},
+        {"NetworkInterfaceId": "eni-b", "SubnetId": "subnet-a"}
+    ]
+}"#;
+
+const TWO_ROWS: &[u8] = b"vpc-report 1
+query from eni-a to eni-b
+box 6-6 10.0.1.10-10.0.1.10 10.0.2.20-10.0.2.20 0-32767 443-443
+row 1 reply AclOut acl-b 32767 6-6 10.0.1.10-10.0.1.10 10.0.2.20-10.0.2.20 0-1023 443-443
+row 2 reply AclOut acl-b 32767 6-6 10.0.1.10-10.0.1.10 10.0.2.20-10.0.2.20 1024-32767 443-443
+end 2
+";
+
+fn put_row(out: &mut Vec<u8>, number: u128, row: &Row<StopText>) -> Result<(), NoMemory> {
+    let told = &row.word;
+    put(out, b"row")?;
+    put_number_word(out, number)?;
+    put_word(out, phase_text(told.phase))?;
+    put(out, b" ")?;
+    put_stop_words(out, told.name, told.id.bytes(), told.rule.bytes())?;
+    put_box_word(out, &row.part)?;
+    put_end(out)
+}
+
+// The text of a report from the first interface to the second, from what was read of it.
+fn put_report(out: &mut Vec<u8>, report: &Report) -> Result<(), NoMemory> {
+    put(out, b"vpc-report 1\nquery from eni-a to eni-b\nbox")?;
+    put_box_word(out, &report.sides)?;
+    put_end(out)?;
+    let rows = report.rows.as_slice();
+    for (k, row) in rows.iter().enumerate() {
+        put_row(out, k as u128 + 1, row)?;
+    }
+    put_number_line(out, b"end", rows.len() as u128)
+}
+
+// Whether this text is no report, or that of what is read of it; and whether it is a report.
+fn is_told(alloc: Global, n: &Network, text: &[u8]) -> (bool, bool) {
+    let mut out = Vec::new(alloc);
+    match read_report(alloc, n, text) {
+        Ok(report) => {
+            let put = put_report(&mut out, &report);
+            (put.is_ok() && out.as_slice() == text, true)
+        }
+        Err(_) => (true, false),
+    }
+}
+
+fn tells_damage(rt: &impl Abort, alloc: Global, n: &Network) -> Result<(), Fail> {
+    assert_eq!(rt; is_told(alloc, n, TWO_ROWS), (true, true));
+    for k in 0..TWO_ROWS.len() {
+        for bits in [1, 2, 4, 16, 64] {
+            let mut text = TWO_ROWS.to_vec(alloc)?;
+            if let Some(c) = text.get_mut(k) {
+                *c ^= bits;
+            }
+            let (same, _) = is_told(alloc, n, text.as_slice());
+            assert!(rt; same, "{k} {bits}");
+        }
+    }
+    Ok(())
+}
+
+#[test]
+fn reads_damaged_reports(rt: HostRuntime) -> Result<(), Fail> {
+    match read_bundle(rt.alloc(), BUNDLE.as_bytes()) {
+        Ok(n) => tells_damage(&rt, rt.alloc(), &n),
+        Err(_) => Err(Fail::new("the bundle makes no network")),
+    }
+}
