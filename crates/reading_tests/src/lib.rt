@@ -1,21 +1,12 @@
-//! Tests of the rows of the model, and of what reads, checks and makes networks of them.
+//! Tests of made networks, of paths in bundles and of verdicts that are one. What readers make of bundles, and which
+//! they refuse, is shown by rows of `cli_rows`.
 #![tactic(auto)]
 
 #[cfg(test)]
-mod bundle_tests;
-#[cfg(test)]
-mod json_fields_tests;
-#[cfg(test)]
 mod made_network_tests;
 #[cfg(test)]
-mod read_filters_tests;
-#[cfg(test)]
-mod read_gateways_tests;
-#[cfg(test)]
-mod read_network_tests;
-#[cfg(test)]
-mod reference_check_tests;
+mod paths;
 #[cfg(test)]
 mod telling;
 #[cfg(test)]
-mod vpc_model_tests;
+mod verdicts;
