@@ -1,128 +1,89 @@
-// What no clause says: the verdicts of small ACLs, by hand.
-ghost use Rattle.std.specs.Prelude.{◌≡◌};
+// Verdicts on boxes.
+ghost use Rattle.std.specs.Prelude.{◌≤◌};
 
-mod boxes;
-
-use crate::networks::{id_of, none, one};
+use crate::networks::{acl_of, description_of, none, one};
+use crate::requests::opens;
+use header_boxes::Box5;
 use network_acls::AclIndex;
 use prefix_text::Prefix;
 use std::alloc::Global;
-use std::process::Abort;
 use std::test::Fail;
-use vpc_base::{Dir, Header, OwnList};
-use vpc_model::{Acl, AclNo, AclRow, Description};
+use vpc_base::Dir;
+use vpc_model::{AclNo, AclRow};
 
-const TCP: u8 = 6;
-
-const UDP: u8 = 17;
-
-// An ACL with these rows and no subnets.
-fn acl_with(alloc: Global, rows: &[AclRow]) -> Result<Acl, Fail> {
-    let rows = OwnList::of(rows.to_vec(alloc)?);
-    let id = id_of(alloc, b"acl-1")?;
-    Ok(Acl {
-        id,
-        subnets: none(alloc),
-        rows,
-    })
-}
-
-// A description with these ACLs and nothing else.
-fn description_with(alloc: Global, acls: OwnList<Acl>) -> Description
-    ensures { result.acls ≡ acls }
-{
-    Description {
-        vpcs: none(alloc),
-        subnets: none(alloc),
-        interfaces: none(alloc),
-        tables: none(alloc),
-        lists: none(alloc),
-        acls,
-        groups: none(alloc),
-        igws: none(alloc),
-        nats: none(alloc),
-        peerings: none(alloc),
-        attachments: none(alloc),
-        associations: none(alloc),
-        tgw_tables: none(alloc),
-        appliances: none(alloc),
-    }
-}
-
-// The index of an ACL with these rows.
-fn index_of(alloc: Global, rows: &[AclRow]) -> Result<AclIndex, Fail> {
-    let acls = one(alloc, acl_with(alloc, rows)?)?;
-    let d = description_with(alloc, acls);
-    Ok(AclIndex::of(alloc, &d, AclNo(0))?)
-}
-
-fn tcp_row(number: u16, outward: bool, allow: bool, q: (u16, u16), block: Prefix) -> AclRow {
+fn row(number: u16, allow: bool, proto: Option<u8>, q: (u16, u16), block: Prefix) -> AclRow {
     AclRow {
         number,
-        outward,
+        outward: false,
         allow,
-        proto: Some(TCP),
+        proto,
         q_from: q.0,
         q_to: q.1,
         block,
     }
 }
 
-fn header(proto: u8, src: u32, dst: u32, q: u16) -> Header {
-    Header {
-        proto,
-        src,
-        dst,
-        p: 40000,
-        q,
-    }
-}
-
-// Rows out of order: 200 denies HTTPS from anywhere, 100 allows it from 10.0.0.0/8, and a second row 100
-// denies it. Row 90 has no ports. Outward, row 100 allows the high half of the ports to 10.0.0.0/8, and
-// row 300 everything to 192.0.2.0/24.
-fn rows() -> [AclRow; 6] {
+// The first row has no ports. SSH is denied, HTTPS is allowed from 10.0.0.0/8, and so are the high ports by any
+// protocol.
+fn index_of_four_rows(alloc: Global) -> Result<AclIndex, Fail> {
     let anywhere = Prefix::of(0, 0);
-    let ten = Prefix::of(0x0A00_0000, 8);
-    [
-        tcp_row(200, false, false, (443, 443), anywhere),
-        tcp_row(100, false, true, (443, 443), ten),
-        tcp_row(100, false, false, (443, 443), ten),
-        tcp_row(90, false, true, (90, 80), anywhere),
-        AclRow {
-            proto: None,
-            ..tcp_row(300, true, true, (0, 65535), Prefix::of(0xC000_0200, 24))
-        },
-        tcp_row(100, true, true, (32768, 65535), ten),
-    ]
+    let rows = [
+        row(80, true, Some(6), (90, 80), anywhere),
+        row(90, false, Some(6), (22, 22), anywhere),
+        row(100, true, Some(6), (443, 443), Prefix::of(0x0A00_0000, 8)),
+        row(110, true, None, (32768, 65535), anywhere),
+    ];
+    let acls = one(alloc, acl_of(alloc, &rows)?)?;
+    let d = description_of(alloc, acls, none(alloc));
+    Ok(AclIndex::of(alloc, &d, AclNo(0))?)
 }
 
-fn verdicts(rt: &impl Abort, index: &AclIndex) {
-    let (here, there, far) = (0x0A00_010A, 0x0AFF_FFFF, 0xC000_0201);
-    let cases = [
-        (Dir::Inward, header(TCP, there, here, 443), (true, 100)),
-        (Dir::Inward, header(TCP, far, here, 443), (false, 200)),
-        (Dir::Inward, header(UDP, there, here, 443), (false, 32767)),
-        (Dir::Inward, header(TCP, there, here, 442), (false, 32767)),
-        (Dir::Inward, header(TCP, there, here, 85), (false, 32767)),
-        (
-            Dir::Outward,
-            header(TCP, here, there, 32767),
-            (false, 32767),
-        ),
-        (Dir::Outward, header(TCP, here, there, 32768), (true, 100)),
-        (Dir::Outward, header(TCP, here, there, 65535), (true, 100)),
-        (Dir::Outward, header(TCP, there, far, 443), (true, 300)),
-        (Dir::Outward, header(UDP, there, far, 443), (true, 300)),
-        (Dir::Outward, header(UDP, far, there, 443), (false, 32767)),
-    ];
-    for (dir, h, want) in cases {
-        assert_eq!(rt; index.decide(dir, &h), want);
-    }
+/// The verdict, and the last protocol, source and port of the body.
+type Told = ((bool, u16), (u8, u32, u16));
+
+// Of packets from an address on, to a port or one above it, by TCP or a protocol up to the last one.
+fn told(index: &AclIndex, last_proto: u8, src: u32, q: u16) -> Told
+    requires { 6 ≤ last_proto }
+{
+    let asked = opens(&Box5 {
+        proto: (6, last_proto),
+        src: (src, u32::MAX),
+        dst: (1, 2),
+        p: (0, 9),
+        q: (q, u16::MAX),
+    });
+    let x = index.decide_on(Dir::Inward, &asked);
+    (x.told, (x.body.proto.1, x.body.src.1, x.body.q.1))
 }
+
+const BEFORE_TEN: u32 = 0x09FF_FFFF;
+
+const TEN: u32 = 0x0A00_0000;
+
+const AFTER_TEN: u32 = 0x0B00_0000;
+
+const MOST: u32 = u32::MAX;
+
+const CASES: [(u8, u32, u16, Told); 8] = [
+    // no row up to the port of the next one: SSH, HTTPS, the high ports
+    (6, TEN, 0, ((false, 32767), (6, MOST, 21))),
+    (6, TEN, 22, ((false, 90), (6, MOST, 22))),
+    (6, TEN, 23, ((false, 32767), (6, MOST, 442))),
+    // HTTPS, from the block alone
+    (6, TEN, 443, ((true, 100), (6, 0x0AFF_FFFF, 443))),
+    (6, BEFORE_TEN, 443, ((false, 32767), (6, BEFORE_TEN, 32767))),
+    (6, AFTER_TEN, 443, ((false, 32767), (6, MOST, 32767))),
+    // rows of the ports before it are passed over to the end of the box, where that holds more protocols too
+    (6, TEN, 40000, ((true, 110), (6, MOST, u16::MAX))),
+    (9, TEN, 444, ((false, 32767), (9, MOST, 32767))),
+];
 
 #[test]
-fn decides(rt: HostRuntime) -> Result<(), Fail> {
-    verdicts(&rt, &index_of(rt.alloc(), &rows())?);
+fn verdicts_on_boxes(rt: HostRuntime) -> Result<(), Fail> {
+    let index = index_of_four_rows(rt.alloc())?;
+    for (last_proto, src, q, want) in CASES {
+        assert!(rt; last_proto >= 6);
+        assert!(rt; told(&index, last_proto, src, q) == want);
+    }
     Ok(())
 }

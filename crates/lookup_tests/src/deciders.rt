@@ -1,16 +1,17 @@
-// That deciders ask their closure of one header, and their boxes of many, is what no clause says: this closure
-// counts its calls. Nor does one say that a body reaches to where the answer may turn.
+// Deciders ask their closure of one header, and their boxes of many: this closure counts its calls. A body reaches to
+// where the answer may turn.
 ghost use Rattle.std.specs.Prelude.{◌≡◌, ◌≤◌, ◌∷◌, [], IfOk, length};
-ghost use Rattle.box_images.specs.Images.{IsImageOfWalk, IsValidImage};
 ghost use Rattle.header_boxes.specs.Boxes.{IsValid};
 ghost use Rattle.vpc_model.specs.Appliances.{boxes_of_kind, passes};
 ghost use Rattle.vpc_model.specs.declared.rows.ApplianceKind.TheVariants as forwards;
 
+use crate::requests::opens;
 use appliances::{Deciders, kind_boxes, kind_passes};
-use box_images::{Image, Part};
+use box_images::Part;
 use header_boxes::Box5;
 use std::alloc::Global;
 use std::cell::Cell;
+use std::process::Abort;
 use std::rc::Rc;
 use std::test::Fail;
 use vpc_base::{Header, OwnList};
@@ -24,19 +25,6 @@ fn appliances(alloc: Global) -> Result<OwnList<(EniNo, OwnList<Box5>)>, Fail>
 {
     let boxes = kind_boxes(alloc, &HTTPS)?;
     Ok(OwnList::of(vec![in alloc; (EniNo(7), OwnList::of(boxes))]?))
-}
-
-// What it forwards is decided without counting.
-fn deciders(alloc: Global) -> Result<Deciders, Fail>
-    ensures { IfOk result (λ d. length d.appliances ≡ 1) }
-{
-    let decide = Box::new(
-        alloc,
-        |_k: u32, h: &Header| -> bool
-            ensures { result ≡ passes (boxes_of_kind (forwards.Service 443 443)) h.now }
-        { kind_passes(&HTTPS, h) },
-    )?;
-    Ok(Deciders::of(alloc, appliances(alloc)?, decide)?)
 }
 
 fn to_port(q: u16) -> Header {
@@ -64,36 +52,30 @@ fn requests(proto: (u8, u8), p: (u16, u16), q: (u16, u16)) -> Box5
     }
 }
 
-fn opens(part: &Box5) -> Image
-    requires { IsValid part.now }
-    ensures valid { IsValidImage result }
-    ensures walk { IsImageOfWalk result }
-{
-    Image::of(part)
-}
-
 const TCP: (u8, u8) = (6, 6);
 
 const ANY: (u16, u16) = (1024, 65535);
 
 const ONE: (u16, u16) = (443, 443);
 
-#[test]
-fn passes_parts_alike(rt: HostRuntime) -> Result<(), Fail> {
-    let deciders = deciders(rt.alloc())?;
-    // what is asked, and the part of it that is told to pass or not
-    let cases: [(Sides, Sides, bool); 9] = [
-        ((TCP, ANY, (443, 500)), (TCP, ANY, ONE), true),
-        ((TCP, ANY, (0, 500)), (TCP, ANY, (0, 442)), false),
-        ((TCP, ANY, (444, 500)), (TCP, ANY, (444, 500)), false),
-        ((TCP, (0, 500), (80, 80)), (TCP, (0, 442), (80, 80)), false),
-        ((TCP, (443, 500), (80, 90)), (TCP, ONE, (80, 90)), true),
-        ((TCP, (443, 500), (80, 500)), (TCP, ONE, (80, 500)), true),
-        (((0, 255), ANY, ONE), ((0, 5), ANY, ONE), false),
-        (((7, 255), ANY, ONE), ((7, 16), ANY, ONE), false),
-        (((17, 255), ANY, ONE), ((17, 17), ANY, ONE), true),
-    ];
-    for ((proto, p, q), within, told) in cases {
+// What is asked, and the part of it that is told to pass or not.
+const CASES: [(Sides, Sides, bool); 10] = [
+    ((TCP, ANY, ONE), (TCP, ANY, ONE), true),
+    ((TCP, ANY, (443, 500)), (TCP, ANY, ONE), true),
+    ((TCP, ANY, (0, 500)), (TCP, ANY, (0, 442)), false),
+    ((TCP, ANY, (444, 500)), (TCP, ANY, (444, 500)), false),
+    ((TCP, (0, 500), (80, 80)), (TCP, (0, 442), (80, 80)), false),
+    ((TCP, (443, 500), (80, 90)), (TCP, ONE, (80, 90)), true),
+    ((TCP, (443, 500), (80, 500)), (TCP, ONE, (80, 500)), true),
+    (((0, 255), ANY, ONE), ((0, 5), ANY, ONE), false),
+    (((7, 255), ANY, ONE), ((7, 16), ANY, ONE), false),
+    (((17, 255), ANY, ONE), ((17, 17), ANY, ONE), true),
+];
+
+fn passes_parts_alike(rt: &impl Abort, deciders: &Deciders)
+    requires { length deciders.now.appliances ≡ 1 }
+{
+    for ((proto, p, q), within, told) in CASES {
         assert!(rt; proto.0 <= proto.1);
         assert!(rt; p.0 <= p.1);
         assert!(rt; q.0 <= q.1);
@@ -104,7 +86,6 @@ fn passes_parts_alike(rt: HostRuntime) -> Result<(), Fail> {
             "{part:?}"
         );
     }
-    Ok(())
 }
 
 #[test]
@@ -122,14 +103,12 @@ fn the_closure_is_asked(rt: HostRuntime) -> Result<(), Fail> {
         },
     )?;
     let deciders = Deciders::of(alloc, appliances(alloc)?, decide)?;
-    assert_eq!(rt; deciders.number(EniNo(6)), None);
-    assert_eq!(rt; deciders.number(EniNo(7)), Some(0));
+    assert!(rt; deciders.number(EniNo(6)) == None);
+    assert!(rt; deciders.number(EniNo(7)) == Some(0));
     for (q, passes) in [(443, true), (444, false), (442, false)] {
-        assert_eq!(rt; deciders.passes(0, &to_port(q)), passes);
+        assert!(rt; deciders.passes(0, &to_port(q)) == passes);
     }
-    let body = requests(TCP, ANY, ONE);
-    let told = true;
-    assert!(rt; deciders.passes_on(0, &opens(&body)) == Part { body, told });
-    assert_eq!(rt; asked.get(), 3);
+    passes_parts_alike(&rt, &deciders);
+    assert!(rt; asked.get() == 3);
     Ok(())
 }

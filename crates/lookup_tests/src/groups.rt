@@ -1,121 +1,153 @@
-// Two groups of one interface, asked by hand.
-mod boxes;
+// Rules of groups, asked about boxes.
+ghost use Rattle.std.specs.Prelude.{◌≤◌};
 
 use crate::networks::network_of;
+use crate::requests::opens;
+use header_boxes::Box5;
 use security_groups::GroupIndex;
+use std::alloc::Global;
 use std::process::Abort;
 use std::test::Fail;
-use vpc_base::{Dir, Header};
-use vpc_model::{EniNo, GroupNo, RuleRef};
+use vpc_base::Dir;
+use vpc_model::EniNo;
 
-// vpc-a is peered with vpc-b; its peering with vpc-c isn't active. The first interface has sg-d, sg-a and sg-d.
-// Rules of sg-a, inward: 1 HTTPS from members of sg-b, whom it names twice; 2 HTTPS from members of sg-c; 3 DNS
-// from a prefix list; 4 ports 400 to 1023 and 5 all ports from 10.9.0.0/16.
+// Interfaces with the first group, with two groups and with none, two more, which are members, and one with the last
+// group. Rules of the first group: two that overlap, each from other addresses, one from anywhere, and one that names
+// a list and a group. The second group's is for addresses below those of the requests, and the last one's for all
+// protocols.
 const BUNDLE: &str = r#"{
-"Vpcs":[
-{"VpcId":"vpc-a","CidrBlock":"10.1.0.0/16"},
-{"VpcId":"vpc-b","CidrBlock":"10.2.0.0/16"},
-{"VpcId":"vpc-c","CidrBlock":"10.3.0.0/16"}],
-"Subnets":[
-{"SubnetId":"subnet-a","VpcId":"vpc-a","AvailabilityZone":"z"},
-{"SubnetId":"subnet-b","VpcId":"vpc-b","AvailabilityZone":"z"},
-{"SubnetId":"subnet-c","VpcId":"vpc-c","AvailabilityZone":"z"}],
+"Vpcs":[{"VpcId":"vpc-0","CidrBlock":"0.0.0.0/16"}],
+"Subnets":[{"SubnetId":"subnet-0","VpcId":"vpc-0","AvailabilityZone":"zone-0"}],
 "NetworkInterfaces":[
-{"NetworkInterfaceId":"eni-a","SubnetId":"subnet-a","PrivateIpAddress":"10.1.1.10",
-"Groups":[{"GroupId":"sg-d"},{"GroupId":"sg-a"},{"GroupId":"sg-d"}]},
-{"NetworkInterfaceId":"eni-b","SubnetId":"subnet-b","PrivateIpAddress":"10.2.1.10",
-"PrivateIpAddresses":[{"PrivateIpAddress":"10.2.1.10","Association":{"PublicIp":"203.0.113.20"}}],
-"Groups":[{"GroupId":"sg-b"}]},
-{"NetworkInterfaceId":"eni-c","SubnetId":"subnet-c","PrivateIpAddress":"10.3.1.10",
-"Groups":[{"GroupId":"sg-c"}]}],
-"RouteTables":[
-{"RouteTableId":"rtb-a","VpcId":"vpc-a","Associations":[{"Main":true}]},
-{"RouteTableId":"rtb-b","VpcId":"vpc-b","Associations":[{"Main":true}]},
-{"RouteTableId":"rtb-c","VpcId":"vpc-c","Associations":[{"Main":true}]}],
-"PrefixLists":[{"PrefixListId":"pl-1","Cidrs":["192.0.2.0/24","198.51.100.0/24"]}],
-"NetworkAcls":[{"NetworkAclId":"acl-1","Associations":[
-{"SubnetId":"subnet-a"},{"SubnetId":"subnet-b"},{"SubnetId":"subnet-c"}]}],
+{"NetworkInterfaceId":"eni-0","SubnetId":"subnet-0","Groups":[{"GroupId":"sg-0"}]},
+{"NetworkInterfaceId":"eni-1","SubnetId":"subnet-0","Groups":[{"GroupId":"sg-1"},{"GroupId":"sg-0"}]},
+{"NetworkInterfaceId":"eni-2","SubnetId":"subnet-0"},
+{"NetworkInterfaceId":"eni-3","SubnetId":"subnet-0","PrivateIpAddress":"0.0.0.140","Groups":[{"GroupId":"sg-2"}]},
+{"NetworkInterfaceId":"eni-4","SubnetId":"subnet-0","PrivateIpAddress":"0.0.0.135","Groups":[{"GroupId":"sg-1"}]},
+{"NetworkInterfaceId":"eni-5","SubnetId":"subnet-0","Groups":[{"GroupId":"sg-3"}]}],
+"RouteTables":[{"RouteTableId":"rtb-0","VpcId":"vpc-0","Associations":[{"Main":true}]}],
+"PrefixLists":[{"PrefixListId":"pl-0","Cidrs":["0.0.0.120/29","0.0.0.128/31"]}],
+"NetworkAcls":[{"NetworkAclId":"acl-0","Associations":[{"SubnetId":"subnet-0"}]}],
 "SecurityGroups":[
-{"GroupId":"sg-a","VpcId":"vpc-a","IpPermissions":[
-{"IpProtocol":"tcp","FromPort":443,"ToPort":443,
-"UserIdGroupPairs":[{"GroupId":"sg-b"},{"GroupId":"sg-gone"},{"GroupId":"sg-b"}]},
-{"IpProtocol":"tcp","FromPort":443,"ToPort":443,"UserIdGroupPairs":[{"GroupId":"sg-c"}]},
-{"IpProtocol":"udp","FromPort":53,"ToPort":53,
-"PrefixListIds":[{"PrefixListId":"pl-1"},{"PrefixListId":"pl-1"}]},
-{"IpProtocol":"tcp","FromPort":400,"ToPort":1023,"IpRanges":[{"CidrIp":"10.9.0.0/16"}]},
-{"IpProtocol":"tcp","FromPort":0,"ToPort":65535,"IpRanges":[{"CidrIp":"10.9.0.0/16"}]}],
-"IpPermissionsEgress":[
-{"IpProtocol":"tcp","FromPort":443,"ToPort":443,"IpRanges":[{"CidrIp":"10.9.0.0/16"}]}]},
-{"GroupId":"sg-b","VpcId":"vpc-b"},
-{"GroupId":"sg-c","VpcId":"vpc-c"},
-{"GroupId":"sg-d","VpcId":"vpc-a","IpPermissions":[
-{"IpProtocol":"tcp","FromPort":8080,"ToPort":8080,"IpRanges":[{"CidrIp":"0.0.0.0/0"}]}]}],
-"VpcPeeringConnections":[
-{"VpcPeeringConnectionId":"pcx-ba","Status":{"Code":"active"},
-"RequesterVpcInfo":{"VpcId":"vpc-b"},"AccepterVpcInfo":{"VpcId":"vpc-a"}},
-{"VpcPeeringConnectionId":"pcx-ac","Status":{"Code":"pending-acceptance"},
-"RequesterVpcInfo":{"VpcId":"vpc-a"},"AccepterVpcInfo":{"VpcId":"vpc-c"}}]
-}"#;
+{"GroupId":"sg-0","VpcId":"vpc-0","IpPermissions":[
+{"IpProtocol":"tcp","FromPort":200,"ToPort":210,"IpRanges":[{"CidrIp":"0.0.0.0/0"}]},
+{"IpProtocol":"tcp","FromPort":80,"ToPort":80,"IpRanges":[
+{"CidrIp":"0.0.0.100/30"},{"CidrIp":"0.0.0.104/29"},{"CidrIp":"0.0.0.112/28"},{"CidrIp":"0.0.0.128/26"},
+{"CidrIp":"0.0.0.192/29"}]},
+{"IpProtocol":"tcp","FromPort":80,"ToPort":90,"IpRanges":[
+{"CidrIp":"0.0.0.150/31"},{"CidrIp":"0.0.0.152/29"},{"CidrIp":"0.0.0.160/27"},{"CidrIp":"0.0.0.192/26"},
+{"CidrIp":"0.0.1.0/25"},{"CidrIp":"0.0.1.128/28"},{"CidrIp":"0.0.1.144/32"}]},
+{"IpProtocol":"tcp","FromPort":300,"ToPort":310,
+"PrefixListIds":[{"PrefixListId":"pl-0"}],"UserIdGroupPairs":[{"GroupId":"sg-2"}]}]},
+{"GroupId":"sg-1","VpcId":"vpc-0","IpPermissions":[
+{"IpProtocol":"tcp","FromPort":85,"ToPort":85,"IpRanges":[
+{"CidrIp":"0.0.0.0/26"},{"CidrIp":"0.0.0.64/27"},{"CidrIp":"0.0.0.96/30"}]}]},
+{"GroupId":"sg-2","VpcId":"vpc-0"},
+{"GroupId":"sg-3","VpcId":"vpc-0","IpPermissions":[
+{"IpProtocol":"-1","PrefixListIds":[{"PrefixListId":"pl-0"}],"UserIdGroupPairs":[{"GroupId":"sg-2"}]}]}]}"#;
 
-const TCP: u8 = 6;
+/// The last address and port of the body on which it is told whether an interface's groups allow them inward.
+type Told = (bool, u32, u16);
 
-const UDP: u8 = 17;
+/// An interface, and where requests by TCP begin: at an address, up to 299, and a port, up to all later ones.
+type Asked = (u32, (u32, u16));
 
-// The numbers of the group and of the rule that allows a packet at the first interface.
-fn allowed(index: &GroupIndex, dir: Dir, proto: u8, far: u32, q: u16) -> Option<(u32, u32)> {
-    let here = 0x0A01_010A;
-    let (src, dst) = match dir {
-        Dir::Inward => (far, here),
-        Dir::Outward => (here, far),
-    };
-    let p = 40000;
-    let h = Header {
-        proto,
-        src,
-        dst,
-        p,
-        q,
-    };
-    match index.allows(EniNo(0), dir, &h) {
-        Some(
-            RuleRef {
-                group: GroupNo(group),
-                dir: _,
-                number,
-            },
-        ) => Some((group, number)),
-        None => None,
-    }
+fn asked(index: &GroupIndex, eni: u32, from: (u32, u16)) -> Told
+    requires { from.0 ≤ 299 }
+{
+    let i = opens(&Box5 {
+        proto: (6, 6),
+        src: (from.0, 299),
+        dst: (7, 7),
+        p: (40000, 41000),
+        q: (from.1, 65535),
+    });
+    let allowed = index.allows_on(EniNo(eni), Dir::Inward, &i);
+    let body = allowed.body;
+    (allowed.told, body.src.1, body.q.1)
 }
 
-fn asks(rt: &impl Abort, index: &GroupIndex) {
-    let cases = [
-        // The active peering, a member's public address, and the peering that isn't active.
-        (Dir::Inward, TCP, 0x0A02_010A, 443, Some((0, 1))),
-        (Dir::Inward, TCP, 0xCB00_7114, 443, None),
-        (Dir::Inward, TCP, 0x0A03_010A, 443, None),
-        (Dir::Inward, UDP, 0x0A02_010A, 443, None),
-        // The prefix list.
-        (Dir::Inward, UDP, 0xC633_6401, 53, Some((0, 3))),
-        (Dir::Inward, UDP, 0xC633_6501, 53, None),
-        // Two rules of one block: the first of them counts, though its ports begin later.
-        (Dir::Inward, TCP, 0x0A09_0001, 399, Some((0, 5))),
-        (Dir::Inward, TCP, 0x0A09_0001, 443, Some((0, 4))),
-        (Dir::Inward, TCP, 0x0A09_0001, 1024, Some((0, 5))),
-        // The interface's first group counts first.
-        (Dir::Inward, TCP, 0x0A09_0001, 8080, Some((3, 1))),
-        (Dir::Outward, TCP, 0x0A09_0001, 443, Some((0, 1))),
-        (Dir::Outward, TCP, 0x0A0A_0001, 443, None),
-        (Dir::Outward, TCP, 0x0A09_0001, 8080, None),
-    ];
-    for (dir, proto, far, q, want) in cases {
-        assert_eq!(rt; allowed(index, dir, proto, far, q), want);
+const RULES: [(Asked, Told); 23] = [
+    // up to the first rule's port
+    ((0, (100, 0)), (false, 299, 79)),
+    // by the first rule, on its port and addresses
+    ((0, (100, 80)), (true, 199, 80)),
+    // by the second of two rules with this port, on all of its ports
+    ((0, (200, 80)), (true, 299, 90)),
+    // a rule has the port, and not the address: not up to the next rule's port
+    ((0, (100, 81)), (false, 149, 199)),
+    ((0, (150, 81)), (true, 299, 90)),
+    // between rules, and past them all
+    ((0, (100, 91)), (false, 299, 199)),
+    ((0, (100, 205)), (true, 299, 210)),
+    ((0, (100, 311)), (false, 299, 65535)),
+    // what the list and the group have that a rule names
+    ((0, (100, 300)), (false, 119, 65535)),
+    ((0, (121, 300)), (true, 129, 310)),
+    ((0, (130, 300)), (false, 139, 65535)),
+    ((0, (140, 300)), (true, 140, 310)),
+    // by the second group, on all that its rule has
+    ((1, (200, 81)), (true, 299, 90)),
+    // not up to the first group's port, nor at addresses that the second one's rules lack
+    ((1, (90, 81)), (false, 149, 84)),
+    // the first group's rule names none of these addresses
+    ((1, (100, 81)), (false, 149, 199)),
+    ((1, (100, 86)), (false, 149, 199)),
+    // no groups, and an interface that isn't described
+    ((2, (100, 80)), (false, 299, 65535)),
+    ((6, (100, 80)), (false, 299, 65535)),
+    // a rule for all protocols, by its list and its group
+    ((5, (100, 300)), (false, 119, 65535)),
+    ((5, (121, 300)), (true, 129, 65535)),
+    ((5, (130, 300)), (false, 139, 65535)),
+    ((5, (140, 300)), (true, 140, 65535)),
+    ((5, (141, 300)), (false, 299, 65535)),
+];
+
+// 130 rules, one for the first five of each ten ports.
+const RUNS: [(Asked, Told); 7] = [
+    ((0, (100, 0)), (true, 299, 4)),
+    ((0, (100, 5)), (false, 299, 9)),
+    ((0, (100, 635)), (false, 299, 639)),
+    ((0, (100, 642)), (true, 299, 644)),
+    ((0, (100, 1280)), (true, 299, 1284)),
+    ((0, (100, 1290)), (true, 299, 1294)),
+    ((0, (100, 1295)), (false, 299, 65535)),
+];
+
+const FIRST_RULE: &str =
+    r#"{"IpProtocol":"tcp","FromPort":200,"ToPort":210,"IpRanges":[{"CidrIp":"0.0.0.0/0"}]}"#;
+
+// The network with so many rules in place of the first one, and no others in its group.
+fn with_many_rules(alloc: Global) -> Result<String, Fail> {
+    let mut rules = String::new(alloc);
+    for k in 0..130u64 {
+        let first = 10 * k;
+        let last = first + 4;
+        let comma = if k == 0 { "" } else { "," };
+        write!(
+            rules,
+            "{comma}{{\"IpProtocol\":\"tcp\",\"FromPort\":{first},\"ToPort\":{last},\"IpRanges\":[{{\"CidrIp\":\"0.0.0.0/0\"}}]}}"
+        )?;
     }
+    rules.push_str("]},{\"GroupId\":\"sg-9\",\"VpcId\":\"vpc-0\",\"IpPermissions\":[")?;
+    rules.push_str(FIRST_RULE)?;
+    Ok(BUNDLE.replacen(alloc, FIRST_RULE, rules.as_str(), 1)?)
+}
+
+fn asks(rt: &impl Abort, alloc: Global, bundle: &str, cases: &[(Asked, Told)]) -> Result<(), Fail> {
+    let network = network_of(alloc, bundle)?;
+    let index = GroupIndex::of(alloc, &network)?;
+    for ((eni, from), want) in cases {
+        assert!(rt; from.0 <= 299);
+        assert!(rt; asked(&index, *eni, *from) == *want, "{from:?}");
+    }
+    Ok(())
 }
 
 #[test]
-fn allows_packets(rt: HostRuntime) -> Result<(), Fail> {
-    let network = network_of(rt.alloc(), BUNDLE)?;
-    asks(&rt, &GroupIndex::of(rt.alloc(), &network)?);
-    Ok(())
+fn asks_rules(rt: HostRuntime) -> Result<(), Fail> {
+    asks(&rt, rt.alloc(), BUNDLE, &RULES)?;
+    let many = with_many_rules(rt.alloc())?;
+    asks(&rt, rt.alloc(), many.as_str(), &RUNS)
 }

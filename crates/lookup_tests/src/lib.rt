@@ -1,6 +1,6 @@
-//! Tests of look-ups and walks: of single tables and indexes, made by hand, and of small networks, read from
-//! bundles. The answers were worked out by hand. That with memory there is an answer, and that a body is as
-//! large as its answer allows, is what no clause says.
+//! Tests of look-ups where no command tells the answer: that a body on which an answer about a box is one is as large as
+//! that answer allows, and what single tables and sets tell. All were worked out by hand. What look-ups answer about
+//! single packets is shown by rows of `cli_rows`.
 #![tactic(auto)]
 
 #[cfg(test)]
@@ -26,12 +26,6 @@ mod networks;
 #[cfg(test)]
 mod numbers;
 #[cfg(test)]
-mod routes;
-#[cfg(test)]
-mod transit;
+mod requests;
 #[cfg(test)]
 mod translations;
-#[cfg(test)]
-mod walks;
-#[cfg(test)]
-mod whole;

@@ -1,4 +1,4 @@
-// Networks that bundles describe, and what descriptions by hand are made of.
+// Networks that bundles describe, and descriptions by hand of what no bundle says: ports of any protocol.
 ghost use Rattle.std.specs.Prelude.{◌≡◌, ◌∷◌, [], IfOk};
 
 use bundle::read_bundle;
@@ -6,7 +6,7 @@ use reference_check::Network;
 use std::alloc::{AllocError, Global};
 use std::test::Fail;
 use vpc_base::OwnList;
-use vpc_model::Id;
+use vpc_model::{Acl, AclRow, Appliance, Description, Id};
 
 pub fn network_of(alloc: Global, text: &str) -> Result<Network, Fail> {
     match read_bundle(alloc, text.as_bytes()) {
@@ -22,14 +22,6 @@ pub fn id_of(alloc: Global, text: &[u8]) -> Result<Id, Fail> {
     }
 }
 
-pub fn ids_of(alloc: Global, texts: &[&[u8]]) -> Result<OwnList<Id>, Fail> {
-    let mut ids = Vec::new(alloc);
-    for text in texts {
-        ids.push(id_of(alloc, text)?)?;
-    }
-    Ok(OwnList::of(ids))
-}
-
 pub fn none<T>(alloc: Global) -> OwnList<T>
     ensures { result ≡ [] }
 {
@@ -42,4 +34,41 @@ pub fn one<T: Drop>(alloc: Global, row: T) -> Result<OwnList<T>, AllocError>
     let mut rows = Vec::new(alloc);
     rows.push(row)?;
     Ok(OwnList::of(rows))
+}
+
+/// An ACL with these rows and no subnets.
+pub fn acl_of(alloc: Global, rows: &[AclRow]) -> Result<Acl, Fail> {
+    let rows = OwnList::of(rows.to_vec(alloc)?);
+    let id = id_of(alloc, b"acl-1")?;
+    Ok(Acl {
+        id,
+        subnets: none(alloc),
+        rows,
+    })
+}
+
+/// A description with these ACLs and appliances, and nothing else.
+pub fn description_of(
+    alloc: Global,
+    acls: OwnList<Acl>,
+    appliances: OwnList<Appliance>,
+) -> Description
+    ensures { result.acls ≡ acls }
+{
+    Description {
+        vpcs: none(alloc),
+        subnets: none(alloc),
+        interfaces: none(alloc),
+        tables: none(alloc),
+        lists: none(alloc),
+        acls,
+        groups: none(alloc),
+        igws: none(alloc),
+        nats: none(alloc),
+        peerings: none(alloc),
+        attachments: none(alloc),
+        associations: none(alloc),
+        tgw_tables: none(alloc),
+        appliances,
+    }
 }

@@ -1,8 +1,9 @@
-// That a body reaches to the end of its piece or its part is what no clause says: worked routes, by hand.
+// A body reaches to the end of its piece or its part: worked routes.
 ghost use Rattle.std.specs.Prelude.{◌≡◌, ◌≤◌, ◌<◌};
 ghost use Rattle.box_images.specs.Images.{IsImageOfWalk, IsValidImage};
 ghost use Rattle.header_boxes.specs.Boxes.{IsValid};
 
+use crate::requests::opens;
 use box_images::{Image, Part};
 use header_boxes::Box5;
 use image_tests::piece_on;
@@ -33,14 +34,6 @@ fn between(src: (u32, u32), dst: (u32, u32)) -> Box5
         p: (1024, 65535),
         q: (443, 443),
     }
-}
-
-fn opens(part: &Box5) -> Image
-    requires { IsValid part.now }
-    ensures valid { IsValidImage result }
-    ensures walk { IsImageOfWalk result }
-{
-    Image::of(part)
 }
 
 fn opens_to(part: &Box5, dst: u32) -> Image

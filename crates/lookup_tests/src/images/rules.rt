@@ -1,7 +1,8 @@
-// That rules and boxes leave the bodies as large as their answers allow.
+// Rules and boxes.
 ghost use Rattle.std.specs.Prelude.{◌≤◌};
 ghost use Rattle.box_images.specs.Images.{IsImageOfWalk, IsValidImage};
 
+use crate::requests::opens;
 use box_images::{Image, Side};
 use header_boxes::Box5;
 use image_tests::{begins_on, block_on, box_on, proto_on, range_on, rule_on};
@@ -13,7 +14,7 @@ fn requests(last_proto: u8, q: u16) -> Image
     ensures valid { IsValidImage result }
     ensures walk { IsImageOfWalk result }
 {
-    Image::of(&Box5 {
+    opens(&Box5 {
         proto: (6, last_proto),
         src: (10, 20),
         dst: (100, 200),
@@ -34,7 +35,7 @@ fn asks_protocols(rt: HostRuntime) {
     ];
     for (proto, told, last) in cases {
         let got = proto_on(&i, proto);
-        assert_eq!(rt; (got.told, got.body.proto), (told, (6, last)));
+        assert!(rt; (got.told, got.body.proto) == (told, (6, last)));
     }
 }
 
@@ -52,11 +53,11 @@ fn asks_ranges(rt: HostRuntime) {
     ];
     for ((from, to), told, last) in cases {
         let got = range_on(&i, from, to);
-        assert_eq!(rt; (got.told, got.body.q), (told, (80, last)));
-        assert_eq!(rt; got.body.p, (1000, 2000));
+        assert!(rt; (got.told, got.body.q) == (told, (80, last)));
+        assert!(rt; got.body.p == (1000, 2000));
     }
     let later = begins_on(&i, 443);
-    assert_eq!(rt; (later.told, later.body.q), (false, (80, 442)));
+    assert!(rt; (later.told, later.body.q) == (false, (80, 442)));
 }
 
 #[test]
@@ -71,8 +72,8 @@ fn asks_rules(rt: HostRuntime) {
     ];
     for (proto, (from, to), told, (last_proto, last)) in cases {
         let got = rule_on(&i, proto, from, to);
-        assert_eq!(rt; got.told, told);
-        assert_eq!(rt; (got.body.proto.1, got.body.q.1), (last_proto, last));
+        assert!(rt; got.told == told);
+        assert!(rt; (got.body.proto.1, got.body.q.1) == (last_proto, last));
     }
 }
 
@@ -80,9 +81,9 @@ fn asks_rules(rt: HostRuntime) {
 fn asks_blocks_and_boxes(rt: HostRuntime) {
     let i = requests(6, 80);
     let block = block_on(&i, Side::Src, &Prefix::of(8, 29));
-    assert_eq!(rt; (block.told, block.body.src), (true, (10, 15)));
+    assert!(rt; (block.told, block.body.src) == (true, (10, 15)));
     let later = block_on(&i, Side::Dst, &Prefix::of(128, 25));
-    assert_eq!(rt; (later.told, later.body.dst), (false, (100, 127)));
+    assert!(rt; (later.told, later.body.dst) == (false, (100, 127)));
     let b = Box5 {
         proto: (0, 255),
         src: (0, 15),
@@ -92,17 +93,11 @@ fn asks_blocks_and_boxes(rt: HostRuntime) {
     };
     // the sides before the first one that the low corner isn't on are lowered to the box, and no later one
     let outside = box_on(&i, &b);
-    assert_eq!(rt; outside.told, false);
-    assert_eq!(rt;
-        (outside.body.src, outside.body.dst),
-        ((10, 15), (100, 149))
-    );
-    assert_eq!(rt;
-        (outside.body.p, outside.body.q),
-        ((1000, 2000), (80, u16::MAX))
-    );
+    assert!(rt; outside.told == false);
+    assert!(rt; (outside.body.src, outside.body.dst) == ((10, 15), (100, 149)));
+    assert!(rt; (outside.body.p, outside.body.q) == ((1000, 2000), (80, u16::MAX)));
     let inside = box_on(&i, &Box5 { dst: (0, 160), ..b });
-    assert_eq!(rt; inside.told, true);
-    assert_eq!(rt; (inside.body.src, inside.body.dst), ((10, 15), (100, 160)));
-    assert_eq!(rt; (inside.body.p, inside.body.q), ((1000, 1500), (80, 90)));
+    assert!(rt; inside.told == true);
+    assert!(rt; (inside.body.src, inside.body.dst) == ((10, 15), (100, 160)));
+    assert!(rt; (inside.body.p, inside.body.q) == ((1000, 1500), (80, 90)));
 }

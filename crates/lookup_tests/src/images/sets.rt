@@ -1,7 +1,8 @@
-// What no clause says: that bodies are as large as the answers allow.
+// Sets and tables of addresses.
 ghost use Rattle.std.specs.Prelude.{◌≤◌};
 ghost use Rattle.box_images.specs.Images.{IsImageOfWalk, IsValidImage};
 
+use crate::requests::opens;
 use address_sets::{AddressSet, Run};
 use box_images::{Image, Side};
 use header_boxes::Box5;
@@ -15,7 +16,7 @@ fn from_addresses(first: u32, last: u32) -> Image
     ensures valid { IsValidImage result }
     ensures walk { IsImageOfWalk result }
 {
-    Image::of(&Box5 {
+    opens(&Box5 {
         proto: (6, 6),
         src: (first, last),
         dst: (100, 200),
@@ -42,14 +43,11 @@ fn asks_sets(rt: HostRuntime) -> Result<(), Fail> {
     for (first, last, told, end) in cases {
         let i = from_addresses(first, last);
         let got = set_on(&i, Side::Src, &set);
-        assert_eq!(rt; (got.told, got.body.src), (told, (first, end)));
-        assert_eq!(rt; got.body.dst, (100, 200));
+        assert!(rt; (got.told, got.body.src) == (told, (first, end)));
+        assert!(rt; got.body.dst == (100, 200));
     }
     let low = set_on(&from_addresses(10, 20), Side::Dst, &set);
-    assert_eq!(rt;
-        (low.told, low.body.dst, low.body.src),
-        (false, (100, 200), (10, 20))
-    );
+    assert!(rt; (low.told, low.body.dst, low.body.src) == (false, (100, 200), (10, 20)));
     Ok(())
 }
 
@@ -78,12 +76,9 @@ fn asks_keys(rt: HostRuntime) -> Result<(), Fail> {
     for (first, last, value, end) in cases {
         let i = from_addresses(first, last);
         let entry = entry_on(&i, Side::Src, &table, 2);
-        assert_eq!(rt; (entry.told, entry.body.src), (value, (first, end)));
+        assert!(rt; (entry.told, entry.body.src) == (value, (first, end)));
         let member = member_on(&i, Side::Src, &set, 2);
-        assert_eq!(rt;
-            (member.told, member.body.src),
-            (value.is_some(), (first, end))
-        );
+        assert!(rt; (member.told, member.body.src) == (value.is_some(), (first, end)));
     }
     Ok(())
 }

@@ -1,7 +1,7 @@
 use Rattle.std.proofs.Common.{◌∷◌, [], List, arith, refl, ℕ}
 use Rattle.box_images.specs.Images.{IsImageOfOpen}
 use Rattle.conn_tracking.proofs.ReplyLemmas.{known_of_some}
-use Rattle.lookup_tests.proofs.translations.boxes.given_back.Goals as goal
+use Rattle.lookup_tests.proofs.translations.given_back.Goals as goal
 
 pub outward_on-sent-requires-clause-kinds : goal.outward_on-sent-requires-clause-kinds
 outward_on-sent-requires-clause-kinds c = ([], c.of-before.ensures.kind [])

@@ -3,7 +3,7 @@ use Rattle.header_boxes.specs.Boxes.{IsWithin}
 use Rattle.box_images.specs.Images.{IsImageOfAnswer, IsValidImage}
 use Rattle.box_images.specs.declared.images.Image.{Image}
 use Rattle.conn_tracking.proofs.ReplyLemmas.{known_of_some}
-use Rattle.lookup_tests.proofs.translations.boxes.answered.Goals as goal
+use Rattle.lookup_tests.proofs.translations.answered.Goals as goal
 
 abbrev all : List ℕ
 all = 7 ∷ 150 ∷ []

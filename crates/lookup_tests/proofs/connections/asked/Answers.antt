@@ -4,7 +4,7 @@ use Rattle.box_images.specs.Images.{IsImageOfAnswer, IsImageOfOpen, IsValidImage
 use Rattle.box_images.specs.declared.images.Image.{Image}
 use Rattle.conn_tracking.specs.declared.on_images.ImageEntry.{ImageEntry}
 use Rattle.conn_tracking.proofs.ReplyLemmas.{known_of_some}
-use Rattle.lookup_tests.proofs.connections.boxes.asked.Goals as goal
+use Rattle.lookup_tests.proofs.connections.asked.Goals as goal
 
 three : (A : Image → Type 0) (a b d : ImageEntry) (i j k : Image) → a.header ≡ i → b.header ≡ j → d.header ≡ k → A i → A j → A k
     → All (λ e. A e.header) (a ∷ b ∷ d ∷ [])
