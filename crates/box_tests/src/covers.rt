@@ -1,4 +1,4 @@
-// What no clause says: each answer of a small probe on all headers, worked out by hand.
+// Each answer of a small probe on all headers.
 ghost use Rattle.std.specs.Prelude.{◌≡◌, Some, [], ◌∷◌, true, false, nat_lt, if◌then◌else◌};
 ghost use Rattle.std.specs.List.{Contains};
 ghost use Rattle.std.proofs.Common.{arith};
@@ -10,7 +10,7 @@ use ordered_cover::{Cover, Probe, Row};
 use std::test::Fail;
 use vpc_base::Header;
 
-#[derive(Clone, Copy, Debug, PartialEq, Eq)]
+#[derive(Clone, Copy, PartialEq, Eq)]
 enum Why {
     Ports,
     Target,
@@ -120,9 +120,9 @@ fn screen_with(rest: Option<Why>) -> Screen {
 #[test]
 fn first_of_all_headers(rt: HostRuntime) -> Result<(), Fail> {
     let open = screen_with(None);
-    assert_eq!(rt; first(rt.alloc(), &open, EVERY_HEADER)?, Some(at(1024, 0)));
+    assert!(rt; first(rt.alloc(), &open, EVERY_HEADER)? == Some(at(1024, 0)));
     let shut = screen_with(Some(Why::Target));
-    assert_eq!(rt; first(rt.alloc(), &shut, EVERY_HEADER)?, None);
+    assert!(rt; first(rt.alloc(), &shut, EVERY_HEADER)? == None);
     Ok(())
 }
 

@@ -1,4 +1,4 @@
-// What no clause says: what is gathered of a small probe, worked out by hand.
+// What is gathered of a small probe.
 ghost use Rattle.std.specs.Prelude.{◌≡◌, Some, None, [], ◌∷◌, nat_lt, if◌then◌else◌};
 
 use header_boxes::Box5;
@@ -7,7 +7,7 @@ use ordered_cover::{Gathered, Probe, Row};
 use std::test::Fail;
 use vpc_base::Header;
 
-#[derive(Clone, Copy, Debug, PartialEq, Eq)]
+#[derive(Clone, Copy, PartialEq, Eq)]
 enum Change {
     Opened,
     Closed,

@@ -20,15 +20,12 @@ const HTTPS: Box5 = Box5 {
 
 #[test]
 fn all_but_https(rt: HostRuntime) {
-    assert_eq!(rt;
-        EVERY_HEADER.volume(),
-        20_282_409_603_651_670_423_947_251_286_016
-    );
-    assert_eq!(rt; HTTPS.volume(), 4_227_858_432);
+    assert!(rt; EVERY_HEADER.volume() == 20_282_409_603_651_670_423_947_251_286_016);
+    assert!(rt; HTTPS.volume() == 4_227_858_432);
     let rest = EVERY_HEADER.minus(&HTTPS);
-    assert_eq!(rt; rest.len(), 9);
-    assert_eq!(rt; HTTPS.minus(&EVERY_HEADER).len(), 0);
-    assert_eq!(rt; EVERY_HEADER.meet(&HTTPS), Some(HTTPS));
+    assert!(rt; rest.len() == 9);
+    assert!(rt; HTTPS.minus(&EVERY_HEADER).len() == 0);
+    assert!(rt; EVERY_HEADER.meet(&HTTPS) == Some(HTTPS));
     assert!(rt; HTTPS.holds(&HTTPS.low()));
 }
 
@@ -41,8 +38,8 @@ fn cells_of_https(rt: HostRuntime) -> Result<(), Fail> {
         p: vec![in alloc; 1024]?,
         q: vec![in alloc; 443, 444]?,
     };
-    assert_eq!(rt; cells(&cuts, &HTTPS), 2);
-    assert_eq!(rt; cells(&cuts, &EVERY_HEADER), 288);
+    assert!(rt; cells(&cuts, &HTTPS) == 2);
+    assert!(rt; cells(&cuts, &EVERY_HEADER) == 288);
     assert!(rt; !aligned(&cuts, &HTTPS, &EVERY_HEADER));
     Ok(())
 }

@@ -42,7 +42,7 @@ fn found<L: Ledger>(blank: Blank, pieces: &Pieces, x: u32) -> (Found, (u32, Opti
 #[test]
 fn finds(rt: HostRuntime) -> Result<(), Fail> {
     let pieces = three_routes(rt.alloc())?;
-    assert_eq!(rt; pieces.count(), 5);
+    assert!(rt; pieces.count() == 5);
     let cases: [(u32, Found); 7] = [
         (0, (0, 0x09FF_FFFF, Some(1))),
         (0x09FF_FFFF, (0, 0x09FF_FFFF, Some(1))),
@@ -54,8 +54,8 @@ fn finds(rt: HostRuntime) -> Result<(), Fail> {
     ];
     for (x, want) in cases {
         let (found, third) = found::<Brand>(Blank::new(1), &pieces, x);
-        assert_eq!(rt; found, want);
-        assert_eq!(rt; third, (0x0A00_0200, Some(2)));
+        assert!(rt; found == want);
+        assert!(rt; third == (0x0A00_0200, Some(2)));
     }
     Ok(())
 }

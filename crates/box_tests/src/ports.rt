@@ -1,4 +1,4 @@
-// What no clause says: the open ports of a small probe, worked out by hand.
+// The open ports of a small probe.
 ghost use Rattle.std.specs.Prelude.{◌≡◌, Some, None, [], ◌∷◌, nat_lt, if◌then◌else◌};
 ghost use Rattle.box_tests.specs.declared.ports.Closed.TheVariants.{NoDoor, LowPort};
 
@@ -7,7 +7,7 @@ use ordered_cover::Probe;
 use ordered_cover::ports::open_ports;
 use std::test::Fail;
 
-#[derive(Clone, Copy, Debug, PartialEq, Eq)]
+#[derive(Clone, Copy, PartialEq, Eq)]
 enum Closed {
     NoDoor,
     LowPort,
@@ -80,6 +80,10 @@ const TO_HOST: Box5 = Box5 {
     q: (0, 65535),
 };
 
+const ALL: (u16, u16) = (0, 65535);
+
+const LOW: (u16, u16) = (0, 1023);
+
 // Port 22 from high ports, and all from 443 on.
 const DOORS: Doors = Doors {
     host: HOST,
@@ -91,35 +95,22 @@ const DOORS: Doors = Doors {
 
 #[test]
 fn open_ports_of_a_host(rt: HostRuntime) -> Result<(), Fail> {
-    for (p, q, open) in [
-        ((0, 65535), (0, 65535), [(22, 22), (443, 65535)].as_slice()),
+    for (second, p, q, open) in [
+        (443, ALL, ALL, [(22, 22), (443, 65535)].as_slice()),
         // A low source port opens port 22 for none, and the last low one with the first high one does.
-        ((0, 1023), (0, 65535), [(443, 65535)].as_slice()),
-        ((1023, 1024), (20, 30), [(22, 22)].as_slice()),
-        ((0, 65535), (22, 22), [(22, 22)].as_slice()),
-        ((0, 65535), (23, 442), [].as_slice()),
-        ((0, 0), (442, 443), [(443, 443)].as_slice()),
+        (443, LOW, ALL, [(443, 65535)].as_slice()),
+        (443, (1023, 1024), (20, 30), [(22, 22)].as_slice()),
+        (443, ALL, (22, 22), [(22, 22)].as_slice()),
+        (443, ALL, (23, 442), [].as_slice()),
+        (443, (0, 0), (442, 443), [(443, 443)].as_slice()),
+        // Ranges that touch are one.
+        (23, ALL, ALL, [(22, 65535)].as_slice()),
+        (23, LOW, ALL, [(23, 65535)].as_slice()),
     ] {
-        let found = open_ports(rt.alloc(), &DOORS, Box5 { p, q, ..TO_HOST })?;
-        assert_eq!(rt; found.as_slice(), open, "from {p:?} to {q:?}");
+        let doors = Doors { second, ..DOORS };
+        let found = open_ports(rt.alloc(), &doors, Box5 { p, q, ..TO_HOST })?;
+        assert!(rt; found.as_slice() == open, "from {p:?} to {q:?}");
     }
-    Ok(())
-}
-
-#[test]
-fn ranges_that_touch_are_one(rt: HostRuntime) -> Result<(), Fail> {
-    let doors = Doors {
-        second: 23,
-        ..DOORS
-    };
-    let found = open_ports(rt.alloc(), &doors, TO_HOST)?;
-    assert_eq!(rt; found.as_slice(), [(22, 65535)].as_slice());
-    let low = Box5 {
-        p: (0, 1023),
-        ..TO_HOST
-    };
-    let found = open_ports(rt.alloc(), &doors, low)?;
-    assert_eq!(rt; found.as_slice(), [(23, 65535)].as_slice());
     Ok(())
 }
 
@@ -132,12 +123,12 @@ fn open_ports_of_many_hosts(rt: HostRuntime) -> Result<(), Fail> {
         ..TO_HOST
     };
     let found = open_ports(rt.alloc(), &DOORS, every)?;
-    assert_eq!(rt; found.as_slice(), [(22, 22), (443, 65535)].as_slice());
+    assert!(rt; found.as_slice() == [(22, 22), (443, 65535)].as_slice());
     let before = Box5 {
         dst: (HOST - 4, HOST - 1),
         ..every
     };
     let found = open_ports(rt.alloc(), &DOORS, before)?;
-    assert_eq!(rt; found.as_slice(), [].as_slice());
+    assert!(rt; found.as_slice() == [].as_slice());
     Ok(())
 }

@@ -1,10 +1,11 @@
-// What no clause says: the answers for lists that were worked out by hand.
+// Lists of boxes in a whole.
 ghost use Rattle.std.specs.Prelude.{◌↔◌, All, IsTrue};
 ghost use Rattle.header_boxes.specs.Boxes.{IsValid};
 
 use box_survey::{Survey, WholeBox, surveyed};
 use header_boxes::Box5;
 use std::alloc::Global;
+use std::process::Abort;
 use std::test::Fail;
 use vpc_base::{Header, NoMemory};
 
@@ -41,110 +42,121 @@ fn survey_of(alloc: Global, boxes: &[Box5]) -> Result<Option<Survey>, NoMemory> 
     Ok(Some(surveyed(alloc, &WholeBox::of(WHOLE), boxes)?))
 }
 
-// All of the whole whose last port lies between two numbers.
-fn ports(first: u16, last: u16) -> Box5 {
-    Box5 {
-        q: (first, last),
-        ..WHOLE
+/// A box of the whole, or beside it, by its addresses and its last ports.
+type Part = ((u32, u32), (u16, u16));
+
+const ALL: (u32, u32) = (0x0a00_0100, 0x0a00_01ff);
+
+const LOWER: (u32, u32) = (0x0a00_0100, 0x0a00_017f);
+
+const UPPER: (u32, u32) = (0x0a00_0180, 0x0a00_01ff);
+
+const EVERYTHING: Part = (ALL, (80, 443));
+
+fn survey_of_parts(alloc: Global, parts: &[Part]) -> Result<Option<Survey>, NoMemory> {
+    let mut boxes = Vec::new(alloc);
+    for (dst, q) in parts {
+        boxes.push(Box5 {
+            dst: *dst,
+            q: *q,
+            ..WHOLE
+        })?;
     }
+    survey_of(alloc, boxes.as_slice())
 }
 
-// The lower or the upper half of the addresses, with these last ports.
-fn half(is_upper: bool, first: u16, last: u16) -> Box5 {
-    let dst = if is_upper {
-        (0x0a00_0180, 0x0a00_01ff)
-    } else {
-        (0x0a00_0100, 0x0a00_017f)
-    };
-    Box5 {
-        dst,
-        ..ports(first, last)
-    }
-}
+// The least header of the whole.
+const FIRST: Header = Header {
+    proto: 6,
+    src: 0x0a00_0000,
+    dst: 0x0a00_0100,
+    p: 0,
+    q: 80,
+};
 
-// The least header with this address and last port.
-fn at(dst: u32, q: u16) -> Header {
-    Header {
-        proto: 6,
-        src: 0x0a00_0000,
-        dst,
-        p: 0,
-        q,
-    }
-}
+const DISJOINT: [(&[Part], Survey); 8] = [
+    (&[], Survey::Uncovered(FIRST)),
+    (&[EVERYTHING], Survey::Whole),
+    (&[(ALL, (80, 200)), (ALL, (201, 443))], Survey::Whole),
+    (
+        &[(ALL, (300, 443)), (ALL, (80, 120)), (ALL, (121, 299))],
+        Survey::Whole,
+    ),
+    (
+        &[(ALL, (80, 200)), (ALL, (202, 443))],
+        Survey::Uncovered(Header { q: 201, ..FIRST }),
+    ),
+    (&[(ALL, (81, 443))], Survey::Uncovered(FIRST)),
+    (
+        &[(ALL, (80, 442))],
+        Survey::Uncovered(Header { q: 443, ..FIRST }),
+    ),
+    // the hole of the lower addresses comes first, though its port is the greater
+    (
+        &[(UPPER, (100, 443)), (LOWER, (80, 400))],
+        Survey::Uncovered(Header { q: 401, ..FIRST }),
+    ),
+];
 
-#[test]
-fn boxes_that_are_disjoint(rt: HostRuntime) -> Result<(), Fail> {
-    let first = 0x0a00_0100;
-    let cases: [(&[Box5], Survey); 8] = [
-        (&[], Survey::Uncovered(at(first, 80))),
-        (&[WHOLE], Survey::Whole),
-        (&[ports(80, 200), ports(201, 443)], Survey::Whole),
-        (
-            &[ports(300, 443), ports(80, 120), ports(121, 299)],
-            Survey::Whole,
-        ),
-        (
-            &[ports(80, 200), ports(202, 443)],
-            Survey::Uncovered(at(first, 201)),
-        ),
-        (&[ports(81, 443)], Survey::Uncovered(at(first, 80))),
-        (&[ports(80, 442)], Survey::Uncovered(at(first, 443))),
-        // the hole of the lower addresses comes first, though its port is the greater
-        (
-            &[half(true, 100, 443), half(false, 80, 400)],
-            Survey::Uncovered(at(first, 401)),
-        ),
-    ];
-    for (boxes, survey) in cases {
-        assert_eq!(rt; survey_of(rt.alloc(), boxes)?, Some(survey), "{boxes:?}");
+const OVERLAPPING: [(&[Part], Survey); 7] = [
+    (
+        &[(ALL, (80, 200)), (ALL, (200, 443))],
+        Survey::Overlap(0, 1),
+    ),
+    // behind a hole, and the least of two pairs there
+    (
+        &[
+            (ALL, (85, 86)),
+            (ALL, (410, 420)),
+            (ALL, (300, 310)),
+            (ALL, (310, 400)),
+            (ALL, (420, 443)),
+        ],
+        Survey::Overlap(1, 4),
+    ),
+    (&[EVERYTHING, EVERYTHING, EVERYTHING], Survey::Overlap(0, 1)),
+    (
+        &[
+            (ALL, (80, 80)),
+            (ALL, (90, 95)),
+            (ALL, (85, 89)),
+            (ALL, (95, 99)),
+        ],
+        Survey::Overlap(1, 3),
+    ),
+    // the pair of the lesser first number, though its second one is the last
+    (
+        &[
+            (ALL, (80, 90)),
+            (ALL, (91, 95)),
+            (ALL, (95, 99)),
+            (ALL, (100, 120)),
+            (ALL, (90, 90)),
+        ],
+        Survey::Overlap(0, 4),
+    ),
+    (
+        &[(UPPER, (80, 443)), (LOWER, (80, 300)), (ALL, (443, 443))],
+        Survey::Overlap(0, 2),
+    ),
+    // outside the whole too
+    (
+        &[EVERYTHING, (ALL, (1000, 2000)), (ALL, (2000, 3000))],
+        Survey::Overlap(1, 2),
+    ),
+];
+
+fn surveys(rt: &impl Abort, alloc: Global, cases: &[(&[Part], Survey)]) -> Result<(), NoMemory> {
+    for (parts, survey) in cases {
+        let found = survey_of_parts(alloc, parts)?;
+        assert!(rt; found == Some(*survey), "{parts:?}");
     }
     Ok(())
 }
 
 #[test]
-fn boxes_that_overlap(rt: HostRuntime) -> Result<(), Fail> {
-    let cases: [(&[Box5], Survey); 7] = [
-        (&[ports(80, 200), ports(200, 443)], Survey::Overlap(0, 1)),
-        // behind a hole, and the least of two pairs there
-        (
-            &[
-                ports(85, 86),
-                ports(410, 420),
-                ports(300, 310),
-                ports(310, 400),
-                ports(420, 443),
-            ],
-            Survey::Overlap(1, 4),
-        ),
-        (&[WHOLE, WHOLE, WHOLE], Survey::Overlap(0, 1)),
-        (
-            &[ports(80, 80), ports(90, 95), ports(85, 89), ports(95, 99)],
-            Survey::Overlap(1, 3),
-        ),
-        // the pair of the lesser first number, though its second one is the last
-        (
-            &[
-                ports(80, 90),
-                ports(91, 95),
-                ports(95, 99),
-                ports(100, 120),
-                ports(90, 90),
-            ],
-            Survey::Overlap(0, 4),
-        ),
-        (
-            &[half(true, 80, 443), half(false, 80, 300), ports(443, 443)],
-            Survey::Overlap(0, 2),
-        ),
-        // outside the whole too
-        (
-            &[WHOLE, ports(1000, 2000), ports(2000, 3000)],
-            Survey::Overlap(1, 2),
-        ),
-    ];
-    for (boxes, survey) in cases {
-        assert_eq!(rt; survey_of(rt.alloc(), boxes)?, Some(survey), "{boxes:?}");
-    }
+fn boxes_of_a_whole(rt: HostRuntime) -> Result<(), Fail> {
+    surveys(&rt, rt.alloc(), &DISJOINT)?;
+    surveys(&rt, rt.alloc(), &OVERLAPPING)?;
     Ok(())
 }
