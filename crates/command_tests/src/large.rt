@@ -187,7 +187,8 @@ fn checks_large_reports(rt: HostRuntime) -> Result<(), Fail> {
 
 // ---- events
 
-// 55,000 opens of a host to one server, which fill the gateway, and three packets more.
+// 55,000 opens of a host to one server, which fill the gateway, and four packets more: a new open, an answer, an open
+// that is known, and one to another port.
 fn full_gateway(alloc: Global) -> Result<String, Fail> {
     let mut events = String::new(alloc);
     for port in 1024..56_025u32 {
@@ -198,77 +199,85 @@ fn full_gateway(alloc: Global) -> Result<String, Fail> {
     }
     events.push_str("answer from internet tcp 198.51.100.7 203.0.113.5 443 1024\n")?;
     events.push_str("open from eni-a tcp 10.0.1.10 198.51.100.7 1024 443\n")?;
+    events.push_str("open from eni-a tcp 10.0.1.10 198.51.100.7 56024 444\n")?;
     Ok(events)
 }
 
-// The lines of the answer, by their numbers.
-const OUTCOMES: [(usize, &str); 6] = [
-    (
-        1,
-        "event 1 arrived internet tcp 203.0.113.5 198.51.100.7 1024 443",
-    ),
-    (
-        55_000,
-        "event 55000 arrived internet tcp 203.0.113.5 198.51.100.7 56023 443",
-    ),
-    (55_001, "event 55001 stopped NatFull nat-1 -"),
-    (
-        55_002,
-        "event 55002 arrived eni-a tcp 198.51.100.7 10.0.1.10 443 1024",
-    ),
-    (
-        55_003,
-        "event 55003 arrived internet tcp 203.0.113.5 198.51.100.7 1024 443",
-    ),
-    (55_004, ""),
-];
-
-fn has_outcomes(rt: &impl Abort, alloc: Global, text: &[u8]) -> Result<(), Fail> {
-    let lines: Vec<&[u8]> = text.split(|c| *c == b'\n').collect(alloc)?;
-    for (number, wanted) in OUTCOMES {
-        let line = lines.get(number - 1).copied().unwrap_or(b"none");
-        assert_eq!(rt; line, wanted.as_bytes());
+// Each open keeps its port.
+fn outcomes(alloc: Global) -> Result<String, Fail> {
+    let mut text = String::new(alloc);
+    for number in 1..55_001u32 {
+        let port = number.saturating_add(1023);
+        write!(
+            text,
+            "event {number} arrived internet tcp 203.0.113.5 198.51.100.7 {port} 443\n"
+        )?;
     }
+    text.push_str(
+        "\
+event 55001 stopped NatFull nat-1 -
+event 55002 arrived eni-a tcp 198.51.100.7 10.0.1.10 443 1024
+event 55003 arrived internet tcp 203.0.113.5 198.51.100.7 1024 443
+event 55004 arrived internet tcp 203.0.113.5 198.51.100.7 56024 444
+",
+    )?;
+    Ok(text)
+}
+
+fn replays(rt: &impl Abort, alloc: Global, events: &[u8], text: &[u8]) -> Result<(), Fail> {
+    let words = words_of(alloc, REPLAY)?;
+    let mut shelf = shelf_of(alloc, BEHIND_NAT.as_bytes(), events, 0)?;
+    let mut out = MemorySink::of(alloc, Vec::new(alloc), 8_388_608, 8_388_608)?;
+    let status = run(alloc, words.as_slice(), &mut shelf, &mut out);
+    assert_eq!(rt; status.code(), 0);
+    assert!(rt; out.bytes() == text);
     Ok(())
 }
 
 #[test]
 fn a_gateway_keeps_55_000_translations(rt: HostRuntime) -> Result<(), Fail> {
-    let alloc = rt.alloc();
-    let events = full_gateway(alloc)?;
-    let words = words_of(alloc, REPLAY)?;
-    let mut shelf = shelf_of(alloc, BEHIND_NAT.as_bytes(), events.as_bytes(), 0)?;
-    let mut out = MemorySink::of(alloc, Vec::new(alloc), 8_388_608, 8_388_608)?;
-    let status = run(alloc, words.as_slice(), &mut shelf, &mut out);
-    assert_eq!(rt; status.code(), 0);
-    has_outcomes(&rt, alloc, out.bytes())
+    let events = full_gateway(rt.alloc())?;
+    let text = outcomes(rt.alloc())?;
+    replays(&rt, rt.alloc(), events.as_bytes(), text.as_bytes())
 }
 
 // ---- more rows than are read
 
-// A report of 20,001 rows, of one box each time: the grammar asks no more of a row.
-fn report_of_too_many(alloc: Global) -> Result<String, Fail> {
+// A report of so many rows, of one box each time: the grammar asks no more of a row.
+fn report_of_rows(alloc: Global, rows: u32) -> Result<String, Fail> {
     let part = "6-6 10.0.1.10-10.0.1.10 10.0.1.20-10.0.1.20 0-65535 80-80";
     let mut report = format!(in alloc; "vpc-report 1\nquery from eni-a to eni-b\nbox {part}\n")?;
-    for number in 1..20_002u32 {
+    for k in 0..rows {
+        let number = k.saturating_add(1);
         write!(report, "row {number} request GroupsIn eni-b - {part}\n")?;
     }
-    write!(report, "end 20001\n")?;
+    write!(report, "end {rows}\n")?;
     Ok(report)
 }
 
-// The line of the first row too many is named.
+fn checks_rows(
+    rt: &impl Abort,
+    alloc: Global,
+    rows: u32,
+    code: u8,
+    text: &str,
+) -> Result<(), Fail> {
+    let report = report_of_rows(alloc, rows)?;
+    let mut shelf = shelf_of(alloc, ONE_SUBNET.as_bytes(), report.as_bytes(), 0)?;
+    answers(rt, alloc, CHECK, &mut shelf, code, text)
+}
+
+// As many rows as are read; the line of the first row too many is named.
+const ROWS: [(u32, u8, &str); 3] = [
+    (20_000, 1, "no overlap 1 2\n"),
+    (20_001, 4, "refused report TooManyBoxes 20004\n"),
+    (20_002, 4, "refused report TooManyBoxes 20004\n"),
+];
+
 #[test]
 fn refuses_a_row_too_many(rt: HostRuntime) -> Result<(), Fail> {
-    let alloc = rt.alloc();
-    let report = report_of_too_many(alloc)?;
-    let mut shelf = shelf_of(alloc, ONE_SUBNET.as_bytes(), report.as_bytes(), 0)?;
-    answers(
-        &rt,
-        alloc,
-        CHECK,
-        &mut shelf,
-        4,
-        "refused report TooManyBoxes 20004\n",
-    )
+    for (rows, code, text) in &ROWS {
+        checks_rows(&rt, rt.alloc(), *rows, *code, text)?;
+    }
+    Ok(())
 }

@@ -13,10 +13,6 @@ mod faults;
 #[cfg(test)]
 mod large;
 #[cfg(test)]
-mod many_rules;
-#[cfg(test)]
 mod networks;
 #[cfg(test)]
 mod outside;
-#[cfg(test)]
-mod printed_reports;

@@ -15,22 +15,6 @@ pub const ONE_SUBNET: &str = "{\"Vpcs\":[{\"VpcId\":\"vpc-1\",\"CidrBlock\":\"10
 {\"GroupId\":\"sg-b\",\"VpcId\":\"vpc-1\",\"IpPermissions\":[{\"IpProtocol\":\"tcp\",\"FromPort\":443,\"ToPort\":443,\
 \"IpRanges\":[{\"CidrIp\":\"10.0.1.0/24\"}]}],\"IpPermissionsEgress\":[]}]}";
 
-/// Two hosts, each in a subnet of its own.
-pub const TWO_SUBNETS: &str = r#"{"Vpcs":[{"VpcId":"vpc-1","CidrBlock":"10.0.0.0/16"}],
-"Subnets":[
- {"SubnetId":"subnet-a","VpcId":"vpc-1","AvailabilityZone":"us-east-1a"},
- {"SubnetId":"subnet-b","VpcId":"vpc-1","AvailabilityZone":"us-east-1a"}],
-"NetworkInterfaces":[
- {"NetworkInterfaceId":"eni-a","SubnetId":"subnet-a","PrivateIpAddress":"10.0.1.10","Groups":[{"GroupId":"sg-a"}]},
- {"NetworkInterfaceId":"eni-b","SubnetId":"subnet-b","PrivateIpAddress":"10.0.2.20","Groups":[{"GroupId":"sg-b"}]}],
-"RouteTables":[
- {"RouteTableId":"rtb-1","VpcId":"vpc-1","Associations":[{"Main":true}],"Routes":[{"DestinationCidrBlock":"10.0.0.0/16","GatewayId":"local","State":"active"}]}],
-"NetworkAcls":[
- {"NetworkAclId":"acl-1","Associations":[{"SubnetId":"subnet-a"},{"SubnetId":"subnet-b"}],"Entries":[{"RuleNumber":100,"Egress":false,"Protocol":"-1","RuleAction":"allow","CidrBlock":"0.0.0.0/0"},{"RuleNumber":100,"Egress":true,"Protocol":"-1","RuleAction":"allow","CidrBlock":"0.0.0.0/0"}]}],
-"SecurityGroups":[
- {"GroupId":"sg-a","VpcId":"vpc-1","IpPermissions":[],"IpPermissionsEgress":[{"IpProtocol":"-1","IpRanges":[{"CidrIp":"0.0.0.0/0"}]}]},
- {"GroupId":"sg-b","VpcId":"vpc-1","IpPermissions":[{"IpProtocol":"tcp","FromPort":443,"ToPort":443,"UserIdGroupPairs":[{"GroupId":"sg-a"}]}],"IpPermissionsEgress":[]}]}"#;
-
 /// Two hosts, each in a subnet of its own; the ACL of the second subnet lets answers out to high ports alone.
 pub const OWN_ACL: &str = r#"{"Vpcs":[{"VpcId":"vpc-1","CidrBlock":"10.0.0.0/16"}],
 "Subnets":[
@@ -47,23 +31,6 @@ pub const OWN_ACL: &str = r#"{"Vpcs":[{"VpcId":"vpc-1","CidrBlock":"10.0.0.0/16"
 "SecurityGroups":[
  {"GroupId":"sg-a","VpcId":"vpc-1","IpPermissions":[],"IpPermissionsEgress":[{"IpProtocol":"-1","IpRanges":[{"CidrIp":"0.0.0.0/0"}]}]},
  {"GroupId":"sg-b","VpcId":"vpc-1","IpPermissions":[{"IpProtocol":"tcp","FromPort":443,"ToPort":443,"UserIdGroupPairs":[{"GroupId":"sg-a"}]}],"IpPermissionsEgress":[]}]}"#;
-
-/// A host with a public address beside one without, and no route to the internet gateway.
-pub const ONE_PUBLIC_HOST: &str = r#"{"Vpcs":[{"VpcId":"vpc-1","CidrBlock":"10.0.0.0/16"}],
-"Subnets":[
- {"SubnetId":"subnet-a","VpcId":"vpc-1","AvailabilityZone":"us-east-1a"},
- {"SubnetId":"subnet-b","VpcId":"vpc-1","AvailabilityZone":"us-east-1a"}],
-"NetworkInterfaces":[
- {"NetworkInterfaceId":"eni-a","SubnetId":"subnet-a","PrivateIpAddress":"10.0.1.10","Groups":[{"GroupId":"sg-a"}],"PrivateIpAddresses":[{"PrivateIpAddress":"10.0.1.10","Association":{"PublicIp":"203.0.113.10"}}]},
- {"NetworkInterfaceId":"eni-b","SubnetId":"subnet-b","PrivateIpAddress":"10.0.2.20","Groups":[{"GroupId":"sg-b"}]}],
-"RouteTables":[
- {"RouteTableId":"rtb-1","VpcId":"vpc-1","Associations":[{"Main":true}],"Routes":[{"DestinationCidrBlock":"10.0.0.0/16","GatewayId":"local","State":"active"}]}],
-"NetworkAcls":[
- {"NetworkAclId":"acl-1","Associations":[{"SubnetId":"subnet-a"},{"SubnetId":"subnet-b"}],"Entries":[{"RuleNumber":100,"Egress":false,"Protocol":"-1","RuleAction":"allow","CidrBlock":"0.0.0.0/0"},{"RuleNumber":100,"Egress":true,"Protocol":"-1","RuleAction":"allow","CidrBlock":"0.0.0.0/0"}]}],
-"SecurityGroups":[
- {"GroupId":"sg-a","VpcId":"vpc-1","IpPermissions":[{"IpProtocol":"tcp","FromPort":22,"ToPort":22,"IpRanges":[{"CidrIp":"0.0.0.0/0"}]}],"IpPermissionsEgress":[{"IpProtocol":"-1","IpRanges":[{"CidrIp":"0.0.0.0/0"}]}]},
- {"GroupId":"sg-b","VpcId":"vpc-1","IpPermissions":[{"IpProtocol":"tcp","FromPort":443,"ToPort":443,"UserIdGroupPairs":[{"GroupId":"sg-a"}]}],"IpPermissionsEgress":[]}],
-"InternetGateways":[{"InternetGatewayId":"igw-1","Attachments":[{"State":"available","VpcId":"vpc-1"}]}]}"#;
 
 /// Two hosts that reach the internet by one NAT gateway.
 pub const BEHIND_NAT: &str = r#"{"Vpcs":[{"VpcId":"vpc-1","CidrBlock":"10.0.0.0/16"}],
