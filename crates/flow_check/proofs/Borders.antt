@@ -1,5 +1,6 @@
 -- Across the borders of subnets.
 use Rattle.std.proofs.Common.{◌≡◌, ◌==◌, ◌∙◌, Bool, IfSome, None, Option, Some, ap, false, option_map, position, refl, subst, sym, true, ℕ}
+use Rattle.std.proofs.lemmas.Bool.{true≢false}
 use Rattle.vpc_base.proofs.Lemmas.{both_ways, cond-false, position-at, same_bytes}
 use Rattle.vpc_laws.proofs.Lemmas.{or_else-first, or_else-later}
 use Rattle.vpc_laws.proofs.Numbering.{accepted_numbers_are_own, nat_addresses_are_interfaces, no_nat}
@@ -73,7 +74,7 @@ crossed-leaves d s came h q accepted (across r t from here lies passed) other =
     (crossing-parts d s t h (subst (λ (u : SubnetNo). crossing d u t h ≡ None) same passed) (sym (inside-is d s t h q accepted lies) ∙ other)).0
 crossed-leaves d s came h q accepted (out_of r from here away passed) other = let same : r ≡ s = cc in subst (λ (u : SubnetNo). leaving d u h ≡ None) same passed
 crossed-leaves d s came h q accepted (into v by t here lies passed) other = absurd (cc)
-crossed-leaves d s came h q accepted (past_none no_router away) other = absurd (no_router s came refl)
+crossed-leaves d s came h q accepted (past_none asked away) other = absurd (true≢false asked)
 
 -- what came to an interface across the border was let in
 pub crossed-enters : (d : Description) (i : EniNo) (h k : Header) (p : Place) → GoesOn d h p (places.Into i) → is_router_of (subnet_of d i) p ≡ false → (is_rewriting p ≡ false → k ≡ h)
@@ -81,8 +82,8 @@ pub crossed-enters : (d : Description) (i : EniNo) (h k : Header) (p : Place) �
 crossed-enters d i h k p (across s t came here lies passed) other stays =
     let lets = (crossing-parts d s (subnet_of d i) h (subst (λ (u : SubnetNo). crossing d s u h ≡ None) (host-subnet d h i t lies) passed) (sym (ap (is_router_of (subnet_of d i)) here) ∙ other)).1 in
     subst (λ (x : Header). entering d (subnet_of d i) x ≡ None) (sym (stays (ap is_rewriting here))) lets
-crossed-enters d i h k p (out_of s came here away passed) other stays = absurd (away i refl)
+crossed-enters d i h k p (out_of s came here away passed) other stays = absurd (true≢false away)
 crossed-enters d i h k p (into v by t here lies passed) other stays =
     subst (λ (x : Header). entering d (subnet_of d i) x ≡ None) (sym (stays (ap is_rewriting here)))
     (subst (λ (u : SubnetNo). entering d u h ≡ None) (host-subnet d h i t lies) passed)
-crossed-enters d i h k p (past_none no_router away) other stays = absurd (away i refl)
+crossed-enters d i h k p (past_none asked away) other stays = absurd (true≢false away)

@@ -10,7 +10,7 @@ use Rattle.vpc_model.specs.declared.rows.Target.TheVariants.{Local, Internet as 
 use Rattle.vpc_model.specs.declared.stops.Stop.TheVariants.{AclIn, AclOut, ApplianceDrop, NotAHost}
 use Rattle.vpc_model.specs.declared.places.End.TheVariants.{Interface}
 use Rattle.vpc_laws.specs.Types.{AttNo, Box5, By, Came, Description, EniNo, EnterBy, Header, IgwNo, Label, NatLife, NatNo, PeerNo, Place, Stop, SubnetNo, TableNo, Target, TgwTableNo, VpcNo}
-use Rattle.vpc_laws.specs.Terms.{GoesOn, IsDoor, IsTranslation, KeepsFlow, LeadsOn, LiesIn, Refuses, SendsSame, StopsItself, across, door_of, host, into, is_of_step, is_rewriting, nat_answered, nat_asked, out_of, past_none, refuser_of}
+use Rattle.vpc_laws.specs.Terms.{GoesOn, IsDoor, IsTranslation, KeepsFlow, LeadsOn, LiesIn, Refuses, SendsSame, StopsItself, across, door_of, host, into, is_in_subnet, is_of_step, is_rewriting, nat_answered, nat_asked, out_of, past_none, refuser_of}
 use Rattle.vpc_model.specs.Terms.{Appliances, Connection, Moment, Next, Step, Translation, acl_at, acl_of, acl_verdict, arrive, attachment_for, attachment_of_id, boxes_at, by_attachment, by_pair, by_route, by_tgw_route, by_tgw_table, chosen_route, chosen_tgw_route, crossing, deliver, deliver_by, eni_no, enter_host, entering, forwarded, from_inward, gateway_of, go, go_public, has_address, has_block, has_vpc, host_of, igw_no, in_passing, interface_at, inward, is_attached, is_full, is_gateway, is_translatable, is_unroutable, leave_by, leave_subnet, leaving, nat_at, nat_no, nat_of, no_route, no_tgw_route, or_else, other_side, out_passing, over_peering, own_address, own_subnet, owner_of, passes, passing_of, peer_no, peering_at, public_of, same_header, step_at, step_internet, step_into, step_nat_in, step_nat_out, step_of, step_out, step_router, stop, subnet_no, subnet_of, table_at, table_of, table_of_attachment, tgw_table_at, to_attachment, to_host, to_interface, to_internet, to_nat, to_owner, to_peer, to_target, to_transit, to_zone, translate, translation_of, unless_stopped, vpc_at, vpc_no, vpc_of_subnet, zone_subnet}
 use Rattle.vpc_laws.proofs.Ports.{new_translation-fits}
 
@@ -38,7 +38,7 @@ Flows opens d p h (stop s) = IsStopAt d p h s
 
 out_passing-flow : (opens : Type 0) (d : Description) (i : EniNo) (m : Moment) (by : Option By) (conns : List Connection) → Flows opens d (OutOf i) m.header (out_passing d i m (record { by = by; conns = conns })).next
 out_passing-flow opens d i m None conns = (refl, (refl, tt))
-out_passing-flow opens d i m (Some by) conns = (past_none (λ s c e. cc) (λ j e. cc), itself)
+out_passing-flow opens d i m (Some by) conns = (past_none refl refl, itself)
 
 -- arrived or sent on, by the boxes of the appliance there
 abbrev pub taken_by : Description → EniNo → Header → Option (List Box5) → Next
@@ -49,7 +49,7 @@ taken_by-flow : (opens : Type 0) (d : Description) (i : EniNo) (h : Header) (box
 taken_by-flow opens d i h None = tt
 taken_by-flow opens d i h (Some boxes) =
     cond_both (has_address (interface_at d i) h.dst) (arrive (Interface i)) (forwarded i h boxes) (Flows opens d (Into i) h) (λ _. tt)
-    (λ _. cond_both (passes boxes h) (go (OutOf i) h) (stop (ApplianceDrop i)) (Flows opens d (Into i) h) (λ _. (past_none (λ s c e. cc) (λ j e. cc), itself)) (λ _. (refl, (tt, tt))))
+    (λ _. cond_both (passes boxes h) (go (OutOf i) h) (stop (ApplianceDrop i)) (Flows opens d (Into i) h) (λ _. (past_none refl refl, itself)) (λ _. (refl, (tt, tt))))
 
 in_passing-flow : (opens : Type 0) (d : Description) (appliances : Appliances) (i : EniNo) (m : Moment) (by : Option By) (conns : List Connection)
     → Flows opens d (Into i) m.header (in_passing d appliances i m (record { by = by; conns = conns })).next
@@ -120,7 +120,7 @@ translate-flow d n m None opens found =
     let row = nat_at d n in
     cond_both (is_full m.nats n m.header) _ _ (λ (s : Step). Flows opens d (NatOut n) m.header s.next) (λ _. (refl, (tt, tt)))
     (λ _. (
-      past_none (λ s c e. cc) (λ j e. cc),
+      past_none refl refl,
       record {
         proto = λ _. refl;
         q = λ _. refl;
@@ -129,7 +129,7 @@ translate-flow d n m None opens found =
       },
     ))
 translate-flow d n m (Some t) opens found = (
-  past_none (λ s c e. cc) (λ j e. cc),
+  past_none refl refl,
   record {
     proto = λ o. (found o).1.proto ∙ (same o).proto;
     q = λ o. (found o).1.q ∙ (same o).q;
@@ -153,7 +153,7 @@ Answer≢Opening e = cc
 from_inward-flow : (d : Description) (n : NatNo) (h : Header) (nats : List Translation) (o : Option Header) → Flows (IsOpenAmong Answer nats) d (NatIn n) h (from_inward d n o)
 from_inward-flow d n h nats None = (refl, (tt, tt))
 from_inward-flow d n h nats (Some k) = (
-  past_none (λ s c e. cc) (λ j e. cc),
+  past_none refl refl,
   record {
     proto = λ o. absurd (Answer≢Opening o.0);
     q = λ o. absurd (Answer≢Opening o.0);
@@ -224,7 +224,7 @@ module _ (opens : Type 0) (d : Description) where
     Onward x = Flows opens d here h x
 
     -- past the ACL of the router's subnet
-    leaves : (q : Place) → ((i : EniNo) → q ≡ Into i → ⊥) → Onward (unless_stopped (leaving d s h) (go q h))
+    leaves : (q : Place) → is_in_subnet q ≡ false → Onward (unless_stopped (leaving d s h) (go q h))
     leaves q elsewhere = unless_stopped-flow here h (leaving d s h) (go q h) (leaving-stops here s h) (λ passed. (out_of s came refl elsewhere passed, itself))
 
     to_host-flow : (v : VpcNo) (i : Option EniNo) → host_of d v h.dst ≡ i → Onward (to_host d s h i)
@@ -234,7 +234,7 @@ module _ (opens : Type 0) (d : Description) where
         (λ passed. deliver_by-flow here h v i (nat_of d i) found refl (λ q lies. across s (subnet_of d i) came refl lies passed))
 
     to_internet-flow : (g : IgwNo) → Onward (to_internet d s h g)
-    to_internet-flow g = let v = vpc_of_subnet d s in cond_both (is_attached g (gateway_of d v)) _ _ Onward (λ _. leaves (IgwOut v) (λ i e. cc)) (λ _. (refl, (tt, tt)))
+    to_internet-flow g = let v = vpc_of_subnet d s in cond_both (is_attached g (gateway_of d v)) _ _ Onward (λ _. leaves (IgwOut v) refl) (λ _. (refl, (tt, tt)))
 
     to_nat-flow : (n : NatNo) (life : NatLife) → (let row = nat_at d n in row.life ≡ life) → Onward (to_nat d s h n life)
     to_nat-flow n Gone is = (refl, (tt, tt))
@@ -248,14 +248,14 @@ module _ (opens : Type 0) (d : Description) where
     to_peer-flow x (Some pair) =
         let v = vpc_of_subnet d s in
         let row = vpc_at d v in
-        cond_both (has_vpc d (other_side row.id pair)) _ _ Onward (λ _. leaves (Peer x v) (λ i e. cc)) (λ _. (refl, (tt, tt)))
+        cond_both (has_vpc d (other_side row.id pair)) _ _ Onward (λ _. leaves (Peer x v) refl) (λ _. (refl, (tt, tt)))
 
     to_zone-flow : (a : AttNo) (t : Option SubnetNo) → Onward (to_zone d s h a t)
     to_zone-flow a None = (refl, (tt, tt))
     to_zone-flow a (Some t) =
         unless_stopped-flow here h (or_else (leaving d s h) (entering d t h)) (go (Tgw a t) h)
         (or_else-stops here h (leaving d s h) (entering d t h) (leaving-stops here s h) (entering-stops here t h))
-        (λ passed. (out_of s came refl (λ i e. cc) (or_else-first (leaving d s h) (entering d t h) passed), itself))
+        (λ passed. (out_of s came refl refl (or_else-first (leaving d s h) (entering d t h) passed), itself))
 
     to_transit-flow : (t : TableNo) (k : ℕ) (a : Option AttNo) → Onward (to_transit d s h t k a)
     to_transit-flow t k None = (refl, (tt, tt))
@@ -299,12 +299,12 @@ module _ (opens : Type 0) (d : Description) where
 
   go_public-flow : (v : VpcNo) (h : Header) (a : Option ℕ) → Flows opens d (IgwOut v) h (go_public d v h a)
   go_public-flow v h None = (refl, (tt, tt))
-  go_public-flow v h (Some a) = (past_none (λ s c e. cc) (λ j e. cc), record { proto = λ _. refl; q = λ _. refl; p = λ _ fits. fits; same = λ e. absurd (true≢false e) })
+  go_public-flow v h (Some a) = (past_none refl refl, record { proto = λ _. refl; q = λ _. refl; p = λ _ fits. fits; same = λ e. absurd (true≢false e) })
 
   to_owner-flow : (h : Header) (v : Option VpcNo) → Flows opens d Internet h (to_owner d h v)
   to_owner-flow h None = tt
   to_owner-flow h (Some v) =
-      cond_both (is_none (gateway_of d v)) _ _ (Flows opens d Internet h) (λ _. (refl, (tt, tt))) (λ _. (past_none (λ s c e. cc) (λ j e. cc), itself))
+      cond_both (is_none (gateway_of d v)) _ _ (Flows opens d Internet h) (λ _. (refl, (tt, tt))) (λ _. (past_none refl refl, itself))
 
   step_internet-flow : (m : Moment) → Flows opens d Internet m.header (step_internet d m).next
   step_internet-flow m =
@@ -314,7 +314,7 @@ module _ (opens : Type 0) (d : Description) where
   over_peering-flow : (x : PeerNo) (v w : VpcNo) (h : Header) → Flows opens d (Peer x v) h (over_peering d x v w h)
   over_peering-flow x v w h =
       cond_both (not (has_block d v h.src)) _ _ (Flows opens d (Peer x v) h) (λ _. (refl, (tt, tt)))
-      (λ _. cond_both (not (has_block d w h.dst)) _ _ (Flows opens d (Peer x v) h) (λ _. (refl, (tt, tt))) (λ _. (past_none (λ s c e. cc) (λ j e. cc), itself)))
+      (λ _. cond_both (not (has_block d w h.dst)) _ _ (Flows opens d (Peer x v) h) (λ _. (refl, (tt, tt))) (λ _. (past_none refl refl, itself)))
 
   by_pair-flow : (x : PeerNo) (v : VpcNo) (h : Header) (pair : Option (List ℕ × List ℕ)) → Flows opens d (Peer x v) h (by_pair d x v h pair)
   by_pair-flow x v h None = (refl, (tt, tt))
@@ -323,7 +323,7 @@ module _ (opens : Type 0) (d : Description) where
   module _ (from : AttNo) (s : SubnetNo) (h : Header) where
     to_attachment-flow : (t : TgwTableNo) (k : ℕ) (a : Option AttNo) → Flows opens d (Tgw from s) h (to_attachment s h t k a)
     to_attachment-flow t k None = (refl, (tt, tt))
-    to_attachment-flow t k (Some a) = (past_none (λ r c e. cc) (λ j e. cc), itself)
+    to_attachment-flow t k (Some a) = (past_none refl refl, itself)
 
     by_attachment-flow : (t : TgwTableNo) (k : ℕ) (id : Option (List ℕ)) → Flows opens d (Tgw from s) h (by_attachment d s h t k id)
     by_attachment-flow t k None = (refl, (tt, tt))
@@ -342,7 +342,7 @@ module _ (opens : Type 0) (d : Description) where
 
   leave_by-flow : (a : AttNo) (entered : SubnetNo) (h : Header) (s : Option SubnetNo) → Flows opens d (TgwLeave a entered) h (leave_by a h s)
   leave_by-flow a entered h None = (refl, (tt, tt))
-  leave_by-flow a entered h (Some s) = (past_none (λ r c e. cc) (λ j e. cc), itself)
+  leave_by-flow a entered h (Some s) = (past_none refl refl, itself)
 
 -- ---- all places
 
@@ -353,7 +353,7 @@ step_at-flow d appliances label (Enter v by) m = enter_host-flow _ d v by m.head
 step_at-flow d appliances label (Into i) m = step_into-flow _ d appliances label i m
 step_at-flow d appliances label (IgwOut v) m = go_public-flow _ d v m.header (public_of d v m.header.src)
 step_at-flow d appliances label Internet m = step_internet-flow _ d m
-step_at-flow d appliances label (IgwIn v) m = (past_none (λ s c e. cc) (λ j e. cc), record { proto = λ _. refl; q = λ _. refl; p = λ _ fits. fits; same = λ e. absurd (true≢false e) })
+step_at-flow d appliances label (IgwIn v) m = (past_none refl refl, record { proto = λ _. refl; q = λ _. refl; p = λ _ fits. fits; same = λ e. absurd (true≢false e) })
 step_at-flow d appliances label (NatOut n) m = step_nat_out-flow d label n m
 step_at-flow d appliances label (NatIn n) m = step_nat_in-flow d label n m
 step_at-flow d appliances label (Peer x v) m = let row = peering_at d x in by_pair-flow _ d x v m.header row.pair

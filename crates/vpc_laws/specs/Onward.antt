@@ -1,5 +1,5 @@
 -- Past what a packet goes on from place to place, and what stops it.
-use Rattle.std.specs.Prelude.{◌≡◌, None, Option, Some, false}
+use Rattle.std.specs.Prelude.{◌≡◌, Bool, None, Option, Some, false, true}
 use Rattle.vpc_base.specs.declared.headers.Dir.TheVariants as dirs
 use Rattle.vpc_laws.specs.Types.{AclNo, Came, Description, Dir, EniNo, EnterBy, Header, Label, NatNo, Place, Stop, SubnetNo, VpcNo}
 use Rattle.vpc_model.specs.declared.places.Place.TheVariants as places
@@ -14,22 +14,29 @@ pub data LiesIn (d : Description) (h : Header) (q : Place) (t : SubnetNo) : Type
   nat_answered : (v : VpcNo) (i : EniNo) (n : NatNo) → q ≡ places.NatIn n → host_of d v h.dst ≡ Some i → nat_of d i ≡ Some n → t ≡ subnet_of d i → LiesIn d h q t
   nat_asked : (n : NatNo) → q ≡ places.NatOut n → (let row = nat_at d n in t ≡ subnet_no d (own_subnet row.life)) → LiesIn d h q t
 
-abbrev pub IsNoHost : Place → Type 0
-IsNoHost q = (i : EniNo) → q ≡ places.Into i → ⊥
+-- packets come to it in a subnet: an interface or a NAT gateway
+abbrev pub is_in_subnet : Place → Bool
+is_in_subnet (places.Into i) = true
+is_in_subnet (places.NatOut n) = true
+is_in_subnet (places.NatIn n) = true
+is_in_subnet _ = false
 
-abbrev pub IsNoRouter : Place → Type 0
-IsNoRouter p = (s : SubnetNo) (came : Came) → p ≡ places.Router s came → ⊥
+-- an ACL is asked of what goes on from it: out of a subnet, or into a VPC
+abbrev pub asks_acls : Place → Bool
+asks_acls (places.Router s came) = true
+asks_acls (places.Enter v by) = true
+asks_acls _ = false
 
 -- a packet with this header goes on from the place to the next
 pub data GoesOn (d : Description) (h : Header) (p q : Place) : Type 0 where
   -- from subnet to subnet, past the ACLs of both, or within one
   across : (s t : SubnetNo) (came : Came) → p ≡ places.Router s came → LiesIn d h q t → crossing d s t h ≡ None → GoesOn d h p q
-  -- out of a subnet, past its ACL
-  out_of : (s : SubnetNo) (came : Came) → p ≡ places.Router s came → IsNoHost q → leaving d s h ≡ None → GoesOn d h p q
+  -- out of a subnet to a place in none, past its ACL
+  out_of : (s : SubnetNo) (came : Came) → p ≡ places.Router s came → is_in_subnet q ≡ false → leaving d s h ≡ None → GoesOn d h p q
   -- into a VPC, past the ACL of the subnet
   into : (v : VpcNo) (by : EnterBy) (t : SubnetNo) → p ≡ places.Enter v by → LiesIn d h q t → entering d t h ≡ None → GoesOn d h p q
-  -- where no ACL is asked
-  past_none : IsNoRouter p → IsNoHost q → GoesOn d h p q
+  -- from a place where no ACL is asked, to one in no subnet
+  past_none : asks_acls p ≡ false → is_in_subnet q ≡ false → GoesOn d h p q
 
 -- ---- stops
 
