@@ -1,7 +1,8 @@
 -- Which answers come, where no device and no memory is wanting; and which files had failed where reading did.
-use Rattle.std.specs.Prelude.{ℕ, ◌≡◌, ◌==◌, ◌⊎◌, List, Ok, Option, Some, true}
+use Rattle.std.specs.Prelude.{ℕ, ◌≡◌, ◌==◌, ◌⊎◌, List, Ok, Option, Some, codes, false, true}
 use Rattle.std.specs.List.{list_any}
 use Rattle.query_words.specs.Words.{word_at}
+use Rattle.vpc_model.specs.Lookup.{has_interface}
 use Rattle.vpc_model.specs.declared.rows.Description.{Description}
 use Rattle.command_job.specs.declared.status.Status.{Status}
 use Rattle.command_job.specs.declared.status.Status.TheVariants as ends
@@ -16,6 +17,8 @@ use Rattle.reach_matrix.specs.Answered.{IsMatrixDecided}
 use Rattle.end_reach.specs.Answered.{IsReachDecided}
 use Rattle.change_report.specs.Answered.{IsDiffDecided}
 use Rattle.unused_rules.specs.Answered.{IsUnusedDecided}
+use Rattle.listing_laws.specs.DiffTexts.{IsDiffText}
+use Rattle.listing_laws.specs.ReachTexts.{IsReachText}
 use Rattle.vpc_commands.specs.Files.{AreToldBytes, IsToldNetwork}
 use Rattle.vpc_commands.specs.Words.{command_of, file_name, files_of, second_name, third_name}
 use Rattle.vpc_commands.specs.declared.words.Command.{Command}
@@ -24,6 +27,10 @@ use Rattle.vpc_commands.specs.declared.words.Command.TheVariants as commands
 -- a command that could not read, could not write or wanted memory
 abbrev pub IsFault : Status → Type 0
 IsFault status = (status ≡ ends.Read) ⊎ ((status ≡ ends.Write) ⊎ (status ≡ ends.Memory))
+
+-- no interface is called `internet`, which in a listing means the internet
+abbrev pub InternetIsNoInterface : Description → Type 0
+InternetIsNoInterface d = has_interface d (codes "internet") ≡ false
 
 -- what each command's status tells, where the told files may be taken and describe a network
 pub record IsComplete (words : List (List ℕ)) (told : List ℕ → Option (List ℕ)) (status : Status) : Type 0 where
@@ -38,6 +45,13 @@ pub record IsComplete (words : List (List ℕ)) (told : List ℕ → Option (Lis
   -- each report that is due for `ask` in the network gets a yes
   pub certified : (d : Description) (text : List ℕ) (asked : List (List ℕ)) → command_of words ≡ Ok commands.Check → IsToldNetwork told (file_name words) d
       → told (second_name words) ≡ Some text → IsAsked d asked ends.No text → IsFault status ⊎ (status ≡ ends.Yes)
+  -- so does all that is due for `reach` in it, unless an interface is called `internet`
+  pub certified_reach : (d : Description) (text : List ℕ) (asked : List (List ℕ)) → command_of words ≡ Ok commands.Check → IsToldNetwork told (file_name words) d
+      → told (second_name words) ≡ Some text → InternetIsNoInterface d → IsReachText d asked text → IsFault status ⊎ (status ≡ ends.Yes)
+  -- and all that is due for `diff` in two networks, unless an interface of either is
+  pub certified_diff : (before after : Description) (text : List ℕ) (asked : List (List ℕ)) → command_of words ≡ Ok commands.CheckDiff
+      → IsToldNetwork told (file_name words) before → IsToldNetwork told (second_name words) after → told (third_name words) ≡ Some text
+      → InternetIsNoInterface before → InternetIsNoInterface after → IsDiffText before after asked text → IsFault status ⊎ (status ≡ ends.Yes)
   pub replay : (d : Description) (text : List ℕ) → command_of words ≡ Ok commands.Replay → IsToldNetwork told (file_name words) d
       → AreToldBytes told (second_name words) text → IsFault status ⊎ IsReplayDecided d text status
   pub make : command_of words ≡ Ok commands.Make → IsFault status ⊎ IsMakeDecided words status
