@@ -15,6 +15,6 @@ mod rules;
 pub use answer::unused;
 pub use command::UnusedCommand;
 pub use judging::needed;
-pub use laws::removals_are_accepted;
+pub use laws::{removals_are_accepted, removals_take_one_rule};
 pub use removal::without;
 pub use rules::{RuleName, rules_of};
