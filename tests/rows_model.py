@@ -74,7 +74,7 @@ class Question:
             refuse(f"NoAddress {self.start}")
         if self.start is self.goal is model.ANY and len(hosts) > MOST_HOSTS:
             refuse("TooManyInterfaces", self.command)
-        every = [model.INTERNET, *sorted((it for it in hosts if self.primaries(it)), key=str.encode)]
+        every = [model.INTERNET, *sorted((it for it in hosts if "src" in self.told or self.primaries(it)), key=str.encode)]
         self.starts = [it for it in every if it != self.goal] if self.start is model.ANY else [self.start]
 
     def described(self, name):

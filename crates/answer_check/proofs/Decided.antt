@@ -28,11 +28,11 @@ same_query d lines x y a b = let same : Some x ≡ Some y = sym a ∙ b in cc
 
 -- the same is asked, by whatever destinations and starts
 same_asked : (d : Description) (x y : ReachQuery) (tx ty : List (ℕ × ℕ)) (sx sy : List End) → x ≡ y
-    → AreTargets d x.pairs.dst x.goal tx → AreTargets d y.pairs.dst y.goal ty → AreStarts d x.start x.goal sx → AreStarts d y.start y.goal sy
+    → AreTargets d x.pairs.dst x.goal tx → AreTargets d y.pairs.dst y.goal ty → AreStarts d x.pairs.src x.start x.goal sx → AreStarts d y.pairs.src y.start y.goal sy
     → all_asked d x tx sx ≡ all_asked d y ty sy
 same_asked d x y tx ty sx sy same targets_x targets_y starts_x starts_y =
     let targets = same_targets d y.pairs.dst y.goal tx ty (subst (λ (q : ReachQuery). AreTargets d q.pairs.dst q.goal tx) same targets_x) targets_y in
-    let starts = same_starts d y.start y.goal sx sy (subst (λ (q : ReachQuery). AreStarts d q.start q.goal sx) same starts_x) starts_y in
+    let starts = same_starts d y.pairs.src y.start y.goal sx sy (subst (λ (q : ReachQuery). AreStarts d q.pairs.src q.start q.goal sx) same starts_x) starts_y in
     ap (λ (q : ReachQuery). all_asked d q tx sx) same ∙ (ap (λ (t : List (ℕ × ℕ)). all_asked d y t sx) targets ∙ ap (all_asked d y ty) starts)
 
 module _ (d : Description) (bytes : List ℕ) (query : ReachQuery) (question : reach_question d (all_lines bytes) ≡ Some query) where
@@ -40,7 +40,7 @@ module _ (d : Description) (bytes : List ℕ) (query : ReachQuery) (question : r
   no_truth_if_many many truth = truth.few (subst (IsTooMany d) (same_query d (all_lines bytes) query truth.query question truth.question) many)
 
   -- a true listing is one by the destinations and the starts of the answer
-  reading_of : (targets : List (ℕ × ℕ)) (starts : List End) → AreTargets d query.pairs.dst query.goal targets → AreStarts d query.start query.goal starts → IsTrueReach d bytes
+  reading_of : (targets : List (ℕ × ℕ)) (starts : List End) → AreTargets d query.pairs.dst query.goal targets → AreStarts d query.pairs.src query.start query.goal starts → IsTrueReach d bytes
       → AreTrueLines (all_asked d query targets starts) (is_ended (pieces_of bytes)) (drop 2 (all_lines bytes))
   reading_of targets starts targets_are starts_are truth =
       subst (λ (asked : List Asked). AreTrueLines asked (is_ended (pieces_of bytes)) (drop 2 (all_lines bytes)))

@@ -56,7 +56,7 @@ question_has_words lines words is = words_there (slice_get lines 1) words is
 -- with the destinations and the starts as they are handed on, where each network is that of its look-ups
 pub checked_for : (c : Comparison) (before after : Description) (query : ChangeQuery) (targets given_targets : List (ℕ × ℕ)) (starts given_starts : List ChangedEnd) (lines later : List (List ℕ)) (ended : Bool) (status : Status) (text : List ℕ)
     → before ≡ c.before → after ≡ c.after → query ≡ c.query → given_targets ≡ targets → TargetsAre before after query.pairs.dst query.goal targets → given_starts ≡ starts
-    → StartAt before after query.start query.goal starts → later ≡ drop 2 lines → IsListingChecked (all_asked c given_targets given_starts) ended later status text → IsCheckedFor c lines ended status text
+    → StartAt before after query.pairs.src query.start query.goal starts → later ≡ drop 2 lines → IsListingChecked (all_asked c given_targets given_starts) ended later status text → IsCheckedFor c lines ended status text
 checked_for c before after query targets given_targets starts given_starts lines later ended status text first second third targets_is targets_are starts_is starts_are after_two found = record {
   targets = given_targets;
   targets_are = targets_as c before after query first second third targets given_targets targets_is targets_are;

@@ -86,23 +86,23 @@ few_first : (b : Bool) → length (cond b [] (internet_in_both ∷ [])) ≤ 1
 few_first true = omega arith
 few_first false = omega arith
 
-few_among : (before after : Description) (goal : Option ChangedEnd) (hosts : List ChangedEnd) → length (starts_among before after goal hosts) ≤ 1 + length hosts
-few_among before after goal hosts =
+few_among : (before after : Description) (src : Option (ℕ × ℕ)) (goal : Option ChangedEnd) (hosts : List ChangedEnd) → length (starts_among before after src goal hosts) ≤ 1 + length hosts
+few_among before after src goal hosts =
     let first = cond (is_goal goal internet_in_both) [] (internet_in_both ∷ []) in
     let one = few_first (is_goal goal internet_in_both) in
-    let joined = length-append first (filter (is_start before after goal) hosts) in
-    let kept = length-filter (is_start before after goal) hosts in
-    let some = count_by-le-length (is_start before after goal) hosts in
+    let joined = length-append first (filter (is_start before after src goal) hosts) in
+    let kept = length-filter (is_start before after src goal) hosts in
+    let some = count_by-le-length (is_start before after src goal) hosts in
     omega (arith, one, joined, kept, some)
 
-few_at : (before after : Description) (start goal : Option ChangedEnd) (starts : List ChangedEnd) → IsAccepted before → IsAccepted after → StartAt before after start goal starts → length starts < 2 ^ 32
-few_at before after (Some start) goal starts first second are = let same = ap length are in omega (arith, same)
-few_at before after None goal starts first second are =
+few_at : (before after : Description) (src : Option (ℕ × ℕ)) (start goal : Option ChangedEnd) (starts : List ChangedEnd) → IsAccepted before → IsAccepted after → StartAt before after src start goal starts → length starts < 2 ^ 32
+few_at before after src (Some start) goal starts first second are = let same = ap length are in omega (arith, same)
+few_at before after src None goal starts first second are =
     let same = ap length are.are in
-    let among = few_among before after goal are.hosts in
+    let among = few_among before after src goal are.hosts in
     let moved = length_permutation (hosts_of_either before after) are.hosts are.hosts_are.all in
     let few = few_of_either before after first second in
     omega (arith, same, among, moved, few)
 
 pub few_changed_starts : (c : Comparison) (starts : List ChangedEnd) → IsAccepted c.before → IsAccepted c.after → AreStarts c starts → length starts < 2 ^ 32
-few_changed_starts c starts first second are = few_at c.before c.after c.query.start c.query.goal starts first second are
+few_changed_starts c starts first second are = few_at c.before c.after c.query.pairs.src c.query.start c.query.goal starts first second are

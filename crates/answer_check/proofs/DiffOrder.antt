@@ -120,14 +120,14 @@ module _ (key : ChangedEnd → List ℕ) where
 
 -- ---- starts
 
-starts_at : (before after : Description) (start goal : Option ChangedEnd) (xs ys : List ChangedEnd) → IsAccepted before → IsAccepted after → StartAt before after start goal xs
-    → StartAt before after start goal ys → xs ≡ ys
-starts_at before after (Some start) goal xs ys first second a b = a ∙ sym b
-starts_at before after None goal xs ys first second a b =
+starts_at : (before after : Description) (src : Option (ℕ × ℕ)) (start goal : Option ChangedEnd) (xs ys : List ChangedEnd) → IsAccepted before → IsAccepted after → StartAt before after src start goal xs
+    → StartAt before after src start goal ys → xs ≡ ys
+starts_at before after src (Some start) goal xs ys first second a b = a ∙ sym b
+starts_at before after src None goal xs ys first second a b =
     a.are
-    ∙ (ap (starts_among before after goal)
+    ∙ (ap (starts_among before after src goal)
     (one_order (changed_id before after) (hosts_of_either before after) a.hosts b.hosts (either_differ before after first second) a.hosts_are.all a.hosts_are.by_id b.hosts_are.all b.hosts_are.by_id)
     ∙ sym b.are)
 
 pub one_list_of_starts : (c : Comparison) (xs ys : List ChangedEnd) → IsAccepted c.before → IsAccepted c.after → AreStarts c xs → AreStarts c ys → xs ≡ ys
-one_list_of_starts c xs ys first second a b = starts_at c.before c.after c.query.start c.query.goal xs ys first second a b
+one_list_of_starts c xs ys first second a b = starts_at c.before c.after c.query.pairs.src c.query.start c.query.goal xs ys first second a b

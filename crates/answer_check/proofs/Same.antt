@@ -1,5 +1,5 @@
 -- Lists that are in one order and have the same members are the same.
-use Rattle.std.proofs.Common.{◌≡◌, ◌∙◌, ◌∷◌, ◌⊎◌, [], AllPairs, Contains, List, None, Option, Some, ap, arith, inl, inr, refl, subst, suc, sym}
+use Rattle.std.proofs.Common.{◌≡◌, ◌∙◌, ◌∷◌, ◌⊎◌, [], AllPairs, Contains, List, None, Option, Some, ap, arith, inl, inr, refl, subst, suc, sym, ℕ}
 use Rattle.std.specs.Ordering.{ordering_reverse}
 use Rattle.std.specs.declared.cmp.Ordering.TheVariants.{Greater, Less}
 use Rattle.std.proofs.lemmas.Cmp.{nat_list_cmp_total}
@@ -59,6 +59,6 @@ among_hosts d xs ys a b z h = Contains-permutation (hosts_of d) ys z b.all (Cont
 same_hosts : (d : Description) (xs ys : List EniNo) → AreHostsById d xs → AreHostsById d ys → xs ≡ ys
 same_hosts d xs ys a b = same_in_order (ComesBefore d) (comes_one_way d) xs ys a.ascending b.ascending (among_hosts d xs ys a b) (among_hosts d ys xs b a)
 
-pub same_starts : (d : Description) (start goal : Option End) (xs ys : List End) → AreStarts d start goal xs → AreStarts d start goal ys → xs ≡ ys
-same_starts d (Some start) goal xs ys a b = a ∙ sym b
-same_starts d None goal xs ys a b = a.are ∙ (ap (starts_among d goal) (same_hosts d a.hosts b.hosts a.by_id b.by_id) ∙ sym b.are)
+pub same_starts : (d : Description) (src : Option (ℕ × ℕ)) (start goal : Option End) (xs ys : List End) → AreStarts d src start goal xs → AreStarts d src start goal ys → xs ≡ ys
+same_starts d src (Some start) goal xs ys a b = a ∙ sym b
+same_starts d src None goal xs ys a b = a.are ∙ (ap (starts_among d src goal) (same_hosts d a.hosts b.hosts a.by_id b.by_id) ∙ sym b.are)

@@ -110,27 +110,27 @@ few_hosts d accepted =
     let long = length-map-range_with_len numbered 0 (length d.interfaces) in
     omega (arith, short, kept, some, long)
 
-few_among : (d : Description) (goal : Option End) (hosts : List EniNo) → length (starts_among d goal hosts) ≤ 1 + length hosts
-few_among d goal hosts =
+few_among : (d : Description) (src : Option (ℕ × ℕ)) (goal : Option End) (hosts : List EniNo) → length (starts_among d src goal hosts) ≤ 1 + length hosts
+few_among d src goal hosts =
     let first = cond (is_goal goal ends.Internet) [] (ends.Internet ∷ []) in
     let one = few_first (is_goal goal ends.Internet) in
-    let joined = length-append first (map ends.Interface (filter (is_start d goal) hosts)) in
-    let mapped = length-map (filter (is_start d goal) hosts) ends.Interface in
-    let kept = length-filter (is_start d goal) hosts in
-    let some = count_by-le-length (is_start d goal) hosts in
+    let joined = length-append first (map ends.Interface (filter (is_start d src goal) hosts)) in
+    let mapped = length-map (filter (is_start d src goal) hosts) ends.Interface in
+    let kept = length-filter (is_start d src goal) hosts in
+    let some = count_by-le-length (is_start d src goal) hosts in
     omega (arith, one, joined, mapped, kept, some)
 
-few_all : (d : Description) (goal : Option End) (starts : List End) → IsAccepted d → AreAllStarts d goal starts → length starts < 2 ^ 32
-few_all d goal starts accepted are =
+few_all : (d : Description) (src : Option (ℕ × ℕ)) (goal : Option End) (starts : List End) → IsAccepted d → AreAllStarts d src goal starts → length starts < 2 ^ 32
+few_all d src goal starts accepted are =
     let same = ap length are.are in
-    let among = few_among d goal are.hosts in
+    let among = few_among d src goal are.hosts in
     let moved = length_permutation (hosts_of d) are.hosts are.by_id.all in
     let few = few_hosts d accepted in
     omega (arith, same, among, moved, few)
 
-pub few_starts : (d : Description) (start goal : Option End) (starts : List End) → IsAccepted d → AreStarts d start goal starts → length starts < 2 ^ 32
-few_starts d (Some start) goal starts accepted are = let same = ap length are in omega (arith, same)
-few_starts d None goal starts accepted are = few_all d goal starts accepted are
+pub few_starts : (d : Description) (src : Option (ℕ × ℕ)) (start goal : Option End) (starts : List End) → IsAccepted d → AreStarts d src start goal starts → length starts < 2 ^ 32
+few_starts d src (Some start) goal starts accepted are = let same = ap length are in omega (arith, same)
+few_starts d src None goal starts accepted are = few_all d src goal starts accepted are
 
 -- as many as they are read by
 pub few_origins : (n : Description) (query : ReachQuery) (targets : List (ℕ × ℕ)) (starts : List End) (made given : List Origin) → given ≡ made → made ≡ map (origin_of n query targets) starts

@@ -55,7 +55,7 @@ pub record IsCheckedFor (d : Description) (query : ReachQuery) (lines : List (Li
   pub targets : List (ℕ × ℕ)
   pub targets_are : AreTargets d query.pairs.dst query.goal targets
   pub starts : List End
-  pub starts_are : AreStarts d query.start query.goal starts
+  pub starts_are : AreStarts d query.pairs.src query.start query.goal starts
   pub checked : IsListingChecked (all_asked d query targets starts) ended (drop 2 lines) status text
 
 -- the second line is refused where it is no question, or one about too many interfaces
@@ -76,7 +76,7 @@ pub record IsTrueReach (d : Description) (bytes : List ℕ) : Type 0 where
   pub targets : List (ℕ × ℕ)
   pub targets_are : AreTargets d query.pairs.dst query.goal targets
   pub starts : List End
-  pub starts_are : AreStarts d query.start query.goal starts
+  pub starts_are : AreStarts d query.pairs.src query.start query.goal starts
   pub lists : List (List (Row (List ℕ)))
   pub reads : lists_in (origins_of (all_asked d query targets starts)) (is_ended (pieces_of bytes)) (drop 2 (all_lines bytes)) ≡ Ok lists
   pub true_listing : IsTrueListing (listed_of (all_asked d query targets starts) lists)

@@ -39,7 +39,14 @@ fn check_asked(
     let _ = before.description();
     let _ = after.description();
     let targets = targets_of(alloc, before, after, query.pairs.dst, query.goal)?;
-    let starts = starts_of(alloc, before, after, query.start, query.goal)?;
+    let starts = starts_of(
+        alloc,
+        before,
+        after,
+        query.pairs.src,
+        query.start,
+        query.goal,
+    )?;
     check_starts(
         alloc,
         asked,

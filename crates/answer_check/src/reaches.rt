@@ -151,7 +151,7 @@ impl<'a> Job for Checking<'a> {
         // That the network is accepted, so that it has few interfaces, is a clause of this call.
         let _ = n.description();
         let targets = targets_of(alloc, n, query.pairs.dst, query.goal)?;
-        let all_starts = starts_of(alloc, n, query.start, query.goal)?;
+        let all_starts = starts_of(alloc, n, query.pairs.src, query.start, query.goal)?;
         let starts = all_starts.as_slice();
         let all_origins = origins_of(alloc, n, query, targets.as_slice(), starts)?;
         let origins = all_origins.as_slice();

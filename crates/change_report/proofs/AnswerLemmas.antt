@@ -37,13 +37,13 @@ module _ (c : Comparison) (before after : Description) (query : ChangeQuery) (fi
   pub targets_as : (targets given : List (ℕ × ℕ)) → given ≡ targets → TargetsAre before after query.pairs.dst query.goal targets → AreTargets c given
   targets_as targets given is are = subst (λ (l : List (ℕ × ℕ)). AreTargets c l) (sym is) (subst (λ (x : Comparison). AreTargets x targets) compared-as are)
 
-  pub starts_as : (starts given : List ChangedEnd) → given ≡ starts → StartAt before after query.start query.goal starts → AreStarts c given
+  pub starts_as : (starts given : List ChangedEnd) → given ≡ starts → StartAt before after query.pairs.src query.start query.goal starts → AreStarts c given
   starts_as starts given is are = subst (λ (l : List ChangedEnd). AreStarts c l) (sym is) (subst (λ (x : Comparison). AreStarts x starts) compared-as are)
 
 -- what is printed answers the query
 module _ (c : Comparison) (words : List (List ℕ)) (before after : Description) (query : ChangeQuery) (first : before ≡ c.before) (second : after ≡ c.after) (third : query ≡ c.query) where
   pub answered_by : (targets given_targets : List (ℕ × ℕ)) (starts given_starts : List ChangedEnd) (lines : List ℕ) (count : ℕ) (next : Option (ChangedEnd × Header)) (status : Status) (text : List ℕ)
-      → given_targets ≡ targets → TargetsAre before after query.pairs.dst query.goal targets → given_starts ≡ starts → StartAt before after query.start query.goal starts
+      → given_targets ≡ targets → TargetsAre before after query.pairs.dst query.goal targets → given_starts ≡ starts → StartAt before after query.pairs.src query.start query.goal starts
       → IsBody (wanted c given_targets) (lines_at c) given_starts lines count next → IsPrinted c words lines count next status text → IsAnswerTo c words status text
   answered_by targets given_targets starts given_starts lines count next status text targets_is targets_are starts_is starts_are body printed = record {
     targets = given_targets;

@@ -29,13 +29,13 @@ same_targets before after None (Some goal) xs ys a b = same_own (is_internet goa
 
 -- ---- starts, in whatever order
 
-starts_alike : (before after : Description) (start goal : Option ChangedEnd) (xs ys : List ChangedEnd) → StartAt before after start goal xs → StartAt before after start goal ys → AreAlike xs ys
-starts_alike before after (Some start) goal xs ys a b = alike-same xs ys (a ∙ sym b)
-starts_alike before after None goal xs ys a b =
+starts_alike : (before after : Description) (src : Option (ℕ × ℕ)) (start goal : Option ChangedEnd) (xs ys : List ChangedEnd) → StartAt before after src start goal xs → StartAt before after src start goal ys → AreAlike xs ys
+starts_alike before after src (Some start) goal xs ys a b = alike-same xs ys (a ∙ sym b)
+starts_alike before after src None goal xs ys a b =
     subst (λ (l : List ChangedEnd). AreAlike l ys) (sym a.are)
-    (subst (λ (l : List ChangedEnd). AreAlike (first ++ filter (is_start before after goal) a.hosts) l) (sym b.are)
-    (alike-after first (filter (is_start before after goal) a.hosts) (filter (is_start before after goal) b.hosts)
-    (alike-kept (is_start before after goal) a.hosts b.hosts (alike-orders (hosts_of_either before after) a.hosts b.hosts a.hosts_are.all b.hosts_are.all))))
+    (subst (λ (l : List ChangedEnd). AreAlike (first ++ filter (is_start before after src goal) a.hosts) l) (sym b.are)
+    (alike-after first (filter (is_start before after src goal) a.hosts) (filter (is_start before after src goal) b.hosts)
+    (alike-kept (is_start before after src goal) a.hosts b.hosts (alike-orders (hosts_of_either before after) a.hosts b.hosts a.hosts_are.all b.hosts_are.all))))
   where
     first : List ChangedEnd
     first = cond (is_goal goal internet_in_both) [] (internet_in_both ∷ [])
@@ -44,7 +44,7 @@ starts_alike before after None goal xs ys a b =
 
 unless_decides : (c : Comparison) (words : List (List ℕ)) (status : Status) (text : List ℕ) → IsToldUnlessTooMany c words status text → (IsTooMany c → ⊥) → IsDecided c status
 unless_decides c words status text (answered.too_many many status_is text_is) few = absurd (few many)
-unless_decides c words status text (answered.told few answer) not = told_decides (AreTargets c) (AreStarts c) (wanted c) (same_targets c.before c.after c.query.pairs.dst c.query.goal) (starts_alike c.before c.after c.query.start c.query.goal)
+unless_decides c words status text (answered.told few answer) not = told_decides (AreTargets c) (AreStarts c) (wanted c) (same_targets c.before c.after c.query.pairs.dst c.query.goal) (starts_alike c.before c.after c.query.pairs.src c.query.start c.query.goal)
     answer.targets answer.starts answer.targets_are answer.starts_are ends.No ends.Yes (whole_text c words) (part_text c words) (lines_at c) status text answer.told
 
 same_query : (before after : Description) (words : List (List ℕ)) (x y : ChangeQuery) → change_query_of before after words ≡ Ok x → change_query_of before after words ≡ Ok y → x ≡ y

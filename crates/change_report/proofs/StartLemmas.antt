@@ -50,10 +50,10 @@ first_start : (before after : Description) (b : Bool) → All (IsChangedEnd befo
 first_start before after true = All-nil (IsChangedEnd before after)
 first_start before after false = All-cons (IsChangedEnd before after) internet_in_both [] (internet_is_end before after) (All-nil (IsChangedEnd before after))
 
-among_are_ends : (before after : Description) (goal : Option ChangedEnd) (hosts : List ChangedEnd) → AreHostsOfEither before after hosts → All (IsChangedEnd before after) (starts_among before after goal hosts)
-among_are_ends before after goal hosts k =
-    All-append (IsChangedEnd before after) (cond (is_goal goal internet_in_both) [] (internet_in_both ∷ [])) (filter (is_start before after goal) hosts) (first_start before after (is_goal goal internet_in_both))
-    (All-filter (is_start before after goal) (IsChangedEnd before after) hosts (All-permutation (IsChangedEnd before after) (hosts_of_either before after) hosts k.all (either_are_ends before after)))
+among_are_ends : (before after : Description) (src : Option (ℕ × ℕ)) (goal : Option ChangedEnd) (hosts : List ChangedEnd) → AreHostsOfEither before after hosts → All (IsChangedEnd before after) (starts_among before after src goal hosts)
+among_are_ends before after src goal hosts k =
+    All-append (IsChangedEnd before after) (cond (is_goal goal internet_in_both) [] (internet_in_both ∷ [])) (filter (is_start before after src goal) hosts) (first_start before after (is_goal goal internet_in_both))
+    (All-filter (is_start before after src goal) (IsChangedEnd before after) hosts (All-permutation (IsChangedEnd before after) (hosts_of_either before after) hosts k.all (either_are_ends before after)))
 
-pub starts_are_ends : (before after : Description) (goal : Option ChangedEnd) (starts : List ChangedEnd) → AreAllStarts before after goal starts → All (IsChangedEnd before after) starts
-starts_are_ends before after goal starts k = subst (λ (l : List ChangedEnd). All (IsChangedEnd before after) l) (sym k.are) (among_are_ends before after goal k.hosts k.hosts_are)
+pub starts_are_ends : (before after : Description) (src : Option (ℕ × ℕ)) (goal : Option ChangedEnd) (starts : List ChangedEnd) → AreAllStarts before after src goal starts → All (IsChangedEnd before after) starts
+starts_are_ends before after src goal starts k = subst (λ (l : List ChangedEnd). All (IsChangedEnd before after) l) (sym k.are) (among_are_ends before after src goal k.hosts k.hosts_are)

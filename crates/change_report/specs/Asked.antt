@@ -83,28 +83,33 @@ abbrev pub is_goal : Option ChangedEnd → ChangedEnd → Bool
 is_goal None e = false
 is_goal (Some goal) e = same_option goal.before e.before && same_option goal.after e.after
 
--- a host that has a primary address in one of the networks, and isn't the goal
-abbrev pub is_start : Description → Description → Option ChangedEnd → ChangedEnd → Bool
-is_start before after goal e = has_source before after e && not (is_goal goal e)
+-- its requests have a source: one that is given, or its primary address in one of the networks
+abbrev pub can_send : Description → Description → Option (ℕ × ℕ) → ChangedEnd → Bool
+can_send before after (Some side) e = true
+can_send before after None e = has_source before after e
+
+-- a host whose requests have a source, and that isn't the goal
+abbrev pub is_start : Description → Description → Option (ℕ × ℕ) → Option ChangedEnd → ChangedEnd → Bool
+is_start before after src goal e = can_send before after src e && not (is_goal goal e)
 
 -- the internet, and then such hosts, without the goal
-abbrev pub starts_among : Description → Description → Option ChangedEnd → List ChangedEnd → List ChangedEnd
-starts_among before after goal hosts =
-    (if is_goal goal internet_in_both then [] else internet_in_both ∷ []) ++ filter (is_start before after goal) hosts
+abbrev pub starts_among : Description → Description → Option (ℕ × ℕ) → Option ChangedEnd → List ChangedEnd → List ChangedEnd
+starts_among before after src goal hosts =
+    (if is_goal goal internet_in_both then [] else internet_in_both ∷ []) ++ filter (is_start before after src goal) hosts
 
 -- they, with the hosts in the order of their ids
-pub record AreAllStarts (before after : Description) (goal : Option ChangedEnd) (starts : List ChangedEnd) : Type 0 where
+pub record AreAllStarts (before after : Description) (src : Option (ℕ × ℕ)) (goal : Option ChangedEnd) (starts : List ChangedEnd) : Type 0 where
   pub hosts : List ChangedEnd
   pub hosts_are : AreHostsOfEither before after hosts
-  pub are : starts ≡ starts_among before after goal hosts
+  pub are : starts ≡ starts_among before after src goal hosts
 
 -- where requests start: at the end that is given, or at all
-abbrev pub StartAt : Description → Description → Option ChangedEnd → Option ChangedEnd → List ChangedEnd → Type 0
-StartAt before after (Some start) goal starts = starts ≡ start ∷ []
-StartAt before after None goal starts = AreAllStarts before after goal starts
+abbrev pub StartAt : Description → Description → Option (ℕ × ℕ) → Option ChangedEnd → Option ChangedEnd → List ChangedEnd → Type 0
+StartAt before after src (Some start) goal starts = starts ≡ start ∷ []
+StartAt before after src None goal starts = AreAllStarts before after src goal starts
 
 abbrev pub AreStarts : Comparison → List ChangedEnd → Type 0
-AreStarts c starts = StartAt c.before c.after c.query.start c.query.goal starts
+AreStarts c starts = StartAt c.before c.after c.query.pairs.src c.query.start c.query.goal starts
 
 -- ---- sources
 

@@ -69,7 +69,14 @@ fn answer_asked(alloc: Global, asked: &Asked, words: &[String]) -> Result<Answer
     let before = compared.before();
     let after = compared.after();
     let targets = targets_of(alloc, before, after, query.pairs.dst, query.goal)?;
-    let starts = starts_of(alloc, before, after, query.start, query.goal)?;
+    let starts = starts_of(
+        alloc,
+        before,
+        after,
+        query.pairs.src,
+        query.start,
+        query.goal,
+    )?;
     let body = body_of(alloc, asked, targets.as_slice(), starts.as_slice())?;
     answer_body(alloc, compared, words, &body)
 }

@@ -2,7 +2,7 @@
 ghost use Rattle.std.specs.Prelude.{◌≡◌, ◌++◌, All, IfOk, IfSome, OnOk, Some, filter};
 ghost use Rattle.query_words.specs.ChangeQuery.{IsChangedEnd, has_source, internet_in_both, primary_in};
 ghost use Rattle.vpc_model.specs.declared.places.End.TheVariants as ends;
-ghost use Rattle.change_report.specs.Asked.{AreAllStarts, StartAt, is_goal, is_start, same_option, starts_among};
+ghost use Rattle.change_report.specs.Asked.{AreAllStarts, StartAt, can_send, is_goal, is_start, same_option, starts_among};
 
 use crate::hosts::hosts_of_either;
 use packet_emulator::same_end;
@@ -66,10 +66,25 @@ fn has_source(before: &Network, after: &Network, end: &ChangedEnd) -> bool
     primary_in(before, end.before).is_some() || primary_in(after, end.after).is_some()
 }
 
-fn is_start(before: &Network, after: &Network, goal: Option<ChangedEnd>, end: &ChangedEnd) -> bool
-    ensures { result ≡ is_start before.now after.now goal end.now }
+fn can_send(before: &Network, after: &Network, src: Option<(u32, u32)>, end: &ChangedEnd) -> bool
+    ensures { result ≡ can_send before.now after.now src end.now }
 {
-    has_source(before, after, end) && !is_goal(goal, end)
+    match src {
+        Some(_) => true,
+        None => has_source(before, after, end),
+    }
+}
+
+fn is_start(
+    before: &Network,
+    after: &Network,
+    src: Option<(u32, u32)>,
+    goal: Option<ChangedEnd>,
+    end: &ChangedEnd,
+) -> bool
+    ensures { result ≡ is_start before.now after.now src goal end.now }
+{
+    can_send(before, after, src, end) && !is_goal(goal, end)
 }
 
 // Adds the hosts that are starts.
@@ -77,14 +92,15 @@ fn add_hosts(
     starts: &mut Vec<ChangedEnd>,
     before: &Network,
     after: &Network,
+    src: Option<(u32, u32)>,
     goal: Option<ChangedEnd>,
     hosts: &[ChangedEnd],
 ) -> Result<(), NoMemory>
     ensures { OnOk result (starts.new.items
-        ≡ starts.old.items ++ filter (is_start before.now after.now goal) hosts.now) }
+        ≡ starts.old.items ++ filter (is_start before.now after.now src goal) hosts.now) }
 {
     for host in hosts {
-        if is_start(before, after, goal, host) {
+        if is_start(before, after, src, goal, host) {
             starts.push(*host)?;
         }
     }
@@ -96,16 +112,17 @@ fn starts_among(
     alloc: Global,
     before: &Network,
     after: &Network,
+    src: Option<(u32, u32)>,
     goal: Option<ChangedEnd>,
     hosts: &[ChangedEnd],
 ) -> Result<Vec<ChangedEnd>, NoMemory>
-    ensures { IfOk result (λ v. v.items ≡ starts_among before.now after.now goal hosts.now) }
+    ensures { IfOk result (λ v. v.items ≡ starts_among before.now after.now src goal hosts.now) }
 {
     let mut starts = Vec::new(alloc);
     if !is_goal(goal, &internet()) {
         starts.push(internet())?;
     }
-    add_hosts(&mut starts, before, after, goal, hosts)?;
+    add_hosts(&mut starts, before, after, src, goal, hosts)?;
     Ok(starts)
 }
 
@@ -113,25 +130,27 @@ fn all_starts(
     alloc: Global,
     before: &Network,
     after: &Network,
+    src: Option<(u32, u32)>,
     goal: Option<ChangedEnd>,
 ) -> Result<Vec<ChangedEnd>, NoMemory>
-    ensures { IfOk result (λ v. AreAllStarts before.now after.now goal v.items) }
+    ensures { IfOk result (λ v. AreAllStarts before.now after.now src goal v.items) }
 {
     let hosts = hosts_of_either(alloc, before, after)?;
-    starts_among(alloc, before, after, goal, hosts.as_slice())
+    starts_among(alloc, before, after, src, goal, hosts.as_slice())
 }
 
-/// Where requests start: at the end that is given, or at the internet and all hosts of either network that have a primary
-/// address in one of them, without the goal.
+/// Where requests start: at the end that is given, or at the internet and all hosts of either network, without the goal.
+/// Where no source is given, hosts without a primary address in either send nothing that is asked for.
 pub fn starts_of(
     alloc: Global,
     before: &Network,
     after: &Network,
+    src: Option<(u32, u32)>,
     start: Option<ChangedEnd>,
     goal: Option<ChangedEnd>,
 ) -> Result<Vec<ChangedEnd>, NoMemory>
     requires { IfSome start (IsChangedEnd before.now after.now) }
-    ensures starts { IfOk result (λ v. StartAt before.now after.now start goal v.items) }
+    ensures starts { IfOk result (λ v. StartAt before.now after.now src start goal v.items) }
     ensures described { IfOk result (λ v. All (IsChangedEnd before.now after.now) v.items) }
 {
     match start {
@@ -140,6 +159,6 @@ pub fn starts_of(
             starts.push(start)?;
             Ok(starts)
         }
-        None => all_starts(alloc, before, after, goal),
+        None => all_starts(alloc, before, after, src, goal),
     }
 }

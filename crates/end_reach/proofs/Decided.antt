@@ -28,14 +28,14 @@ same_targets d None (Some (places.Interface i)) xs ys a b = same_alone (own_addr
 
 -- ---- starts, in whatever order
 
-starts_alike : (d : Description) (start goal : Option End) (xs ys : List End) → AreStarts d start goal xs → AreStarts d start goal ys → AreAlike xs ys
-starts_alike d (Some start) goal xs ys a b = alike-same xs ys (a ∙ sym b)
-starts_alike d None goal xs ys a b =
+starts_alike : (d : Description) (src : Option (ℕ × ℕ)) (start goal : Option End) (xs ys : List End) → AreStarts d src start goal xs → AreStarts d src start goal ys → AreAlike xs ys
+starts_alike d src (Some start) goal xs ys a b = alike-same xs ys (a ∙ sym b)
+starts_alike d src None goal xs ys a b =
     subst (λ (l : List End). AreAlike l ys) (sym a.are)
-    (subst (λ (l : List End). AreAlike (first ++ map places.Interface (filter (is_start d goal) a.hosts)) l) (sym b.are)
-    (alike-after first (map places.Interface (filter (is_start d goal) a.hosts)) (map places.Interface (filter (is_start d goal) b.hosts))
-    (alike-mapped places.Interface (filter (is_start d goal) a.hosts) (filter (is_start d goal) b.hosts)
-    (alike-kept (is_start d goal) a.hosts b.hosts (alike-orders (hosts_of d) a.hosts b.hosts a.by_id.all b.by_id.all)))))
+    (subst (λ (l : List End). AreAlike (first ++ map places.Interface (filter (is_start d src goal) a.hosts)) l) (sym b.are)
+    (alike-after first (map places.Interface (filter (is_start d src goal) a.hosts)) (map places.Interface (filter (is_start d src goal) b.hosts))
+    (alike-mapped places.Interface (filter (is_start d src goal) a.hosts) (filter (is_start d src goal) b.hosts)
+    (alike-kept (is_start d src goal) a.hosts b.hosts (alike-orders (hosts_of d) a.hosts b.hosts a.by_id.all b.by_id.all)))))
   where
     first : List End
     first = cond (is_goal goal places.Internet) [] (places.Internet ∷ [])
@@ -45,7 +45,7 @@ starts_alike d None goal xs ys a b =
 unless_decides : (d : Description) (query : ReachQuery) (words : List (List ℕ)) (status : Status) (text : List ℕ) → IsToldUnlessTooMany d query words status text → (IsTooMany d query → ⊥) → IsDecided d query status
 unless_decides d query words status text (answered.too_many many status_is text_is) few = absurd (few many)
 unless_decides d query words status text (answered.told few answer) not =
-    told_decides (AreTargets d query.pairs.dst query.goal) (AreStarts d query.start query.goal) (wanted d query) (same_targets d query.pairs.dst query.goal) (starts_alike d query.start query.goal)
+    told_decides (AreTargets d query.pairs.dst query.goal) (AreStarts d query.pairs.src query.start query.goal) (wanted d query) (same_targets d query.pairs.dst query.goal) (starts_alike d query.pairs.src query.start query.goal)
     answer.targets answer.starts answer.targets_are answer.starts_are ends.Yes ends.No (whole_text d words) (part_text d words) (row_lines_from d) status text answer.told
 
 same_query : (d : Description) (words : List (List ℕ)) (x y : ReachQuery) → reach_query_of d words ≡ Ok x → reach_query_of d words ≡ Ok y → x ≡ y

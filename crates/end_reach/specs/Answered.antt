@@ -36,7 +36,7 @@ pub record IsAnswerTo (d : Description) (query : ReachQuery) (words : List (List
   pub targets : List (ℕ × ℕ)
   pub targets_are : AreTargets d query.pairs.dst query.goal targets
   pub starts : List End
-  pub starts_are : AreStarts d query.start query.goal starts
+  pub starts_are : AreStarts d query.pairs.src query.start query.goal starts
   pub told : IsReachTold d query words targets starts status text
 
 -- a query whose ends are described and whose sides are not empty, with the words that gave it
@@ -64,11 +64,11 @@ pub data IsReachAnswered (d : Description) (words : List (List ℕ)) (status : S
 
 -- some request that is asked for reaches an end
 abbrev pub SomeReaches : Description → ReachQuery → Type 0
-SomeReaches d query = SomeTold (AreTargets d query.pairs.dst query.goal) (AreStarts d query.start query.goal) (wanted d query)
+SomeReaches d query = SomeTold (AreTargets d query.pairs.dst query.goal) (AreStarts d query.pairs.src query.start query.goal) (wanted d query)
 
 -- cuts that have all of the description make no more cells of the boxes than rows are asked for
 abbrev pub FewCells : Description → ReachQuery → Type 0
-FewCells d query = FewCellsOf (AreTargets d query.pairs.dst query.goal) (AreStarts d query.start query.goal) (wanted d query)
+FewCells d query = FewCellsOf (AreTargets d query.pairs.dst query.goal) (AreStarts d query.pairs.src query.start query.goal) (wanted d query)
 
 -- yes or more where some request reaches an end, and yes where the cells are few; no where none does
 abbrev pub IsDecided : Description → ReachQuery → Status → Type 0

@@ -1,6 +1,6 @@
 -- Which requests a question for all that gets through is about.
 use Rattle.std.specs.List.{flat_map}
-use Rattle.std.specs.Prelude.{◌≡◌, ◌&&◌, ◌++◌, ◌∷◌, [], if◌then◌else◌, Bool, List, None, Option, Some, false, filter, is_some, map, not, option_map, ℕ}
+use Rattle.std.specs.Prelude.{◌≡◌, ◌&&◌, ◌++◌, ◌∷◌, [], if◌then◌else◌, Bool, List, None, Option, Some, false, filter, is_some, map, not, option_map, true, ℕ}
 use Rattle.header_boxes.specs.declared.boxes.Box5.{Box5}
 use Rattle.listing_text.specs.Sides.{AreEachAlone, alone, sides_between}
 use Rattle.query_words.specs.Sides.{all_addresses}
@@ -58,22 +58,27 @@ is_goal (Some goal) e = same_end e goal
 abbrev pub has_primary : Description → EniNo → Bool
 has_primary d i = let e = interface_at d i in is_some e.primary
 
--- an interface that has a primary address and isn't the goal
-abbrev pub is_start : Description → Option End → EniNo → Bool
-is_start d goal i = has_primary d i && not (is_goal goal (ends.Interface i))
+-- its requests have a source: one that is given, or its primary address
+abbrev pub has_source : Description → Option (ℕ × ℕ) → EniNo → Bool
+has_source d (Some side) i = true
+has_source d None i = has_primary d i
+
+-- an interface whose requests have a source, and that isn't the goal
+abbrev pub is_start : Description → Option (ℕ × ℕ) → Option End → EniNo → Bool
+is_start d src goal i = has_source d src i && not (is_goal goal (ends.Interface i))
 
 -- the internet, and then such hosts, without the goal
-abbrev pub starts_among : Description → Option End → List EniNo → List End
-starts_among d goal hosts =
-    (if is_goal goal ends.Internet then [] else ends.Internet ∷ []) ++ map ends.Interface (filter (is_start d goal) hosts)
+abbrev pub starts_among : Description → Option (ℕ × ℕ) → Option End → List EniNo → List End
+starts_among d src goal hosts =
+    (if is_goal goal ends.Internet then [] else ends.Internet ∷ []) ++ map ends.Interface (filter (is_start d src goal) hosts)
 
 -- they, with the hosts in the order of their ids
-pub record AreAllStarts (d : Description) (goal : Option End) (starts : List End) : Type 0 where
+pub record AreAllStarts (d : Description) (src : Option (ℕ × ℕ)) (goal : Option End) (starts : List End) : Type 0 where
   pub hosts : List EniNo
   pub by_id : AreHostsById d hosts
-  pub are : starts ≡ starts_among d goal hosts
+  pub are : starts ≡ starts_among d src goal hosts
 
 -- where requests start: at the end that is given, or at all
-abbrev pub AreStarts : Description → Option End → Option End → List End → Type 0
-AreStarts d (Some start) goal starts = starts ≡ start ∷ []
-AreStarts d None goal starts = AreAllStarts d goal starts
+abbrev pub AreStarts : Description → Option (ℕ × ℕ) → Option End → Option End → List End → Type 0
+AreStarts d src (Some start) goal starts = starts ≡ start ∷ []
+AreStarts d src None goal starts = AreAllStarts d src goal starts

@@ -81,7 +81,7 @@ impl<'a> Job for Reaching<'a> {
         let query = self.query;
         let n = f.network();
         let targets = targets_of(alloc, n, query.pairs.dst, query.goal)?;
-        let starts = starts_of(alloc, n, query.start, query.goal)?;
+        let starts = starts_of(alloc, n, query.pairs.src, query.start, query.goal)?;
         let asked = Asked {
             query,
             targets: targets.as_slice(),

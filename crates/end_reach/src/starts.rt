@@ -2,7 +2,7 @@
 ghost use Rattle.std.specs.Prelude.{◌≡◌, ◌++◌, ◌∷◌, [], All, IfOk, IfSome, IsTrue, OnOk, cond, filter, map};
 ghost use Rattle.vpc_model.specs.Sound.{is_end, is_eni};
 ghost use Rattle.vpc_model.specs.declared.places.End.TheVariants as ends;
-ghost use Rattle.end_reach.specs.Asked.{AreAllStarts, AreStarts, has_primary, is_goal, is_start, starts_among};
+ghost use Rattle.end_reach.specs.Asked.{AreAllStarts, AreStarts, has_primary, has_source, is_goal, is_start, starts_among};
 
 use described_hosts::hosts_by_id;
 use packet_emulator::same_end;
@@ -29,23 +29,33 @@ fn has_primary(n: &Network, eni: EniNo) -> bool
     }
 }
 
-fn is_start(n: &Network, goal: Option<End>, eni: EniNo) -> bool
-    ensures { result ≡ is_start n.now goal eni }
+fn has_source(n: &Network, src: Option<(u32, u32)>, eni: EniNo) -> bool
+    ensures { result ≡ has_source n.now src eni }
 {
-    has_primary(n, eni) && !is_goal(goal, End::Interface(eni))
+    match src {
+        Some(_) => true,
+        None => has_primary(n, eni),
+    }
+}
+
+fn is_start(n: &Network, src: Option<(u32, u32)>, goal: Option<End>, eni: EniNo) -> bool
+    ensures { result ≡ is_start n.now src goal eni }
+{
+    has_source(n, src, eni) && !is_goal(goal, End::Interface(eni))
 }
 
 // Adds a host, where it is a start.
 fn add_host(
     starts: &mut Vec<End>,
     n: &Network,
+    src: Option<(u32, u32)>,
     goal: Option<End>,
     host: EniNo,
 ) -> Result<(), NoMemory>
     ensures { OnOk result (starts.new.items
-        ≡ starts.old.items ++ cond (is_start n.now goal host) (ends.Interface host ∷ []) []) }
+        ≡ starts.old.items ++ cond (is_start n.now src goal host) (ends.Interface host ∷ []) []) }
 {
-    if is_start(n, goal, host) {
+    if is_start(n, src, goal, host) {
         starts.push(End::Interface(host))?;
     }
     Ok(())
@@ -55,14 +65,15 @@ fn add_host(
 fn add_hosts(
     starts: &mut Vec<End>,
     n: &Network,
+    src: Option<(u32, u32)>,
     goal: Option<End>,
     hosts: &[EniNo],
 ) -> Result<(), NoMemory>
     ensures { OnOk result (starts.new.items
-        ≡ starts.old.items ++ map ends.Interface (filter (is_start n.now goal) hosts.now)) }
+        ≡ starts.old.items ++ map ends.Interface (filter (is_start n.now src goal) hosts.now)) }
 {
     for host in hosts {
-        add_host(starts, n, goal, *host)?;
+        add_host(starts, n, src, goal, *host)?;
     }
     Ok(())
 }
@@ -82,21 +93,27 @@ fn first_starts(alloc: Global, goal: Option<End>) -> Result<Vec<End>, NoMemory>
 fn starts_among(
     alloc: Global,
     n: &Network,
+    src: Option<(u32, u32)>,
     goal: Option<End>,
     hosts: &[EniNo],
 ) -> Result<Vec<End>, NoMemory>
-    ensures { IfOk result (λ v. v.items ≡ starts_among n.now goal hosts.now) }
+    ensures { IfOk result (λ v. v.items ≡ starts_among n.now src goal hosts.now) }
 {
     let mut starts = first_starts(alloc, goal)?;
-    add_hosts(&mut starts, n, goal, hosts)?;
+    add_hosts(&mut starts, n, src, goal, hosts)?;
     Ok(starts)
 }
 
-fn all_starts(alloc: Global, n: &Network, goal: Option<End>) -> Result<Vec<End>, NoMemory>
-    ensures { IfOk result (λ v. AreAllStarts n.now goal v.items) }
+fn all_starts(
+    alloc: Global,
+    n: &Network,
+    src: Option<(u32, u32)>,
+    goal: Option<End>,
+) -> Result<Vec<End>, NoMemory>
+    ensures { IfOk result (λ v. AreAllStarts n.now src goal v.items) }
 {
     let hosts = hosts_by_id(alloc, n)?;
-    starts_among(alloc, n, goal, hosts.as_slice())
+    starts_among(alloc, n, src, goal, hosts.as_slice())
 }
 
 fn only(alloc: Global, start: End) -> Result<Vec<End>, NoMemory>
@@ -107,20 +124,21 @@ fn only(alloc: Global, start: End) -> Result<Vec<End>, NoMemory>
     Ok(starts)
 }
 
-/// Where requests start: at the end that is given, or at the internet and all hosts that have a primary address, without
-/// the goal.
+/// Where requests start: at the end that is given, or at the internet and all hosts, without the goal. Where no source is
+/// given, hosts without a primary address send nothing that is asked for.
 pub fn starts_of(
     alloc: Global,
     n: &Network,
+    src: Option<(u32, u32)>,
     start: Option<End>,
     goal: Option<End>,
 ) -> Result<Vec<End>, NoMemory>
     requires { IfSome start (λ e. IsTrue (is_end n.now e)) }
-    ensures starts { IfOk result (λ v. AreStarts n.now start goal v.items) }
+    ensures starts { IfOk result (λ v. AreStarts n.now src start goal v.items) }
     ensures described { IfOk result (λ v. All (λ e. IsTrue (is_end n.now e)) v.items) }
 {
     match start {
         Some(start) => only(alloc, start),
-        None => all_starts(alloc, n, goal),
+        None => all_starts(alloc, n, src, goal),
     }
 }

@@ -50,18 +50,18 @@ among_apart : (before after : Description) (b : Bool) (hosts : List ChangedEnd) 
 among_apart before after true hosts first pairs = pairs
 among_apart before after false hosts first pairs = AllPairs-cons (HaveOwnIn before after) internet_in_both hosts first pairs
 
-pub starts_apart : (before after : Description) (start goal : Option ChangedEnd) (starts : List ChangedEnd) → IsAccepted before
+pub starts_apart : (before after : Description) (src : Option (ℕ × ℕ)) (start goal : Option ChangedEnd) (starts : List ChangedEnd) → IsAccepted before
     → IsAccepted after
     → has_interface before (codes "internet") ≡ false → has_interface after (codes "internet") ≡ false
-    → StartAt before after start goal starts → AllPairs (HaveOwnIn before after) starts
-starts_apart before after (Some start) goal starts first second none none_after are = one_pairs (HaveOwnIn before after) start starts are
-starts_apart before after None goal starts first second none none_after are =
+    → StartAt before after src start goal starts → AllPairs (HaveOwnIn before after) starts
+starts_apart before after src (Some start) goal starts first second none none_after are = one_pairs (HaveOwnIn before after) start starts are
+starts_apart before after src None goal starts first second none none_after are =
     let moved = are.hosts_are.all in
     let apart = apart_in_any_order (changed_id before after) (hosts_of_either before after) are.hosts moved
     (either_apart before after first second) in
     let named = All-permutation (HaveOwnIn before after internet_in_both) (hosts_of_either before after) are.hosts moved
     (either_named before after none none_after) in
     subst (AllPairs (HaveOwnIn before after)) (sym are.are)
-    (among_apart before after (is_goal goal internet_in_both) (filter (is_start before after goal) are.hosts)
-    (All-filter (is_start before after goal) (HaveOwnIn before after internet_in_both) are.hosts named)
-    (AllPairs-filter (HaveOwnIn before after) (is_start before after goal) are.hosts apart))
+    (among_apart before after (is_goal goal internet_in_both) (filter (is_start before after src goal) are.hosts)
+    (All-filter (is_start before after src goal) (HaveOwnIn before after internet_in_both) are.hosts named)
+    (AllPairs-filter (HaveOwnIn before after) (is_start before after src goal) are.hosts apart))

@@ -57,7 +57,7 @@ module _ (before after : Description) (words : List (List ℕ)) (first : CanBeLi
       let pairs = query.pairs in
       let all = targets_fit before after pairs.dst query.goal targets one.interfaces two.interfaces fits.dst targets_are in
       let apart =
-      starts_apart before after query.start query.goal starts first.accepted second.accepted first.named second.named starts_are in
+      starts_apart before after query.pairs.src query.start query.goal starts first.accepted second.accepted first.named second.named starts_are in
       let printable = are_printable (comparison before after query) targets one two fits all starts told apart are in
       let each = are_true (comparison before after query) targets told are.each in
       let lists = lists_of (printed (comparison before after query) targets told) in

@@ -18,7 +18,7 @@ use Rattle.listing_laws.proofs.ReachTruths.{IsTrueText, whole_is_true}
 module _ (d : Description) (words : List (List ℕ)) (status : Status) (text : List ℕ) (typed : HasTypedInterfaces d)
     (named : has_interface d (codes "internet") ≡ false) (whole : (status ≡ ends.Yes) ⊎ (status ≡ ends.No)) where
   told_true : (query : ReachQuery) (targets : List (ℕ × ℕ)) (starts : List End) → reach_query_of d words ≡ Ok query
-      → (IsTooMany d query → ⊥) → AreTargets d query.pairs.dst query.goal targets → AreStarts d query.start query.goal starts
+      → (IsTooMany d query → ⊥) → AreTargets d query.pairs.dst query.goal targets → AreStarts d query.pairs.src query.start query.goal starts
       → IsReachTold d query words targets starts status text → IsTrueText d text
   told_true query targets starts read few targets_are starts_are (tellings.some told are rows status_is text_is) =
       subst (IsTrueText d) (sym text_is) (whole_is_true d words query targets starts told typed named read few targets_are starts_are are)

@@ -61,10 +61,10 @@ among_apart d false hosts none pairs =
     AllPairs-cons (HaveOwnIds d) ends.Internet (map ends.Interface hosts)
     (All-map (HaveOwnIds d ends.Internet) ends.Interface hosts (λ k i within. internet_apart d _ none)) pairs
 
-pub starts_apart : (d : Description) (start goal : Option End) (starts : List End) → has_interface d (codes "internet") ≡ false
-    → AreStarts d start goal starts → AllPairs (HaveOwnIds d) starts
-starts_apart d (Some start) goal starts none are = one_pairs (HaveOwnIds d) start starts are
-starts_apart d None goal starts none are =
+pub starts_apart : (d : Description) (src : Option (ℕ × ℕ)) (start goal : Option End) (starts : List End) → has_interface d (codes "internet") ≡ false
+    → AreStarts d src start goal starts → AllPairs (HaveOwnIds d) starts
+starts_apart d src (Some start) goal starts none are = one_pairs (HaveOwnIds d) start starts are
+starts_apart d src None goal starts none are =
     subst (AllPairs (HaveOwnIds d)) (sym are.are)
-    (among_apart d (is_goal goal ends.Internet) (filter (is_start d goal) are.hosts) none
-    (hosts_apart d are.hosts (is_start d goal) are.by_id.ascending))
+    (among_apart d (is_goal goal ends.Internet) (filter (is_start d src goal) are.hosts) none
+    (hosts_apart d are.hosts (is_start d src goal) are.by_id.ascending))

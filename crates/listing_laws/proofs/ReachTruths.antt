@@ -37,7 +37,7 @@ pub record IsTrueText (d : Description) (text : List ℕ) : Type 0 where
 pub whole_is_true : (d : Description) (words : List (List ℕ)) (query : ReachQuery) (targets : List (ℕ × ℕ)) (starts : List End)
     (told : List StartRows) → HasTypedInterfaces d → has_interface d (codes "internet") ≡ false
     → reach_query_of d words ≡ Ok query → (IsTooMany d query → ⊥) → AreTargets d query.pairs.dst query.goal targets
-    → AreStarts d query.start query.goal starts → AreToldAll d query targets starts told
+    → AreStarts d query.pairs.src query.start query.goal starts → AreToldAll d query targets starts told
     → IsTrueText d (whole_text d words told)
 whole_is_true d words query targets starts told typed named read few targets_are starts_are are =
     let r = reach_read d words query typed read in
@@ -47,7 +47,7 @@ whole_is_true d words query targets starts told typed named read few targets_are
     let pairs = query.pairs in
     let all = targets_fit d pairs.dst query.goal targets typed fits.dst targets_are in
     let printable = are_printable d query targets typed fits all starts told
-    (starts_apart d query.start query.goal starts named starts_are) are in
+    (starts_apart d query.pairs.src query.start query.goal starts named starts_are) are in
     let each = are_true d query targets typed fits all told are.each in
     let lists = lists_of (printed d query targets told) in
     let lines = has_two_lines (codes "vpc-reach 1") (given_words 2 words) (body d query targets told) tag_is_line given.spelled in

@@ -9,5 +9,5 @@ loop-host-preserved c =
     let hosts = c.args.hosts.now in
     let k = c.loop-host.host-index in
     let host = get_or hosts k (numbered 0) in
-    starts_more c.args.n.now c.args.goal hosts k host c.args.starts.now.items c.loop-host.starts.items c.add_host.new.starts.items
+    starts_more c.args.n.now c.args.src c.args.goal hosts k host c.args.starts.now.items c.loop-host.starts.items c.add_host.new.starts.items
     c.loop-host-test.true (get_or_default hosts k (numbered 0) host c.loop-host-test.true) c.loop-host.invariant c.in_ok-add_host.ensures

@@ -8,8 +8,8 @@ use Rattle.end_reach.proofs.starts.starts_of.Goals as goal
 
 pub returns-in-None-clause-described : goal.returns-in-None-clause-described
 returns-in-None-clause-described c =
-    if_ok (λ v. AreAllStarts c.args.n.now c.args.goal v.items) (λ v. All (λ e. IsTrue (is_end c.args.n.now e)) v.items) c.all_starts.result
-    (λ v are. starts_are_described c.args.n.now c.args.goal v.items are) c.all_starts.ensures
+    if_ok (λ v. AreAllStarts c.args.n.now c.args.src c.args.goal v.items) (λ v. All (λ e. IsTrue (is_end c.args.n.now e)) v.items) c.all_starts.result
+    (λ v are. starts_are_described c.args.n.now c.args.src c.args.goal v.items are) c.all_starts.ensures
 
 pub returns-in-Some-clause-described : goal.returns-in-Some-clause-described
 returns-in-Some-clause-described c =

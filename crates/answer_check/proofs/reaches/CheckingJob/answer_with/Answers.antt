@@ -30,7 +30,7 @@ answer_lines-requires-clause-starts g c =
     few_origins n q c.as_slice.result.now c.as_slice-starts.result.now c.in_ok-all_origins.all_origins.items c.as_slice-origins.result.now
     c.as_slice-origins.ensures.value c.in_ok-all_origins.ensures.value
     (subst (λ (l : List End). length l < 2 ^ 32) (sym c.as_slice-starts.ensures.value)
-    (few_starts n q.start q.goal c.in_ok-all_starts.all_starts.items c.description.ensures.accepted c.in_ok-all_starts.ensures.starts))
+    (few_starts n q.pairs.src q.start q.goal c.in_ok-all_starts.all_starts.items c.description.ensures.accepted c.in_ok-all_starts.ensures.starts))
 
 pub returns : goal.returns
 returns g c =
@@ -48,7 +48,7 @@ returns g c =
       targets = targets;
       targets_are = subst (λ (l : List _). AreTargets d q.pairs.dst q.goal l) (sym c.as_slice.ensures.value) (subst (λ (x : Description). AreTargets x q.pairs.dst q.goal c.in_ok-targets.targets.items) c.network-n.ensures c.in_ok-targets.ensures);
       starts = starts;
-      starts_are = subst (λ (l : List End). AreStarts d q.start q.goal l) (sym c.as_slice-starts.ensures.value) (subst (λ (x : Description). AreStarts x q.start q.goal c.in_ok-all_starts.all_starts.items) c.network-n.ensures c.in_ok-all_starts.ensures.starts);
+      starts_are = subst (λ (l : List End). AreStarts d q.pairs.src q.start q.goal l) (sym c.as_slice-starts.ensures.value) (subst (λ (x : Description). AreStarts x q.pairs.src q.start q.goal c.in_ok-all_starts.all_starts.items) c.network-n.ensures c.in_ok-all_starts.ensures.starts);
       checked = subst (λ (asked : List Asked). IsListingChecked asked c.args.self.now.ended (drop 2 lines) a.status a.text.items) (asked_in-origins d q targets starts origins are)
           (subst (λ (ls : List (List ℕ)). IsListingChecked (asked_in d q.goal origins starts) c.args.self.now.ended ls a.status a.text.items) later found);
     })

@@ -31,7 +31,7 @@ returns g c =
       targets = c.as_slice.result.now;
       targets_are = subst (λ (l : List _). AreTargets d q.pairs.dst q.goal l) (sym c.as_slice.ensures.value) (subst (λ (x : Description). AreTargets x q.pairs.dst q.goal c.in_ok-targets.targets.items) c.network-n.ensures c.in_ok-targets.ensures);
       starts = c.as_slice-2.result.now;
-      starts_are = subst (λ (l : List End). AreStarts d q.start q.goal l) (sym c.as_slice-2.ensures.value) (subst (λ (x : Description). AreStarts x q.start q.goal c.in_ok-starts.starts.items) c.network-n.ensures c.in_ok-starts.ensures.starts);
+      starts_are = subst (λ (l : List End). AreStarts d q.pairs.src q.start q.goal l) (sym c.as_slice-2.ensures.value) (subst (λ (x : Description). AreStarts x q.pairs.src q.start q.goal c.in_ok-starts.starts.items) c.network-n.ensures c.in_ok-starts.ensures.starts);
       told = told_by d q words c.as_slice.result.now c.as_slice-2.result.now body.text.items body.count body.next a.status a.text.items c.in_ok-body.ensures
           (subst (λ (x : Description). IsPrinted x words body.text.items body.count body.next a.status a.text.items) c.network-n.ensures printed);
     })
