@@ -277,6 +277,23 @@ def many_rows():
     return "\n".join(["vpc-report 1", f"query from {LONG_ID} to eni-b", f"box {box} 0-65535", *rows, f"end {len(rows)}", ""])
 
 
+def most_rows():
+    """Without `max` a listing has at most 20,000 rows: one host takes 20,001 odd ports."""
+    bundle, ports = json.loads(BUNDLE), range(1, 40_002, 2)
+    bundle["SecurityGroups"][1]["IpPermissions"] = [{"IpProtocol": "tcp", "FromPort": p, "ToPort": p, "IpRanges": [{"CidrIp": "0.0.0.0/0"}]} for p in ports]
+    file_of("odd.json", json.dumps(bundle))
+    sides = "10.0.1.10-10.0.1.10 10.0.1.20-10.0.1.20 0-65535"
+    rows = [f"row {k + 1} eni-a eni-b 6-6 {sides} {p}-{p}" for k, p in enumerate(ports)]
+    query = "query from eni-a to eni-b proto tcp"
+    some = "\n".join(["more reach", query, *rows[:20_000], "next eni-a tcp 10.0.1.10 10.0.1.20 0 40001", ""])
+    words = "reach odd.json from eni-a to eni-b proto tcp".split()
+    yield ("20,001 rows of a listing", words, 5, some, {})
+    yield ("20,001 rows of a listing, of which 20,000 are asked for", [*words, "max", "20000"], 5, some, {})
+    bundle["SecurityGroups"][1]["IpPermissions"].pop()
+    file_of("odd.json", json.dumps(bundle))
+    yield ("20,000 rows of a listing", words, 0, "\n".join(["vpc-reach 1", query, *rows[:20_000], "end 20000", ""]), {})
+
+
 def outputs():
     """Outputs that take nothing, or a part."""
     texts = [*WHOLE.values(), "trace none.json".split(), WHOLE["trace"][:1] + ["none.json"] + WHOLE["trace"][2:], "check o.json none.txt".split()]
@@ -386,7 +403,7 @@ def main():
                            ("wide.txt", REPORT.replace("80-80\nrow", "80-443\nrow")), ("untrue.txt", REPORT.replace("80-80", "443-443"))):
             file_of(name, data)
         passed, failed = 0, 0
-        for group in (statuses, refusals, counts, bad_words, odd_words, unread, piped, long_files, long_texts, outputs, memory):
+        for group in (statuses, refusals, counts, bad_words, odd_words, unread, piped, long_files, long_texts, most_rows, outputs, memory):
             for case in group():
                 wrong = difference(case)
                 passed, failed = (passed, failed + 1) if wrong else (passed + 1, failed)

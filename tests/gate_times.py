@@ -1,7 +1,8 @@
 """What each crate takes of a gate, and by which crates its longest chain goes.
 
     python3 tests/gate_times.py run LOG [COMMAND ..]    runs the gate, `rt ci` where no COMMAND is given, and writes LOG
-    python3 tests/gate_times.py table LOG               prints the table of docs/PROOFS.md
+    python3 tests/gate_times.py table LOG ..            prints the table of docs/PROOFS.md; of a gate that went on over what an earlier run
+                                                        had kept, the logs of all its runs
 
 Each second the processor time of every prover that runs is read from /proc, with its crate and what it does: the proof of the crate, its
 tests, its must-fail edits (with the proof that they begin with), or building a program of what is proved. LOG has a line of JSON for
@@ -24,12 +25,23 @@ TICK = os.sysconf("SC_CLK_TCK")
 KINDS = ("proof", "tests", "edits", "build")
 
 
-def provers():
-    """The provers that run now: what each works at, and its processor seconds, by its number and the time of its start."""
+def is_below(pid, ancestor):
+    """Whether a process was started by another, or by one that was."""
+    while pid not in ("0", "1", str(ancestor)):
+        try:
+            with open(f"/proc/{pid}/stat", encoding="utf-8") as file:
+                pid = file.read().rpartition(")")[2].split()[1]
+        except OSError:
+            return False
+    return pid == str(ancestor)
+
+
+def provers(gate):
+    """The provers that a gate runs now: what each works at, and its processor seconds, by its number and the time of its start."""
     found = {}
     for pid in filter(str.isdigit, os.listdir("/proc")):
         try:
-            if os.readlink(f"/proc/{pid}/exe") != f"{check.KIT}/bin/rattle":
+            if os.readlink(f"/proc/{pid}/exe") != f"{check.KIT}/bin/rattle" or not is_below(pid, gate):
                 continue
             with open(f"/proc/{pid}/cmdline", encoding="utf-8", errors="replace") as file:
                 words = file.read().split("\0")
@@ -53,12 +65,12 @@ def kind_of(words, folder):
     return "tests" if "--test" in words else "proof"
 
 
-def watch(log, has_ended):
+def watch(gate, log, has_ended):
     """Writes a line for each prover that has ended, until the run has."""
     seen = {}
     while True:
         is_last, now = has_ended.wait(1), time.time()
-        running = {} if is_last else provers()
+        running = {} if is_last else provers(gate)
         for key in [it for it in seen if it not in running]:
             crate, kind, begun, seconds, last = seen.pop(key)
             print(json.dumps({"crate": crate, "kind": kind, "wall": round(last - begun, 1), "seconds": round(seconds, 1)}), file=log, flush=True)
@@ -71,9 +83,10 @@ def watch(log, has_ended):
 def run(path, command):
     begun, has_ended = time.time(), threading.Event()
     with open(path, "w", encoding="utf-8") as log:
-        watcher = threading.Thread(target=watch, args=(log, has_ended))
+        gate = subprocess.Popen(command, cwd=check.TOP)
+        watcher = threading.Thread(target=watch, args=(gate.pid, log, has_ended))
         watcher.start()
-        status = subprocess.call(command, cwd=check.TOP)
+        status = gate.wait()
         has_ended.set()
         watcher.join()
         used = resource.getrusage(resource.RUSAGE_CHILDREN)
@@ -95,7 +108,8 @@ def longest_chain(walls):
     return max((end_of(it) for it in crates), key=lambda it: it[0])
 
 
-def table(path):
+def read_log(path):
+    """The seconds of each crate and kind, the wall time of each crate's proof, and the line of the whole run, if it came to its end."""
     with open(path, encoding="utf-8") as file:
         lines = [json.loads(line) for line in file]
     taken, walls = {}, {}
@@ -103,13 +117,24 @@ def table(path):
         taken[it["crate"], it["kind"]] = taken.get((it["crate"], it["kind"]), 0) + it["seconds"]
         if it["kind"] == "proof":
             walls[it["crate"]] = max(walls.get(it["crate"], 0), it["wall"])
+    return taken, walls, next((line for line in lines if "processors" in line), None)
+
+
+def most(tables):
+    """What was begun in one run and done in another counts once, by the longer of the two."""
+    return {key: max(it.get(key, 0) for it in tables) for key in {key for it in tables for key in it}}
+
+
+def table(paths):
+    logs = [read_log(path) for path in paths]
+    taken, walls = most([it[0] for it in logs]), most([it[1] for it in logs])
     print(f"| crate | {' | '.join(KINDS)} |\n|---|{'---:|' * len(KINDS)}")
     for crate in check.crates():
         cells = [f"{taken[crate, kind]:.0f}" if (crate, kind) in taken else "" for kind in KINDS]
         print(f"| {crate} | {' | '.join(cells)} |")
     sums = [sum(seconds for (_, kind), seconds in taken.items() if kind == it) / 60 for it in KINDS]
     print(f"| all, in minutes | {' | '.join(f'{it:.0f}' for it in sums)} |\n")
-    whole = next((line for line in lines if "processors" in line), None)
+    whole = logs[0][2] if len(logs) == 1 else None
     if whole:
         other = whole["seconds"] / 60 - sum(sums)
         print(f"Wall time {whole['wall'] / 60:.0f} minutes on {whole['processors']} processors, processor time {whole['seconds'] / 60:.0f} minutes, of which {other:.0f} are no prover's; status {whole['status']}.")
@@ -121,8 +146,8 @@ def main():
     words = sys.argv[1:]
     if len(words) >= 2 and words[0] == "run":
         sys.exit(run(words[1], words[2:] or ["rt", "ci"]))
-    if len(words) == 2 and words[0] == "table":
-        return table(words[1])
+    if len(words) >= 2 and words[0] == "table":
+        return table(words[1:])
     return sys.exit(__doc__)
 
 
