@@ -243,22 +243,22 @@ def groups_are_right(faults):
 
 
 def definitions_are_there(faults):
-    """That each name of DEFINITIONS is declared in the file that stands before it; how many names there are."""
-    count, folder, file, text = 0, None, None, ""
+    """That each name of DEFINITIONS is declared on the page that stands before it; how many names there are."""
+    count, folder, page, text = 0, None, None, ""
     for line in read("docs", "DEFINITIONS.md").splitlines():
         if not line.startswith("|"):
-            found = re.match(r".*Files stand in `(crates/[\w/]+/)`", line)
+            found = re.match(r"Pages stand in `(crates/[\w/]+/)`", line)
             folder = found[1] if found else folder
             continue
-        for it in re.findall(r"`([^`]*)`", line.strip("| ").rpartition(" | ")[2]):
-            if it.endswith(".antt"):
-                file = it if it.startswith("crates/") else folder + it
-                there = os.path.exists(os.path.join(TOP, file))
-                text = read(file) if there else faults.append(f"DEFINITIONS: there is no {file}") or ""
+        for it, is_page in re.findall(r"`([^`]*)`(:?)", line.strip("| ").rpartition(" | ")[2]):
+            if is_page:
+                page = f"{it if it.startswith('crates/') else folder + it}.antt"
+                there = os.path.exists(os.path.join(TOP, page))
+                text = read(page) if there else faults.append(f"DEFINITIONS: there is no {page}") or ""
                 continue
             count += 1
-            if not re.search(rf"^(?:(?:abbrev|record|data|unfoldable|pub|opaque|rec) )*{re.escape(it)}\b", text, re.M):
-                faults.append(f"DEFINITIONS: {file} declares no {it}")
+            if not re.search(rf"^(?:(?:abbrev|record|data|unfoldable|pub) )*{re.escape(it)}\b", text, re.M):
+                faults.append(f"DEFINITIONS: {page} declares no {it}")
     return count
 
 
