@@ -1,13 +1,16 @@
-"""Compares the pages for readers of the code with the sources: tests/contracts.py [--write | --calls CRATE]
+"""Compares the pages for readers of the code with the sources.
 
-docs/CONTRACTS.md lists calls, and by which clauses each promises what. Which calls stand there is written on the page, in the
-order of crates.txt; what they promise is read from crates/*/src: the name of each clause, and each definition of this repository
-that it is said by, told where the row has it first. Every crate that hands out calls has a row; a call `*` stands for all of a crate, by their number.
-The table by command is made of crates/vpc_commands/specs. With --write both are written anew; with --calls all that CRATE hands out is
-printed, as rows.
+    python3 tests/contracts.py                  compares
+    python3 tests/contracts.py --write          writes the two lists of docs/CONTRACTS.md anew
+    python3 tests/contracts.py --calls CRATE    prints all that a crate hands out, as lines of that page
 
-Of docs/DESIGN.md the names of the table, the groups and the arrows of the picture are compared with crates.txt, in which no group may
-stand on a higher one and no crate on a later one. Of docs/DEFINITIONS.md each name must be declared in the file that it is said to stand in.
+docs/CONTRACTS.md lists calls by crate. Which ones is written on the page, in the order of crates.txt; each crate that hands out
+any has one, and `*` stands for all of a crate, by their number. What a call promises is read from crates/*/src: the name of each
+clause, and the definitions of this repository that it names, each told where the call names it first. The list by command is
+made of crates/vpc_commands/specs.
+
+Of docs/DESIGN.md the picture and the table are compared with crates.txt, in which no group may stand on a higher one and no
+crate on a later one. Of docs/DEFINITIONS.md each name must be declared on the page of specs that it is said to stand on.
 """
 
 import os
@@ -15,9 +18,7 @@ import re
 import sys
 
 TOP = os.path.dirname(os.path.dirname(os.path.abspath(__file__)))
-CONTRACTS = os.path.join(TOP, "docs", "CONTRACTS.md")
-DESIGN = os.path.join(TOP, "docs", "DESIGN.md")
-DEFINITIONS = os.path.join(TOP, "docs", "DEFINITIONS.md")
+CONTRACTS = os.path.join("docs", "CONTRACTS.md")
 NOT_CODE = re.compile(r"""//[^\n]*|b?"(?:\\.|[^"\\])*"|b?'(?:\\[^']*|[^'\\])'""")
 CALL = re.compile(r"(?P<pub>pub )?(?:const )?fn (?P<name>\w+)")
 OWNER = re.compile(r"^(?P<pub>pub )?(?P<kind>trait|impl)\b(?P<head>[^{;]*)\{", re.M)
@@ -26,10 +27,10 @@ CLAUSE = re.compile(r"\s*(ensures|requires)\s*(\w+)?\s*(?=\{)")
 IMPORT = re.compile(r"ghost use Rattle\.(\w+)\.specs\.(?!declared\b)[\w.]*\{([^}]*)\}")
 MEMBER = re.compile(r"ghost (?!use\b)(\w+) = (?=\{)")
 DECLARED = re.compile(r"ghost (\w+): ")
-# What only leads from one thing to another: a row by its number, the header of an image, the moment at a place. It isn't listed.
+# What only leads from one thing to another, as to a row by its number or to the header of an image. It isn't listed.
 LEADING = set(
-    "CutLists Rose acl_at all_cuts appliances_of asked at_place field_of header_at low_of moment_at moment_of peering_at sent "
-    "table_at tgw_table_at told_rows".split()
+    "CutLists Rose acl_at all_cuts appliances_of asked at_place field_of header_at low_of moment_at moment_of peering_at "
+    "sent table_at tgw_table_at told_rows".split()
 )
 
 
@@ -164,7 +165,7 @@ def by_command():
 
 
 def listed_anew(block, faults):
-    """The list of calls as the sources have it: lines of crates, and below each, after two blanks, those of its calls."""
+    """The list of calls as the sources have it: a line for each crate, and below it, after two blanks, its calls."""
     groups, below = crates()
     own, order = set(below), [it for group in groups.values() for it in group]
     lines, listed, known = [], [], {}
@@ -252,9 +253,9 @@ def definitions_are_there(faults):
             continue
         for it, is_page in re.findall(r"`([^`]*)`(:?)", line.strip("| ").rpartition(" | ")[2]):
             if is_page:
-                page = f"{it if it.startswith('crates/') else folder + it}.antt"
-                there = os.path.exists(os.path.join(TOP, page))
-                text = read(page) if there else faults.append(f"DEFINITIONS: there is no {page}") or ""
+                page, text = f"{it if it.startswith('crates/') else folder + it}.antt", ""
+                if os.path.exists(os.path.join(TOP, page)):
+                    text = read(page)
                 continue
             count += 1
             if not re.search(rf"^(?:(?:abbrev|record|data|unfoldable|pub) )*{re.escape(it)}\b", text, re.M):
@@ -270,13 +271,16 @@ def main(words):
         return 0
     page = read(CONTRACTS)
     made = written(page, faults)
-    rows = made.count("\n  ")
+    rows = made.count("\n  ") + len(by_command())
     if words == ["--write"]:
-        with open(CONTRACTS, "w", encoding="utf-8") as file:
+        with open(os.path.join(TOP, CONTRACTS), "w", encoding="utf-8") as file:
             file.write(made)
     elif made != page:
-        faults += [f"CONTRACTS has {old!r} where the sources give {new!r}"
-                   for old, new in zip(page.splitlines(), made.splitlines()) if old != new][:5] or ["CONTRACTS has other lines"]
+        faults.append(next(
+            (f"CONTRACTS has {old!r} where the sources give {new!r}"
+             for old, new in zip(page.splitlines(), made.splitlines()) if old != new),
+            "CONTRACTS has other lines than the sources give",
+        ))
     groups_are_right(faults)
     rows += definitions_are_there(faults)
     print(*faults, sep="\n", end="\n" if faults else "")
