@@ -21,16 +21,17 @@ fn could_match(row: &AclRow, dir: Dir, low: &Header, i: &Image) -> bool
     requires low { low.now ≡ header_at i.now (low_of i.now.part) }
     ensures { result ≡ false → MatchesNone dir i.now row.now }
 {
+    // (of many rows most are passed by their ports, so these are looked at first)
     if row.q_to < low.q {
+        return false;
+    }
+    if i.greatest(Side::Q) < u32::from(row.q_from) {
         return false;
     }
     if row.block.last() < far_address(dir, low) {
         return false;
     }
-    if i.greatest(far_side(dir)) < row.block.first() {
-        return false;
-    }
-    u32::from(row.q_from) <= i.greatest(Side::Q)
+    row.block.first() <= i.greatest(far_side(dir))
 }
 
 // Whether a row of the direction matches. One that doesn't by its block is told so of all protocols and ports.
