@@ -10,3 +10,4 @@ pub mod NearRows
 pub mod ReportRows
 pub mod Refused
 pub mod Replayed
+pub mod Ways

@@ -13,3 +13,4 @@ pub mod refused;
 pub mod replayed;
 pub mod reports;
 pub mod subnets;
+pub mod ways;
