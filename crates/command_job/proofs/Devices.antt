@@ -33,3 +33,6 @@ no_is_none = neither ends.No (λ e. cc) (λ e. cc)
 
 pub more_is_none : IsOfDevice ends.More → ⊥
 more_is_none = neither ends.More (λ e. cc) (λ e. cc)
+
+pub unknown_is_none : IsOfDevice ends.Unknown → ⊥
+unknown_is_none = neither ends.Unknown (λ e. cc) (λ e. cc)

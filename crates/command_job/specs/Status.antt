@@ -1,7 +1,7 @@
 -- How a command ends.
 use Rattle.std.specs.Prelude.{◌≡◌, ◌⊎◌, ℕ}
 use Rattle.command_job.specs.declared.status.Status.{Status}
-use Rattle.command_job.specs.declared.status.Status.TheVariants.{Yes, No, Words, Description, Query, More, Read, Write, Memory}
+use Rattle.command_job.specs.declared.status.Status.TheVariants.{Yes, No, Words, Description, Query, More, Read, Write, Memory, Unknown}
 
 -- the exit code
 abbrev pub code_of : Status → ℕ
@@ -14,6 +14,7 @@ code_of More = 5
 code_of Read = 6
 code_of Write = 7
 code_of Memory = 8
+code_of Unknown = 9
 
 -- a status that tells of a device that failed
 abbrev pub IsOfDevice : Status → Type 0

@@ -22,6 +22,8 @@ pub enum Status {
     Write,
     /// Memory was refused.
     Memory,
+    /// Neither a yes nor a no: the answer depends on packets that leave the networks which are described.
+    Unknown,
 }
 
 impl Status {
@@ -41,6 +43,7 @@ impl Status {
             Status::Read => 6,
             Status::Write => 7,
             Status::Memory => 8,
+            Status::Unknown => 9,
         }
     }
 }
