@@ -12,7 +12,7 @@ use Rattle.vpc_model.specs.declared.outcomes.Phase.TheVariants as phases
 use Rattle.vpc_model.specs.declared.places.End.TheVariants as ends
 use Rattle.vpc_model.specs.declared.stops.Stop.TheVariants as stops
 use Rattle.change_examples.specs.Networks.{change_for, change_toward, fates_for, gone_from, in_other_order, new_at, numbered_in, plain, routed_both_ways, routed_one_way, second_made_anew, unrouted, with_a_range, with_a_range_in_two, with_a_third_host, with_port_80}
-use Rattle.change_report.specs.Asked.{hosts_of_either, own_sources}
+use Rattle.changed_ends.specs.Asked.{hosts_of_either, own_sources}
 use Rattle.listing_text.specs.Sides.{alone}
 use Rattle.change_report.specs.Texts.{row_line}
 

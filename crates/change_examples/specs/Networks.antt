@@ -10,7 +10,7 @@ use Rattle.vpc_examples.specs.Networks.{acl_1, allow_all, anywhere, bare, group,
 use Rattle.vpc_laws.specs.Types.{Description, Group, Header, Interface, Permission, Route}
 use Rattle.vpc_model.specs.declared.places.End.TheVariants as ends
 use Rattle.vpc_model.specs.declared.rows.Target.TheVariants as targets
-use Rattle.change_report.specs.Asked.{Comparison, comparison}
+use Rattle.changed_ends.specs.Asked.{Comparison, comparison}
 use Rattle.change_report.specs.Told.{change_in, sent_after, sent_before}
 
 -- ---- networks

@@ -13,7 +13,7 @@ use Rattle.listing_text.specs.Bodies.{IsBody}
 use Rattle.listing_text.specs.Bodies as bodies
 use Rattle.listing_text.specs.Texts.{told_lines_from}
 use Rattle.change_report.specs.Answered.{IsAnswerTo, IsDiffTold, IsPrinted}
-use Rattle.change_report.specs.Asked.{AreHostsOfEither, AreStarts, AreTargets, Comparison, StartAt, TargetsAre, comparison, hosts_of_either}
+use Rattle.changed_ends.specs.Asked.{AreHostsOfEither, AreStarts, AreTargets, Comparison, StartAt, TargetsAre, comparison, hosts_of_either}
 use Rattle.change_report.specs.Texts.{lines_at, part_of, part_text, start_id, whole_of, whole_text}
 use Rattle.change_report.specs.Told.{wanted}
 

@@ -5,7 +5,7 @@ use Rattle.header_boxes.specs.declared.rows.Row.{Row}
 use Rattle.journey_changes.specs.declared.changes.Change.{Change}
 use Rattle.query_words.specs.declared.changes.ChangedEnd.{ChangedEnd}
 use Rattle.vpc_laws.specs.Types.{Header}
-use Rattle.change_report.specs.Asked.{Comparison, boxes_at}
+use Rattle.changed_ends.specs.Asked.{Comparison, boxes_at}
 use Rattle.change_report.specs.Texts.{lines_at}
 use Rattle.change_report.specs.Told.{change_in, cuts_in}
 

@@ -12,7 +12,7 @@ use Rattle.query_words.specs.declared.changes.ChangedEnd.{ChangedEnd}
 use Rattle.vpc_laws.specs.Types.{Description}
 use Rattle.change_report.specs.Answered.{IsDecided, IsDiffAnswered, IsDiffDecided, IsToldUnlessTooMany, IsTooMany}
 use Rattle.change_report.specs.Answered as answered
-use Rattle.change_report.specs.Asked.{AreAllOrAlone, AreStarts, AreTargets, Comparison, StartAt, TargetsAre, addresses_in_either, comparison, hosts_of_either, is_goal, is_internet, is_start}
+use Rattle.changed_ends.specs.Asked.{AreAllOrAlone, AreStarts, AreTargets, Comparison, StartAt, TargetsAre, addresses_in_either, comparison, hosts_of_either, is_goal, is_internet, is_start}
 use Rattle.change_report.specs.Texts.{lines_at, part_text, whole_text}
 use Rattle.change_report.specs.Told.{wanted}
 

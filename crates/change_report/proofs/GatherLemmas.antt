@@ -13,7 +13,7 @@ use Rattle.query_words.specs.declared.changes.ChangeQuery.{ChangeQuery}
 use Rattle.query_words.specs.declared.changes.ChangedEnd.{ChangedEnd}
 use Rattle.vpc_laws.specs.Types.{Description, End}
 use Rattle.vpc_model.specs.Sound.{is_end}
-use Rattle.change_report.specs.Asked.{Comparison, HasEnds}
+use Rattle.changed_ends.specs.Asked.{Comparison, HasEnds}
 use Rattle.change_report.specs.Told.{sent_after, sent_before, toward_of}
 use Rattle.change_report.specs.Walked.{nowhere}
 

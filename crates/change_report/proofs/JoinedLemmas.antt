@@ -5,7 +5,7 @@ use Rattle.box_gather.proofs.Parted.{joined_in_any}
 use Rattle.header_boxes.specs.declared.boxes.Box5.{Box5}
 use Rattle.listing_text.specs.Sides.{sides_between}
 use Rattle.query_words.specs.declared.reaches.ReachPairs.{ReachPairs}
-use Rattle.change_report.specs.Asked.{boxes_at, boxes_between, sources_of}
+use Rattle.changed_ends.specs.Asked.{boxes_at, boxes_between, sources_of}
 use Rattle.change_report.specs.Told.{RowsAreJoined}
 
 alike : (pairs : ReachPairs) (targets sources : List (ℕ × ℕ)) → All (λ (b : Box5). (b.p ≡ pairs.p) × (b.q ≡ pairs.q)) (boxes_between pairs targets sources)

@@ -1,5 +1,3 @@
-pub mod BoxLemmas
-pub mod StartLemmas
 pub mod GatherLemmas
 pub mod JoinedLemmas
 pub mod RowLemmas

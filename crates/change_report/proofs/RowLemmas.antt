@@ -13,7 +13,7 @@ use Rattle.query_words.specs.declared.changes.ChangedEnd.{ChangedEnd}
 use Rattle.vpc_laws.specs.Types.{Header}
 use Rattle.vpc_model.specs.Accepted.{IsAccepted}
 use Rattle.change_report.proofs.GatherLemmas.{sent_well_after, sent_well_before}
-use Rattle.change_report.specs.Asked.{Comparison, HasEnds, boxes_at}
+use Rattle.changed_ends.specs.Asked.{Comparison, HasEnds, boxes_at}
 use Rattle.change_report.specs.Told.{change_in, cuts_in, sent_after, sent_before}
 
 pub rows_are_tellable : (c : Comparison) (start : ChangedEnd) (boxes : List Box5) (rows : List (Row Change)) → IsAccepted c.before → IsAccepted c.after

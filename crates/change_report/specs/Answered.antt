@@ -11,7 +11,7 @@ use Rattle.query_words.specs.declared.changes.ChangeQuery.{ChangeQuery}
 use Rattle.query_words.specs.declared.changes.ChangedEnd.{ChangedEnd}
 use Rattle.query_words.specs.declared.refusal.QueryRefusal.{QueryRefusal}
 use Rattle.vpc_laws.specs.Types.{Description, Header}
-use Rattle.change_report.specs.Asked.{AreStarts, AreTargets, Comparison, HasEnds, comparison, hosts_of_either}
+use Rattle.changed_ends.specs.Asked.{AreStarts, AreTargets, Comparison, HasEnds, comparison, hosts_of_either}
 use Rattle.change_report.specs.Told.{wanted}
 use Rattle.change_report.specs.Texts.{part_of, part_text, start_id, whole_of, whole_text}
 

@@ -1,4 +1,3 @@
-pub mod Asked
 pub mod Told
 pub mod Texts
 pub mod Walked

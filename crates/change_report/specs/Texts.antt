@@ -14,7 +14,7 @@ use Rattle.listing_text.specs.Told.{row_count}
 use Rattle.query_words.specs.declared.changes.ChangedEnd.{ChangedEnd}
 use Rattle.vpc_laws.specs.Types.{Description, Header}
 use Rattle.vpc_model.specs.Told.{end_id}
-use Rattle.change_report.specs.Asked.{Comparison, changed_id}
+use Rattle.changed_ends.specs.Asked.{Comparison, changed_id}
 use Rattle.change_report.specs.Told.{ChangeRows}
 
 -- ---- rows

@@ -12,7 +12,7 @@ use Rattle.ordered_cover.specs.Joined.{AreJoined, GoesOnEitherWay}
 use Rattle.query_words.specs.declared.changes.ChangedEnd.{ChangedEnd}
 use Rattle.vpc_base.specs.Cuts.{CutLists}
 use Rattle.vpc_laws.specs.Types.{End, Header}
-use Rattle.change_report.specs.Asked.{Comparison, boxes_at}
+use Rattle.changed_ends.specs.Asked.{Comparison, boxes_at}
 
 -- ---- requests
 

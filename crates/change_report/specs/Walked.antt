@@ -2,7 +2,7 @@
 use Rattle.std.specs.Prelude.{◌≡◌, None}
 use Rattle.journey_changes.specs.Sent.{Sent}
 use Rattle.query_words.specs.declared.changes.ChangedEnd.{ChangedEnd}
-use Rattle.change_report.specs.Asked.{Comparison}
+use Rattle.changed_ends.specs.Asked.{Comparison}
 use Rattle.change_report.specs.Told.{sent_after, sent_before}
 
 -- a start that neither network has

@@ -2,15 +2,12 @@
 ghost use Rattle.std.specs.Prelude.{◌≡◌, ◌↔◌, ◌≤◌, IfOk, IsTrue, length, map, nat_lt, string_bytes};
 ghost use Rattle.listing_text.specs.Answered.{host_limit};
 ghost use Rattle.change_report.specs.Answered.{CanBeTold, IsAnswerTo, IsDiffAnswered, IsPrinted, IsToldUnlessTooMany, IsTooMany};
-ghost use Rattle.change_report.specs.Asked.{comparison, hosts_of_either};
+ghost use Rattle.changed_ends.specs.Asked.{comparison, hosts_of_either};
 
 use crate::between::{Comparing, answer_between};
 use crate::bodies::{Body, body_of};
-use crate::compared::Compared;
 use crate::gathered::Asked;
-use crate::hosts::{changed_id, hosts_of_either};
-use crate::starts::starts_of;
-use crate::targets::targets_of;
+use changed_ends::{Compared, changed_id, hosts_of_either, starts_of, targets_of};
 use command_job::{Answer, Status, answer_line, refuse_query};
 use listing_text::{Listing, answer_part, answer_whole, is_many, status_by};
 use query_words::{ChangeQuery, read_change_query};

@@ -1,11 +1,11 @@
 // What is done with two networks and a query about them, by the look-ups of both and the appliances that each describes.
 ghost use Rattle.std.specs.Prelude.{◌≡◌, IfOk};
 ghost use Rattle.appliances.specs.Passing.{kind_passes_at};
-ghost use Rattle.change_report.specs.Asked.{comparison};
+ghost use Rattle.changed_ends.specs.Asked.{comparison};
 
-use crate::compared::Compared;
 use crate::gathered::Asked;
 use appliances::Kinds;
+use changed_ends::Compared;
 use command_job::{Answer, deciders_of};
 use fabric::Fabric;
 use query_words::ChangeQuery;
@@ -18,7 +18,7 @@ use vpc_base::{Header, NoMemory};
 /// What is done with two networks and a query about them.
 pub trait Comparing {
     ghost use Rattle.std.specs.Prelude.{List, ℕ};
-    ghost use Rattle.change_report.specs.Asked.{Comparison};
+    ghost use Rattle.changed_ends.specs.Asked.{Comparison};
     ghost use Rattle.command_job.specs.declared.status.Status.{Status};
 
     /// That it can be done.

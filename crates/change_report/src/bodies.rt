@@ -4,16 +4,15 @@ ghost use Rattle.journey_changes.specs.Telling.{IsTellable};
 ghost use Rattle.listing_text.specs.Bodies.{IsAdded, IsBody};
 ghost use Rattle.query_words.specs.ChangeQuery.{IsChangedEnd};
 ghost use Rattle.query_words.specs.ReachQuery.{AreReachPairs};
-ghost use Rattle.change_report.specs.Asked.{AreTargets, HasEnds};
+ghost use Rattle.changed_ends.specs.Asked.{AreTargets, HasEnds};
 ghost use Rattle.change_report.specs.Texts.{lines_at};
 ghost use Rattle.change_report.specs.Told.{wanted};
 ghost use Rattle.change_report.specs.Walked.{AreWalksOf};
 
-use crate::compared::Compared;
 use crate::gathered::{Asked, gather_at, walks_of};
-use crate::hosts::changed_id;
 use crate::rows::put_rows;
 use box_gather::Gathered;
+use changed_ends::{Compared, changed_id};
 use header_boxes::Row;
 use journey_changes::{Change, ChangeProbe};
 use query_words::ChangedEnd;

@@ -7,14 +7,13 @@ ghost use Rattle.query_words.specs.ChangeQuery.{IsChangedEnd};
 ghost use Rattle.query_words.specs.ReachQuery.{AreReachPairs};
 ghost use Rattle.security_groups.specs.Index.{HasRulesOf};
 ghost use Rattle.vpc_model.specs.Appliances.{appliances_of};
-ghost use Rattle.change_report.specs.Asked.{AreTargets, HasEnds};
+ghost use Rattle.changed_ends.specs.Asked.{AreTargets, HasEnds};
 ghost use Rattle.change_report.specs.Told.{change_in, cuts_in, sent_after, sent_before, toward_of, wanted};
 ghost use Rattle.change_report.specs.Walked.{AreWalksOf, nowhere};
 
-use crate::boxes::boxes_at;
-use crate::compared::Compared;
 use appliances::Deciders;
 use box_gather::{Gathered, gather_over};
+use changed_ends::{Compared, boxes_at};
 use header_boxes::Box5;
 use journey_changes::{Change, ChangeProbe, FateProbe, Toward};
 use query_words::ChangedEnd;

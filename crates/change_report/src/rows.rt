@@ -5,8 +5,8 @@ ghost use Rattle.journey_changes.specs.Telling.{CanBeTold, IsTellable};
 ghost use Rattle.vpc_model.specs.Told.{end_id};
 ghost use Rattle.change_report.specs.Texts.{absent_text, barrier_text, change_text, row_line, row_lines_from};
 
-use crate::hosts::id_at;
 use block_report::{put, put_box_word, put_end, put_number_word, put_told, put_word};
+use changed_ends::id_at;
 use header_boxes::Row;
 use journey_changes::{Barrier, Change};
 use reference_check::Network;

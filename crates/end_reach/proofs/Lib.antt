@@ -5,3 +5,5 @@ pub mod RowLemmas
 pub mod BodyLemmas
 pub mod AnswerLemmas
 pub mod Decided
+pub mod Same
+pub mod Few

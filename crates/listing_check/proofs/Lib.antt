@@ -6,3 +6,4 @@ pub mod Starts
 pub mod Truths
 pub mod Printing
 pub mod Decided
+pub mod Agreeing

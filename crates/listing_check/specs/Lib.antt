@@ -5,4 +5,6 @@ pub mod Due
 pub mod Passed
 pub mod Texts
 pub mod Answered
+pub mod Lines
+pub mod Agreement
 pub mod Terms

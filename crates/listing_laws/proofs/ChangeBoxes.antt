@@ -1,7 +1,7 @@
 -- The boxes that a question of `diff` is about hold numbers of their fields.
 use Rattle.std.proofs.Common.{◌==◌, ◌<◌, ◌^◌, ◌∷◌, [], All, Bool, IfSome, List, None, Option, Some, false, if◌then◌else◌, map, true, ℕ}
 use Rattle.std.proofs.lemmas.List.Elements.{All-append, All-cons, All-head, All-map, All-nil, All-tail}
-use Rattle.change_report.specs.Asked.{AreAllOrAlone, TargetsAre, addresses_in_either, addresses_of, boxes_between, each_once, is_internet, sources_of}
+use Rattle.changed_ends.specs.Asked.{AreAllOrAlone, TargetsAre, addresses_in_either, addresses_of, boxes_between, each_once, is_internet, sources_of}
 use Rattle.listing_text.specs.Sides.{alone, sides_between}
 use Rattle.query_words.specs.ChangeQuery.{primary_in}
 use Rattle.query_words.specs.Sides.{all_addresses}

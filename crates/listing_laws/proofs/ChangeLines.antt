@@ -9,7 +9,7 @@ use Rattle.listing_reader.specs.Listings as listings
 use Rattle.listing_reader.specs.Printed as lines
 use Rattle.vpc_laws.specs.Types.{Description, End, Row}
 use Rattle.vpc_model.specs.Terms.{end_id, is_id}
-use Rattle.answer_check.specs.Diffs.{asked_from}
+use Rattle.diff_check.specs.Diffs.{asked_from}
 use Rattle.listing_laws.proofs.ShortWords.{IsShortWord, IsShortWord-nil}
 use Rattle.listing_laws.proofs.Listings.{printed_at, same_count}
 use Rattle.listing_laws.proofs.Shown.{all_shown}

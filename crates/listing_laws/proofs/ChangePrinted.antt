@@ -4,7 +4,7 @@ use Rattle.vpc_base.proofs.Lemmas.{All-map, AllPairs-map}
 use Rattle.listing_laws.specs.Terms.{ArePrintable, Change, ChangedEnd, HasTypedRows, IsPrintable, IsToldFrom, IsTrueOf, Printed, word}
 use Rattle.change_report.specs.Terms.{AreToldAll, ChangeRows, Comparison, boxes_at, change_in, cuts_in, start_id, wanted}
 use Rattle.vpc_laws.specs.Types.{Row}
-use Rattle.answer_check.specs.Diffs.{asked_from}
+use Rattle.diff_check.specs.Diffs.{asked_from}
 use Rattle.listing_laws.proofs.ChangeBoxes.{boxes_fit}
 use Rattle.listing_laws.proofs.ChangeStarts.{HaveOwnIn}
 use Rattle.listing_laws.proofs.Lengths.{HasShortRows, HasShortText}

@@ -6,8 +6,8 @@ use Rattle.std.proofs.lemmas.List.Elements.{All-append, All-filter, All-map}
 use Rattle.std.proofs.lemmas.List.Kept.{AllPairs-cons, AllPairs-filter}
 use Rattle.std.proofs.lemmas.List.Sorted.{All-permutation}
 use Rattle.vpc_base.proofs.Bytes.{bytes_self}
-use Rattle.answer_check.proofs.DiffOrder.{either_differ}
-use Rattle.change_report.specs.Asked.{StartAt, changed_id, from_after, from_before, hosts_of_either, is_goal, is_new, is_start}
+use Rattle.diff_check.proofs.Order.{either_differ}
+use Rattle.changed_ends.specs.Asked.{StartAt, changed_id, from_after, from_before, hosts_of_either, is_goal, is_new, is_start}
 use Rattle.described_hosts.specs.Hosts.{hosts_of}
 use Rattle.query_words.specs.ChangeQuery.{internet_in_both}
 use Rattle.query_words.specs.declared.changes.ChangedEnd.{ChangedEnd}

@@ -1,7 +1,7 @@
 -- What `diff` prints of all requests is true.
 use Rattle.std.proofs.Common.{List, Ok, [], ap, arith, codes, length, option_and_then, refl, subst, sym, ℕ, ◌-◌, ◌∙◌, ◌∷◌, ◌≡◌, ◌≤◌, ◌⊎◌}
 use Rattle.listing_laws.specs.Terms.{CanBeListed, ChangeQuery, ChangedEnd, DiffTextsAreTrue, DiffTextsFit, DiffTextsPass, Status, change_query_of, given_words, length_limit, lists_of, origins_of, result_ok, row_count}
-use Rattle.answer_check.specs.Diffs.{IsTrueDiff, all_asked, asked_from}
+use Rattle.diff_check.specs.Diffs.{IsTrueDiff, all_asked, asked_from}
 use Rattle.change_report.specs.Terms.{AreStarts, AreTargets, AreToldAll, ChangeRows, IsDiffAnswered, IsDiffTold, IsToldUnlessTooMany, IsTooMany, comparison, whole_text}
 use Rattle.change_report.specs.Answered as answered
 use Rattle.command_job.specs.declared.status.Status.TheVariants as ends
@@ -62,7 +62,7 @@ module _ (before after : Description) (words : List (List ℕ)) (first : CanBeLi
       let each = are_true (comparison before after query) targets told are.each in
       let lists = lists_of (printed (comparison before after query) targets told) in
       let lines = has_two_lines (codes "vpc-diff 1") (given_words 3 words)
-      (body (comparison before after query) targets told) tag_is_line given.spelled in
+      (body (comparison before after query) targets told) tag_is_line given.spelled given.asked in
       let ask = asked_from (comparison before after query) targets in
       subst (IsTrueText before after) (sym (text_is (comparison before after query) targets words told)) (record {
         is_true = record {

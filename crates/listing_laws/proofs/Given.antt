@@ -1,9 +1,10 @@
 -- The words that a listing repeats: those that were read before `max`.
-use Rattle.std.proofs.Common.{◌≡◌, ◌∙◌, ◌+◌, ◌-◌, ◌<◌, ◌≤◌, ◌++◌, [], All, Bool, List, ap, arith, codes, drop, false, get_or, if◌then◌else◌, inl, inr, length, length-append, min, refl, subst, sym, take, true, ℕ}
+use Rattle.std.proofs.Common.{◌≡◌, ◌∙◌, ◌+◌, ◌-◌, ◌<◌, ◌≤◌, ◌++◌, ◌∷◌, [], All, Bool, List, ap, arith, codes, drop, false, get_or, if◌then◌else◌, inl, inr, length, length-append, min, refl, subst, suc, sym, take, true, ℕ}
 use Rattle.std.specs.Str.{bytes_eq}
-use Rattle.std.proofs.lemmas.Bool.{cases_lt, cond-false, cond-true}
+use Rattle.std.proofs.lemmas.Bool.{and_right, cases_lt, cond-false, cond-true, not_from_false}
 use Rattle.std.proofs.lemmas.List.{get_or-append-add, get_or-drop, get_or-take, length-drop, length-take, nil_from_length, take_all}
 use Rattle.std.proofs.lemmas.List.Elements.{All-from_get_or}
+use Rattle.listing_check.specs.Lines.{are_question, end_with_max}
 use Rattle.query_words.specs.Words.{word_at}
 use Rattle.listing_laws.proofs.ShortWords.{IsShortWord}
 use Rattle.listing_laws.proofs.PairsRead.{Ended}
@@ -121,6 +122,30 @@ kept_are_words base stop words passed =
     subst IsShortWord (sym (kept_at base stop i words within))
     (passed_words words (base + 1) stop passed (base + 1 + i) (omega arith) (omega (arith, within)))
 
+-- `max` isn't the last of them but one
+ends_so : (words : List (List ℕ)) (last : ℕ) → length words - 2 ≡ last → bytes_eq (get_or words last []) (codes "max") ≡ false
+    → end_with_max words ≡ false
+ends_so words last is other =
+    and_right _ _ (ap (λ (k : ℕ). bytes_eq (get_or words k []) (codes "max")) is ∙ other)
+
+kept_are_question : (base stop : ℕ) (words : List (List ℕ)) → Passed words (base + 1) stop
+    → are_question (codes "query" ∷ kept_before base stop words) ≡ true
+kept_are_question base stop words (taking.none same) =
+    let nothing : stop - 1 - base ≡ 0 = omega (arith, same) in
+    ap (λ (k : ℕ). are_question (codes "query" ∷ take k (drop base words))) nothing
+kept_are_question base stop words (taking.some least most spelled last) =
+    let kept = kept_before base stop words in
+    let m = stop - 1 - base in
+    let a = length-take m (drop base words) in
+    let b = length-drop base words in
+    let count : length kept ≡ m = omega (arith, a, b, most) in
+    let two : suc (m - 2) ≡ m - 1 = omega (arith, least) in
+    let within : m - 2 < m = omega (arith, least) in
+    let number : base + 1 + (m - 2) ≡ stop - 2 = omega (arith, least) in
+    let at : length (codes "query" ∷ kept) - 2 ≡ suc (m - 2) = omega (arith, count, two) in
+    not_from_false _ (ends_so (codes "query" ∷ kept) (suc (m - 2)) at
+    (ap (λ (w : List ℕ). bytes_eq w (codes "max")) (kept_at base stop (m - 2) words within ∙ ap (word_at words) number) ∙ last))
+
 -- and are no more than were read
 kept_count : (base stop : ℕ) (words : List (List ℕ)) → length (kept_before base stop words) ≤ stop - 1 - base
 kept_count base stop words = let size = length-take (stop - 1 - base) (drop base words) in omega (arith, size)
@@ -128,6 +153,7 @@ kept_count base stop words = let size = length-take (stop - 1 - base) (drop base
 -- the words that are repeated behind others: they are read as they were
 pub record AreGiven (base stop : ℕ) (words front : List (List ℕ)) : Type 0 where
   pub spelled : All IsShortWord (given_after base words)
+  pub asked : are_question (codes "query" ∷ given_after base words) ≡ true
   pub count : length (given_after base words) ≤ stop - 1 - base
   pub agree : Agree base (stop - 1) words (front ++ given_after base words)
 
@@ -137,6 +163,9 @@ are_given base stop words front size passed ended =
     let same = sym (given_are_kept base stop words passed ended) in
     record {
       spelled = subst (All IsShortWord) same (kept_are_words base stop words passed);
+      asked =
+          subst (λ (given : List (List ℕ)). are_question (codes "query" ∷ given) ≡ true) same
+          (kept_are_question base stop words passed);
       count = subst (λ (given : List (List ℕ)). length given ≤ stop - 1 - base) same (kept_count base stop words);
       agree =
           subst (λ (given : List (List ℕ)). Agree base (stop - 1) words (front ++ given)) same

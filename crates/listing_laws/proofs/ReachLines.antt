@@ -9,7 +9,7 @@ use Rattle.listing_reader.specs.Listings as listings
 use Rattle.query_words.specs.declared.reaches.ReachQuery.{ReachQuery}
 use Rattle.vpc_laws.specs.Types.{Description, End, Row}
 use Rattle.vpc_model.specs.Terms.{end_id}
-use Rattle.answer_check.specs.Reaches.{asked_from}
+use Rattle.reach_check.specs.Reaches.{asked_from}
 use Rattle.listing_laws.proofs.ShortWords.{}
 use Rattle.listing_laws.proofs.Listings.{printed_at, same_count}
 use Rattle.listing_laws.proofs.Shown.{all_shown}

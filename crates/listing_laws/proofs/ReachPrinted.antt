@@ -5,7 +5,7 @@ use Rattle.end_reach.specs.Terms.{AreToldAll, StartRows, boxes_at, reached_in, w
 use Rattle.listing_laws.specs.Terms.{ArePrintable, HasTypedInterfaces, IsPrintable, IsToldFrom, IsTrueOf, Printed, ReachQuery}
 use Rattle.vpc_laws.specs.Types.{Description, End, Row}
 use Rattle.vpc_model.specs.Terms.{cuts_of, end_id}
-use Rattle.answer_check.specs.Reaches.{asked_from}
+use Rattle.reach_check.specs.Reaches.{asked_from}
 use Rattle.listing_laws.proofs.Lengths.{HasShortRows, HasShortText}
 use Rattle.listing_laws.proofs.Listings.{listed_at}
 use Rattle.listing_laws.proofs.Pairwise.{pairs_unmap}

@@ -1,7 +1,8 @@
 -- What `reach` prints of all requests is true.
 use Rattle.std.proofs.Common.{List, Ok, [], ap, arith, codes, drop, false, length, option_and_then, refl, subst, sym, true, ℕ, ◌-◌, ◌∙◌, ◌∷◌, ◌≡◌, ◌≤◌}
 use Rattle.listing_laws.specs.Terms.{HasTypedInterfaces, ReachQuery, given_words, length_limit, lists_of, origins_of, reach_query_of, result_ok, row_count}
-use Rattle.answer_check.specs.Terms.{IsTrueReach, all_asked, all_lines, asked_from, begins_with}
+use Rattle.listing_check.specs.Lines.{all_lines, begins_with}
+use Rattle.reach_check.specs.Reaches.{IsTrueReach, all_asked, asked_from}
 use Rattle.end_reach.specs.Terms.{AreStarts, AreTargets, AreToldAll, IsTooMany, StartRows, whole_text}
 use Rattle.vpc_laws.specs.Types.{Description, End}
 use Rattle.vpc_model.specs.Lookup.{has_interface}
@@ -50,7 +51,7 @@ whole_is_true d words query targets starts told typed named read few targets_are
     (starts_apart d query.pairs.src query.start query.goal starts named starts_are) are in
     let each = are_true d query targets typed fits all told are.each in
     let lists = lists_of (printed d query targets told) in
-    let lines = has_two_lines (codes "vpc-reach 1") (given_words 2 words) (body d query targets told) tag_is_line given.spelled in
+    let lines = has_two_lines (codes "vpc-reach 1") (given_words 2 words) (body d query targets told) tag_is_line given.spelled given.asked in
     let ask = asked_from d query targets in
     subst (IsTrueText d) (sym (text_is d query targets words told)) (record {
       first = lines.first;

@@ -1,6 +1,6 @@
 -- What `diff` prints of all requests is a yes of `check`.
 use Rattle.std.specs.Prelude.{◌≡◌, ◌≤◌, ◌⊎◌, List, length, ℕ}
-use Rattle.answer_check.specs.Diffs.{IsDiffListingDecided, IsTrueDiff}
+use Rattle.diff_check.specs.Diffs.{IsDiffListingDecided, IsTrueDiff}
 use Rattle.change_report.specs.Answered.{IsDiffAnswered}
 use Rattle.command_job.specs.declared.status.Status.{Status}
 use Rattle.command_job.specs.declared.status.Status.TheVariants as ends

@@ -1,7 +1,7 @@
 -- What `reach` prints of all requests is a yes of `check`.
 use Rattle.std.specs.Prelude.{◌≡◌, ◌≤◌, ◌⊎◌, List, length, ℕ}
-use Rattle.answer_check.specs.Reaches.{IsTrueReach}
-use Rattle.answer_check.specs.Texts.{IsTextDecided}
+use Rattle.reach_check.specs.Reaches.{IsTrueReach}
+use Rattle.reach_check.specs.Texts.{IsTextDecided}
 use Rattle.command_job.specs.declared.status.Status.{Status}
 use Rattle.command_job.specs.declared.status.Status.TheVariants as ends
 use Rattle.end_reach.specs.Answered.{IsReachAnswered}

@@ -4,9 +4,9 @@ use Rattle.vpc_commands.specs.Terms.{AreToldBytes, InternetIsNoInterface, IsComp
 use Rattle.vpc_laws.specs.Types.{Description}
 use Rattle.packet_trace.proofs.Decided.{trace_is_decided}
 use Rattle.network_reach.proofs.Decided.{ask_is_decided}
-use Rattle.answer_check.proofs.Decided.{text_is_decided}
-use Rattle.answer_check.proofs.DiffDecided.{diff_check_is_decided}
-use Rattle.answer_check.proofs.FirstLines.{no_listing}
+use Rattle.reach_check.proofs.Decided.{text_is_decided}
+use Rattle.diff_check.proofs.Decided.{diff_check_is_decided}
+use Rattle.reach_check.proofs.FirstLines.{no_listing}
 use Rattle.replay_log.proofs.Decided.{replay_is_decided}
 use Rattle.made_reach.proofs.Decided.{make_is_decided}
 use Rattle.reach_matrix.proofs.AnswerLemmas.{matrix_is_decided}

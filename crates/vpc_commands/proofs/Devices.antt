@@ -6,8 +6,8 @@ use Rattle.command_job.specs.declared.status.Status.TheVariants as ends
 use Rattle.command_job.proofs.Devices.{memory_is_none, no_device, words_are_none}
 use Rattle.packet_trace.proofs.Decided.{trace_is_none}
 use Rattle.network_reach.proofs.Decided.{ask_is_none}
-use Rattle.answer_check.proofs.Decided.{text_is_none}
-use Rattle.answer_check.proofs.DiffDecided.{diff_check_is_none}
+use Rattle.reach_check.proofs.Decided.{text_is_none}
+use Rattle.diff_check.proofs.Decided.{diff_check_is_none}
 use Rattle.replay_log.proofs.Decided.{replay_is_none}
 use Rattle.made_reach.proofs.Decided.{make_is_none}
 use Rattle.reach_matrix.proofs.AnswerLemmas.{matrix_tells_of_no_device}

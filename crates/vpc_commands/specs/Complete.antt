@@ -8,7 +8,8 @@ use Rattle.command_job.specs.declared.status.Status.{Status}
 use Rattle.command_job.specs.declared.status.Status.TheVariants as ends
 use Rattle.packet_trace.specs.Traced.{IsTraceDecided}
 use Rattle.network_reach.specs.Asked.{IsAskDecided, IsAsked}
-use Rattle.answer_check.specs.Terms.{IsDiffListingDecided, IsTextDecided}
+use Rattle.diff_check.specs.Diffs.{IsDiffListingDecided}
+use Rattle.reach_check.specs.Texts.{IsTextDecided}
 use Rattle.replay_log.specs.Replayed.{IsReplayDecided}
 use Rattle.made_reach.specs.Made.{IsMakeDecided}
 use Rattle.policy_check.specs.Policy.{IsExpectDecided}

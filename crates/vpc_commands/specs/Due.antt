@@ -8,7 +8,8 @@ use Rattle.command_job.specs.declared.status.Status.TheVariants as ends
 use Rattle.packet_trace.specs.Traced.{IsTraced}
 use Rattle.network_reach.specs.Asked.{IsAsked}
 use Rattle.report_check.specs.Certified.{report_refusal_line}
-use Rattle.answer_check.specs.Terms.{IsDiffChecked, IsTextChecked}
+use Rattle.diff_check.specs.Diffs.{IsDiffChecked}
+use Rattle.reach_check.specs.Texts.{IsTextChecked}
 use Rattle.replay_log.specs.Replayed.{IsReplayedFrom, events_refusal_line}
 use Rattle.made_reach.specs.Made.{IsMade}
 use Rattle.policy_check.specs.Policy.{ArePoliciesJudged, rules_refusal_line}

@@ -1,5 +1,6 @@
 -- The definitions that longer pages take, from one place.
-pub use Rattle.answer_check.specs.Terms.{IsDiffListingDecided, IsTextDecided}
+pub use Rattle.diff_check.specs.Diffs.{IsDiffListingDecided}
+pub use Rattle.reach_check.specs.Texts.{IsTextDecided}
 pub use Rattle.command_job.specs.Status.{IsOfDevice}
 pub use Rattle.command_job.specs.declared.status.Status.{Status}
 pub use Rattle.query_words.specs.Words.{word_at}

@@ -3,15 +3,15 @@ ghost use Rattle.std.specs.Prelude.{◌≡◌, ◌≤◌, IfOk, List, length, ma
 ghost use Rattle.serde_json.specs.View.{view};
 ghost use Rattle.bundle.specs.Json.{IsJson};
 ghost use Rattle.command_job.specs.Files.{file_limit};
-ghost use Rattle.answer_check.specs.Diffs.{IsDiffChecked};
+ghost use Rattle.diff_check.specs.Diffs.{IsDiffChecked};
 ghost use Rattle.report_check.specs.Certified.{report_refusal_line};
 ghost use Rattle.vpc_commands.specs.Files.{HasFailed, IsAnsweredAfter, IsAnsweredIn, IsAnsweredTo, IsDescribed, IsTaken, read_fault, second_fault, third_fault};
 ghost use Rattle.vpc_commands.specs.Words.{file_name, second_name, third_name};
 
 use crate::refusals::{refuse_bundle, refuse_description};
-use answer_check::check_diff;
 use bundle::{network_of, read_json};
 use command_job::{Answer, OneFile, Status, TwoFiles, TwoNetworks, answer_line, refuse_file};
+use diff_check::check_diff;
 use query_words::word;
 use reference_check::Network;
 use serde_json::Value;

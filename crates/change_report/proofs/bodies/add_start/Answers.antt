@@ -6,7 +6,7 @@ use Rattle.listing_text.specs.Bodies as bodies
 use Rattle.ordered_cover.specs.declared.rows.Gathered.{Gathered}
 use Rattle.vpc_laws.specs.Types.{Description}
 use Rattle.vpc_model.specs.Accepted.{IsAccepted}
-use Rattle.change_report.specs.Asked.{Comparison}
+use Rattle.changed_ends.specs.Asked.{Comparison}
 use Rattle.change_report.specs.Told.{wanted}
 use Rattle.change_report.proofs.BodyLemmas.{count-same, lines-same, part-room, whole-room}
 use Rattle.change_report.proofs.RowLemmas.{part_is_tellable, whole_is_tellable}

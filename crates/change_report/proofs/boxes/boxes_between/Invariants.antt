@@ -1,6 +1,0 @@
-use Rattle.std.proofs.Common.{◌≡◌, take}
-use Rattle.change_report.specs.Asked.{boxes_between}
-use Rattle.change_report.proofs.boxes.boxes_between.Given as goal
-
-abbrev pub invariant-loop-src : goal.invariant-loop-src
-invariant-loop-src l = l.boxes.items ≡ boxes_between l.pairs l.targets (take l.src-index l.sources)

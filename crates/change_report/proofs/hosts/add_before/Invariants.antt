@@ -1,6 +1,0 @@
-use Rattle.std.proofs.Common.{◌≡◌, ◌++◌, map, take}
-use Rattle.change_report.specs.Asked.{from_before}
-use Rattle.change_report.proofs.hosts.add_before.Given as goal
-
-abbrev pub invariant-loop-host : goal.invariant-loop-host
-invariant-loop-host l = l.ends.items ≡ l.initial.ends.items ++ map (from_before l.before l.after) (take l.host-index l.hosts)

@@ -1,0 +1,3 @@
+pub mod Diffs
+pub mod Told
+pub mod Starts
