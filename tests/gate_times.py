@@ -95,29 +95,56 @@ def run(path, command):
     return status
 
 
-def longest_chain(walls):
-    """The crates whose proofs, one after another, take longest, and how long."""
+def longest_chain(seconds):
+    """The crates whose proofs, one after another, take longest, and how long; of a program with what its build takes."""
     crates, ends = check.crates(), {}
 
     def end_of(crate):
         if crate not in ends:
             before = max((end_of(it) for it in crates[crate] if it in crates), key=lambda it: it[0], default=(0, []))
-            ends[crate] = (before[0] + walls.get(crate, 0), [*before[1], crate])
+            own = seconds.get((crate, "proof"), 0) + seconds.get((crate, "build"), 0)
+            ends[crate] = (before[0] + own, [*before[1], crate])
         return ends[crate]
 
     return max((end_of(it) for it in crates), key=lambda it: it[0])
 
 
+def reckoned(seconds, processors):
+    """How long a gate takes where each of so many processors works at one thing at a time, and always at the one with most behind it."""
+    crates = check.crates()
+    above = {crate: [it for it in crates if crate in crates[it]] for crate in crates}
+    behind = {}
+
+    def behind_of(crate):
+        if crate not in behind:
+            behind[crate] = seconds.get((crate, "proof"), 0) + max(
+                [behind_of(it) for it in above[crate]] + [seconds.get((crate, kind), 0) for kind in KINDS[1:]], default=0)
+        return behind[crate]
+
+    ready = [(behind_of(crate), crate, "proof") for crate in crates if not any(it in crates for it in crates[crate])]
+    proved, running, now = set(), [], 0
+    while ready or running:
+        ready.sort()
+        while ready and len(running) < processors:
+            _, crate, kind = ready.pop()
+            running.append((now + seconds.get((crate, kind), 0), crate, kind))
+        running.sort(reverse=True)
+        now, crate, kind = running.pop()
+        if kind == "proof":
+            proved.add(crate)
+            ready += [(behind_of(it), it, "proof") for it in above[crate] if all(low in proved or low not in crates for low in crates[it])]
+            ready += [(seconds[crate, it], crate, it) for it in KINDS[1:] if (crate, it) in seconds]
+    return now
+
+
 def read_log(path):
-    """The seconds of each crate and kind, the wall time of each crate's proof, and the line of the whole run, if it came to its end."""
+    """The seconds of each crate and kind, and the line of the whole run, if it came to its end."""
     with open(path, encoding="utf-8") as file:
         lines = [json.loads(line) for line in file]
-    taken, walls = {}, {}
+    taken = {}
     for it in (line for line in lines if "crate" in line):
         taken[it["crate"], it["kind"]] = taken.get((it["crate"], it["kind"]), 0) + it["seconds"]
-        if it["kind"] == "proof":
-            walls[it["crate"]] = max(walls.get(it["crate"], 0), it["wall"])
-    return taken, walls, next((line for line in lines if "processors" in line), None)
+    return taken, next((line for line in lines if "processors" in line), None)
 
 
 def most(tables):
@@ -127,19 +154,21 @@ def most(tables):
 
 def table(paths):
     logs = [read_log(path) for path in paths]
-    taken, walls = most([it[0] for it in logs]), most([it[1] for it in logs])
+    taken = most([it[0] for it in logs])
     print(f"| crate | {' | '.join(KINDS)} |\n|---|{'---:|' * len(KINDS)}")
     for crate in check.crates():
         cells = [f"{taken[crate, kind]:.0f}" if (crate, kind) in taken else "" for kind in KINDS]
         print(f"| {crate} | {' | '.join(cells)} |")
     sums = [sum(seconds for (_, kind), seconds in taken.items() if kind == it) / 60 for it in KINDS]
     print(f"| all, in minutes | {' | '.join(f'{it:.0f}' for it in sums)} |\n")
-    whole = logs[0][2] if len(logs) == 1 else None
+    whole = logs[0][1] if len(logs) == 1 else None
     if whole:
         other = whole["seconds"] / 60 - sum(sums)
         print(f"Wall time {whole['wall'] / 60:.0f} minutes on {whole['processors']} processors, processor time {whole['seconds'] / 60:.0f} minutes, of which {other:.0f} are no prover's; status {whole['status']}.")
-    seconds, chain = longest_chain(walls)
-    print(f"Longest chain: {seconds / 60:.0f} minutes, by {', '.join(f'{it} {walls.get(it, 0) / 60:.1f}' for it in chain)}.")
+    seconds, chain = longest_chain(taken)
+    parts = ", ".join(f"{it} {(taken.get((it, 'proof'), 0) + taken.get((it, 'build'), 0)) / 60:.1f}" for it in chain)
+    print(f"Longest chain, by processor time: {seconds / 60:.1f} minutes, by {parts}.")
+    print(f"Reckoned from it: {', '.join(f'{reckoned(taken, it) / 60:.0f} minutes on {it} processors' for it in (2, 4))}.")
 
 
 def main():
