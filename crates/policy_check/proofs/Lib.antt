@@ -1,4 +1,5 @@
 pub mod Decided
 pub mod Found
 pub mod RuleLemmas
+pub mod Rulings
 pub mod Tallies

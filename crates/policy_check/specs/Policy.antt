@@ -1,5 +1,5 @@
 -- What `expect` answers to a policy, in a described network.
-use Rattle.std.specs.Prelude.{◌++◌, ◌==◌, ◌↔◌, ◌≡◌, [], if◌then◌else◌, All, Bool, Err, List, None, Ok, Option, Some, codes, count_by, decimal, is_none, is_some, map, ℕ}
+use Rattle.std.specs.Prelude.{◌++◌, ◌+◌, ◌↔◌, ◌≡◌, if◌then◌else◌, All, Bool, Err, List, Ok, codes, count_by, decimal, false, map, nat_lt, true, ℕ}
 use Rattle.std.specs.List.{Contains, flat_map}
 use Rattle.block_report.specs.Words.{word}
 use Rattle.command_job.specs.Lines.{file_refusal_line, line}
@@ -7,65 +7,83 @@ use Rattle.command_job.specs.Status.{IsOfDevice}
 use Rattle.command_job.specs.declared.status.Status.{Status}
 use Rattle.command_job.specs.declared.status.Status.TheVariants as ends
 use Rattle.vpc_laws.specs.Types.{Description}
-use Rattle.policy_check.specs.Judged.{Holds, IsFound, failure_line}
+use Rattle.policy_check.specs.Judged.{Fails, Holds, IsFound, IsUndecided, finding_line}
 use Rattle.policy_check.specs.Rules.{rules_of}
-use Rattle.policy_check.specs.declared.judging.Failure.{Failure}
+use Rattle.policy_check.specs.declared.judging.Finding.{Finding}
+use Rattle.policy_check.specs.declared.judging.Finding.TheVariants as findings
 use Rattle.policy_check.specs.declared.rules.PolicyRule.{PolicyRule}
+use Rattle.policy_check.specs.declared.counts.Tally.{Tally}
 
 -- ---- rules that were judged
 
--- a rule with why it doesn't hold, if it doesn't
+-- a rule with what is found of it
 pub record Judged : Type 0 where
   pub rule : PolicyRule
-  pub found : Option Failure
+  pub found : Finding
 
 abbrev pub IsJudged : Description → Judged → Type 0
 IsJudged d j = IsFound d j.rule.wanted j.rule.query j.found
 
-abbrev pub held : Judged → Bool
-held j = is_none j.found
+abbrev pub is_held : Finding → Bool
+is_held findings.Held = true
+is_held _ = false
 
-abbrev pub failed : Judged → Bool
-failed j = is_some j.found
+abbrev pub is_failed : Finding → Bool
+is_failed (findings.Failed failure) = true
+is_failed _ = false
 
--- the line of a rule that doesn't hold
-abbrev pub line_of : Description → PolicyRule → Option Failure → List ℕ
-line_of d rule None = []
-line_of d rule (Some failure) = failure_line d rule.line failure
+abbrev pub is_unknown : Finding → Bool
+is_unknown (findings.NotKnown halt) = true
+is_unknown _ = false
 
+-- its line, unless it holds
 abbrev pub judged_line : Description → Judged → List ℕ
-judged_line d j = line_of d j.rule j.found
+judged_line d j = finding_line d j.rule.line j.found
 
--- how many rules hold, and how many don't
-abbrev pub tally_line : ℕ → ℕ → List ℕ
-tally_line hold fail = line (codes "ok" ++ word (decimal hold) ++ (codes " fail" ++ word (decimal fail)))
+-- how many rules hold, how many fail, and of how many it isn't known
+abbrev pub tally_of : List Judged → Tally
+tally_of judged = record {
+  hold = count_by (λ j. is_held j.found) judged;
+  fail = count_by (λ j. is_failed j.found) judged;
+  unknown = count_by (λ j. is_unknown j.found) judged;
+}
 
--- yes where none fails
-abbrev pub status_of : ℕ → Status
-status_of fail = if fail == 0 then ends.Yes else ends.No
+-- with one rule more
+abbrev pub with_one : Tally → Finding → Tally
+with_one t findings.Held = record t { hold = t.hold + 1 }
+with_one t (findings.Failed failure) = record t { fail = t.fail + 1 }
+with_one t (findings.NotKnown halt) = record t { unknown = t.unknown + 1 }
 
--- a rule was judged, and its line added if it doesn't hold
-pub record AddsLine (d : Description) (rule : PolicyRule) (old new : List ℕ) (fails : Bool) : Type 0 where
-  pub found : Option Failure
+abbrev pub count_text : List ℕ → ℕ → List ℕ
+count_text name count = name ++ word (decimal count)
+
+abbrev pub tally_line : Tally → List ℕ
+tally_line t = line (count_text (codes "ok") t.hold ++ count_text (codes " fail") t.fail ++ count_text (codes " unknown") t.unknown)
+
+-- no where one fails, unknown where none does and one isn't known, else yes
+abbrev pub status_of : Tally → Status
+status_of t = if nat_lt 0 t.fail then ends.No else (if nat_lt 0 t.unknown then ends.Unknown else ends.Yes)
+
+-- a rule was judged, and its line added unless it holds
+pub record AddsLine (d : Description) (rule : PolicyRule) (old new : List ℕ) (found : Finding) : Type 0 where
   pub is_found : IsFound d rule.wanted rule.query found
-  pub text_is : new ≡ old ++ line_of d rule found
-  pub fails_is : fails ≡ is_some found
+  pub text_is : new ≡ old ++ finding_line d rule.line found
 
--- rules were judged, the lines of those that don't hold added, and these counted
-pub record AddsLines (d : Description) (rules : List PolicyRule) (old new : List ℕ) (fail : ℕ) : Type 0 where
+-- rules were judged, the lines of those that don't hold added, and all counted
+pub record AddsLines (d : Description) (rules : List PolicyRule) (old new : List ℕ) (tally : Tally) : Type 0 where
   pub judged : List Judged
   pub of_rules : map (λ j. j.rule) judged ≡ rules
   pub each : All (IsJudged d) judged
   pub text_is : new ≡ old ++ flat_map (judged_line d) judged
-  pub fail_is : fail ≡ count_by failed judged
+  pub tally_is : tally ≡ tally_of judged
 
--- what is answered to rules: a line for each that doesn't hold, in their order, and then how many hold and don't
+-- what is answered to rules: a line for each that fails or isn't known, in their order, and then how many of each kind there are
 pub record AreJudged (d : Description) (rules : List PolicyRule) (status : Status) (text : List ℕ) : Type 0 where
   pub judged : List Judged
   pub of_rules : map (λ j. j.rule) judged ≡ rules
   pub each : All (IsJudged d) judged
-  pub status_is : status ≡ status_of (count_by failed judged)
-  pub text_is : text ≡ flat_map (judged_line d) judged ++ tally_line (count_by held judged) (count_by failed judged)
+  pub status_is : status ≡ status_of (tally_of judged)
+  pub text_is : text ≡ flat_map (judged_line d) judged ++ tally_line (tally_of judged)
 
 -- ---- answers
 
@@ -83,16 +101,30 @@ pub data ArePoliciesJudged (d : Description) (bytes : List ℕ) (status : Status
 abbrev pub RuleHolds : Description → PolicyRule → Type 0
 RuleHolds d rule = Holds d rule.wanted rule.query
 
--- one of the rules doesn't hold
+abbrev pub RuleFails : Description → PolicyRule → Type 0
+RuleFails d rule = Fails d rule.wanted rule.query
+
+abbrev pub RuleIsUndecided : Description → PolicyRule → Type 0
+RuleIsUndecided d rule = IsUndecided d rule.wanted rule.query
+
+-- one of the rules fails
 pub record SomeFails (d : Description) (rules : List PolicyRule) : Type 0 where
   pub rule : PolicyRule
   pub among : Contains rules rule
-  pub fails : ¬ (RuleHolds d rule)
+  pub fails : RuleFails d rule
 
--- yes exactly where all rules hold, and no exactly where one doesn't
+-- none fails, and of one it isn't known whether it holds
+pub record SomeUndecided (d : Description) (rules : List PolicyRule) : Type 0 where
+  pub none_fails : All (λ rule. ¬ (RuleFails d rule)) rules
+  pub rule : PolicyRule
+  pub among : Contains rules rule
+  pub undecided : RuleIsUndecided d rule
+
+-- yes exactly where all rules hold, no exactly where one fails, and unknown exactly where none fails and one isn't known
 pub record IsPolicyDecided (d : Description) (rules : List PolicyRule) (status : Status) : Type 0 where
   pub yes : (status ≡ ends.Yes) ↔ All (RuleHolds d) rules
   pub no : (status ≡ ends.No) ↔ SomeFails d rules
+  pub unknown : (status ≡ ends.Unknown) ↔ SomeUndecided d rules
 
 -- every answer to a policy decides its rules
 abbrev pub PoliciesAreDecided : Type 0

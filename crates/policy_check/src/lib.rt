@@ -1,7 +1,11 @@
-//! Policies: lists of what must and must not get through a described network, judged rule by rule.
+//! Policies: lists of what must and must not get through a described network, judged rule by rule: each holds, fails or
+//! isn't known.
 #![tactic(auto)]
 
+mod certainties;
 mod command;
+mod counts;
+mod halts;
 mod judging;
 mod laws;
 mod policies;
@@ -9,8 +13,10 @@ mod rules;
 mod stopped;
 mod texts;
 
+pub use certainties::Certainty;
 pub use command::ExpectCommand;
-pub use judging::Failure;
+pub use halts::Halt;
+pub use judging::{Failure, Finding};
 pub use laws::policy_laws;
 pub use policies::expect_rules;
 pub use rules::{PolicyRule, RulesFault, Wanted, read_rules};

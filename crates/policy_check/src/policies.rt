@@ -2,13 +2,14 @@
 ghost use Rattle.std.specs.Prelude.{◌≡◌, All, IfOk};
 ghost use Rattle.network_reach.specs.Reached.{IsQueryIn};
 ghost use Rattle.vpc_model.specs.Appliances.{appliances_of};
-ghost use Rattle.policy_check.specs.Policy.{AddsLine, AddsLines, AreJudged, ArePoliciesJudged, status_of};
+ghost use Rattle.policy_check.specs.Policy.{AddsLine, AddsLines, AreJudged, ArePoliciesJudged};
 
-use crate::judging::failure_of;
+use crate::counts::Tally;
+use crate::judging::{Finding, finding_of};
 use crate::rules::{PolicyRule, RulesFault, read_rules};
-use crate::texts::{put_failure_line, put_tally};
+use crate::texts::{put_finding, put_tally};
 use appliances::Deciders;
-use command_job::{Answer, Job, Status, answer_job, refuse_line};
+use command_job::{Answer, Job, answer_job, refuse_line};
 use fabric::Fabric;
 use reference_check::Network;
 use std::alloc::Global;
@@ -17,52 +18,46 @@ use vpc_base::NoMemory;
 
 // ---- rules
 
-// Judges a rule, and appends its line where it doesn't hold; that it doesn't is the answer.
+// Judges a rule, and appends its line unless it holds.
 fn put_judged(
     out: &mut Vec<u8>,
     f: &Fabric,
     deciders: &Deciders,
     rule: &PolicyRule,
-) -> Result<bool, NoMemory>
+) -> Result<Finding, NoMemory>
     requires appliances { deciders.now.appliances ≡ appliances_of f.now }
     requires query { IsQueryIn f.now rule.now.query }
     ensures { IfOk result (AddsLine f.now rule.now out.old.items out.new.items) }
 {
+    let n = f.network();
     // That the network is accepted is a clause of this call.
-    let _ = f.network().description();
-    match failure_of(*out.allocator(), f, deciders, rule)? {
-        None => Ok(false),
-        Some(failure) => {
-            put_failure_line(out, f.network(), rule.line, &failure)?;
-            Ok(true)
-        }
-    }
+    let _ = n.description();
+    let finding = finding_of(*out.allocator(), f, deciders, rule)?;
+    put_finding(out, n, rule.line, &finding)?;
+    Ok(finding)
 }
 
-// Judges rules one after another, and counts those that don't hold.
+// Judges rules one after another, and counts what is found of them.
 fn put_all_judged(
     out: &mut Vec<u8>,
     f: &Fabric,
     deciders: &Deciders,
     rules: &[PolicyRule],
-) -> Result<usize, NoMemory>
+) -> Result<Tally, NoMemory>
     requires appliances { deciders.now.appliances ≡ appliances_of f.now }
     requires queries { All (λ rule. IsQueryIn f.now rule.query) rules.now }
     ensures { IfOk result (AddsLines f.now rules.now out.old.items out.new.items) }
 {
-    let mut fail = 0;
+    let mut tally = Tally {
+        hold: 0,
+        fail: 0,
+        unknown: 0,
+    };
     for rule in rules {
-        if put_judged(out, f, deciders, rule)? {
-            fail += 1;
-        }
+        let finding = put_judged(out, f, deciders, rule)?;
+        tally = tally.with_one(&finding);
     }
-    Ok(fail)
-}
-
-fn status_of(fail: usize) -> Status
-    ensures { result ≡ status_of fail }
-{
-    if fail == 0 { Status::Yes } else { Status::No }
+    Ok(tally)
 }
 
 fn answer_rules(
@@ -76,10 +71,10 @@ fn answer_rules(
     ensures { IfOk result (λ a. AreJudged f.now rules.now a.status a.text.items) }
 {
     let mut text = Vec::new(alloc);
-    let fail = put_all_judged(&mut text, f, deciders, rules)?;
-    put_tally(&mut text, rules.len() - fail, fail)?;
+    let tally = put_all_judged(&mut text, f, deciders, rules)?;
+    put_tally(&mut text, &tally)?;
     Ok(Answer {
-        status: status_of(fail),
+        status: tally.status(),
         text,
     })
 }
@@ -108,7 +103,7 @@ impl<'a> Job for Expecting<'a> {
 // ---- the text
 
 /// Whether each rule of a policy holds in the network, with the appliances that it describes: a line for each that
-/// doesn't, and how many hold and don't; or the first line that is no rule, before any is judged. Fails for want of
+/// fails or isn't known, and how many do; or the first line that is no rule, before any is judged. Fails for want of
 /// memory alone.
 pub fn expect_rules(alloc: Global, network: Network, bytes: &[u8]) -> Result<Answer, NoMemory>
     ensures { IfOk result (λ a. ArePoliciesJudged network bytes.now a.status a.text.items) }

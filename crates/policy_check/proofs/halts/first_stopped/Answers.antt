@@ -2,7 +2,7 @@ use Rattle.std.proofs.Common.{◌∙◌, IfOk, subst}
 use Rattle.box_walk.specs.Asking.{Asking}
 use Rattle.header_boxes.specs.Rows.{IsFirst}
 use Rattle.policy_check.specs.Stopped.{passing_of}
-use Rattle.policy_check.proofs.judging.first_stopped.Goals as goal
+use Rattle.policy_check.proofs.halts.first_stopped.Goals as goal
 
 pub returns : goal.returns
 returns g c =
