@@ -1,7 +1,7 @@
 #!/usr/bin/env python3
 """The edge of the program, where no proof reaches: tests/edges.py [PROGRAM]
 
-PROGRAM (without it out/vpc) is run as a whole process once for each exit status from 0 to 8; with each number of words from
+PROGRAM (without it out/vpc) is run as a whole process once for each exit status from 0 to 9; with each number of words from
 0 to 20, and words that are empty, begin with a dash, are long or aren't UTF-8; with files of 2 MiB, of the limit of 64 MiB
 and of one byte more, in either place; with files that are missing, are folders, pipes or have no end; with an output that
 takes nothing, a part, or a byte at a time; and with little memory. The status and the standard output are compared with what
@@ -74,6 +74,9 @@ pair eni-1 eni-2 reachable tcp 10.1.1.10 10.2.1.10 0 2
 pair eni-1 eni-3 reachable tcp 10.1.1.10 10.3.1.10 0 3
 pair eni-1 internet blocked
 """
+# To a gateway that isn't followed.
+RULE = "blocked from eni-a to internet dst 198.51.100.7/32 port 443-443\n"
+UNKNOWN = "line 1 unknown request Unmodelled vgw-1 - tcp 10.0.1.10 198.51.100.7 0 443\nok 0 fail 0 unknown 1\n"
 EVENTS = f"{PACKET} 443\n{PACKET} 80\n"
 PLAYED = "event 1 arrived eni-b tcp 10.0.1.10 10.0.1.20 5000 443\nevent 2 stopped GroupsIn eni-b -\n"
 
@@ -83,6 +86,13 @@ def file_of(name, data):
     with open(name, "wb") as file:
         file.write(data.encode() if isinstance(data, str) else data)
     return name
+
+
+def with_route():
+    """The bundle with a route of all packets to a gateway that isn't followed."""
+    bundle = json.loads(BUNDLE)
+    bundle["RouteTables"][0]["Routes"].append({"DestinationCidrBlock": "0.0.0.0/0", "GatewayId": "vgw-1", "State": "active"})
+    return json.dumps(bundle)
 
 
 def padded(size):
@@ -109,6 +119,7 @@ def statuses():
         ("replay o.json r.txt", 4, "refused events 1\n"), ("check o.json e.txt", 4, "refused report 1\n"),
         ("make 51", 4, "refused number 2\n"),
         ("ask o.json " + QUERY + " src 10.0.1.0/24 port 80-80 max 1", 5, MORE),
+        ("expect o.json rules.txt", 0, "ok 1 fail 0 unknown 0\n"), ("expect far.json rules.txt", 9, UNKNOWN),
     ]
     return [(words, words.split(), status, text, {}) for words, status, text in rows]
 
@@ -400,7 +411,8 @@ def main():
         os.chdir(folder)
         os.mkdir("folder")
         for name, data in (("o.json", BUNDLE), ("no.json", BUNDLE[:-2]), ("empty.txt", ""), ("r.txt", REPORT), ("e.txt", EVENTS),
-                           ("wide.txt", REPORT.replace("80-80\nrow", "80-443\nrow")), ("untrue.txt", REPORT.replace("80-80", "443-443"))):
+                           ("wide.txt", REPORT.replace("80-80\nrow", "80-443\nrow")), ("untrue.txt", REPORT.replace("80-80", "443-443")),
+                           ("far.json", with_route()), ("rules.txt", RULE)):
             file_of(name, data)
         passed, failed = 0, 0
         for group in (statuses, refusals, counts, bad_words, odd_words, unread, piped, long_files, long_texts, most_rows, outputs, memory):
