@@ -5,9 +5,11 @@ Usage: python3 bench/unused.py [PROGRAM]     (default: the program that ./vpc bu
 
 The network is one VPC with two subnets and an ACL that allows all. Its group lets in TCP to a port of its own by each rule; the
 query asks for all ports, which each rule that decides something divides, or for some 50 of them. What a rule takes is the difference to
-one `ask` of the same file.
+one `ask` of the same file. The second table has as many rows of an ACL beside the rules, which stop replies to a port of its own each: the
+query is divided on both sides.
 """
 
+import measuring
 from measuring import measured, program, written
 
 ANYWHERE = "0.0.0.0/0"
@@ -36,6 +38,27 @@ def account(form):
     }
 
 
+def divided(count):
+    """So many rules of a group, and as many rows of the ACL of the subnet behind which the second host is."""
+    whole = account((2, count + 3))
+    acl = whole["NetworkAcls"][0]
+    acl["Associations"] = acl["Associations"][:1]
+    refused = [
+        {"RuleNumber": k + 1, "Protocol": "6", "RuleAction": "deny", "Egress": True, "CidrBlock": ANYWHERE, "PortRange": {"From": 10 * k + 10, "To": 10 * k + 10}}
+        for k in range(count)
+    ]
+    allowed = [{"RuleNumber": 30_000, "Protocol": "-1", "RuleAction": "allow", "Egress": egress, "CidrBlock": ANYWHERE} for egress in (False, True)]
+    whole["NetworkAcls"].append({"NetworkAclId": "acl-1", "Associations": [{"SubnetId": "subnet-1"}], "Entries": refused + allowed})
+    return whole
+
+
+def both(count):
+    words = [written(f"unused-both-{count}.json", divided, count), "from", "eni-0", "to", "eni-1", "proto", "6"]
+    measuring.RUNS = 3 if count < 500 else 1
+    took, peak = measured([program(), "unused", *words], 0)
+    print(f"| {count:,} | {count:,} | {took:.2f} s | {peak:.0f} MiB |", flush=True)
+
+
 def row(hosts, rules, ports):
     bundle = written(f"unused-{hosts}-{rules}.json", account, (hosts, rules))
     words = [bundle, "from", "eni-0", "to", "eni-1", "port", ports]
@@ -51,6 +74,10 @@ def main():
         for rules, ports in ((200, "0-499"), (200, "0-65535"), (2000, "0-499"), (2000, "0-65535")):
             row(hosts, rules, ports)
     row(10_000, 200, "0-499")
+    print("\n| rules of a group | rows of an ACL | unused | peak |")
+    print("|---:|---:|---:|---:|")
+    for count in (100, 200, 1000):
+        both(count)
 
 
 if __name__ == "__main__":

@@ -71,7 +71,7 @@ get_or-alike R none itself (x ∷ xs) (y ∷ ys) (suc k) alike = get_or-alike R 
 get_or-alike R none itself [] (y ∷ ys) k alike = absurd alike
 get_or-alike R none itself (x ∷ xs) [] k alike = absurd alike
 
-first-alike : {X : Type 0} (R : X → X → Type 0) (p : X → Bool) → ((x y : X) → R x y → p x ≡ p y) → (xs ys : List X) → Alike R xs ys → position_or_len p xs ≡ position_or_len p ys
+pub first-alike : {X : Type 0} (R : X → X → Type 0) (p : X → Bool) → ((x y : X) → R x y → p x ≡ p y) → (xs ys : List X) → Alike R xs ys → position_or_len p xs ≡ position_or_len p ys
 first-alike R p same [] [] alike = refl
 first-alike R p same (x ∷ xs) (y ∷ ys) alike = ap₂ (λ b n. cond (not b) (1 + n) 0) (same x y alike.0) (first-alike R p same xs ys alike.1)
 first-alike R p same [] (y ∷ ys) alike = absurd alike

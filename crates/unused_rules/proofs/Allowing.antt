@@ -1,4 +1,4 @@
--- Groups with fewer rules allow nothing that was not allowed.
+-- Groups with fewer rules allow nothing that was not allowed, and no less where the others allow nothing.
 use Rattle.std.proofs.Common.{◌≡◌, ◌∙◌, ◌&&◌, ◌||◌, ◌∷◌, [], Bool, List, None, Option, Some, ap, ap₂, cond, false, inl, inr, length, refl, subst, sym, true, ℕ}
 use Rattle.std.specs.List.{list_any, position, position_or_len}
 use Rattle.std.specs.Prelude.{bytes_eq, nat_lt, option_and_then, option_map}
@@ -18,6 +18,8 @@ use Rattle.prefix_text.specs.Block.{holds}
 use Rattle.unused_rules.proofs.Alike.{Alike, get_or-alike, list_any-alike, position-alike}
 use Rattle.unused_rules.proofs.Fewer.{FewerRules, rules-part, same-rules}
 use Rattle.unused_rules.proofs.Parts.{none-part}
+use Rattle.unused_rules.proofs.Removed.{and-first}
+use Rattle.unused_rules.specs.Concerned.{filter_of_permission, matches_ports}
 
 -- ---- searches that find nothing
 
@@ -132,3 +134,61 @@ module _ (d : Description) (more less : List Group) (fewer : Alike FewerRules mo
   -- where none allows it with more rules, none does with fewer
   pub none_allows : (e : Interface) (dir : Dir) (h : Header) → first_rule one e dir h ≡ None → first_rule other e dir h ≡ None
   none_allows e dir h none = none-of-groups dir h e.groups none
+
+-- ---- where the rules that are gone don't match
+
+-- what fails all rules that are left, and those that don't match the header by protocol and q, fails all
+pub record LosesUnmatched (h : Header) (a b : Group) : Type 0 where
+  pub back : (dir : Dir) (test : Permission → Bool) → ((p : Permission) → matches_ports (filter_of_permission p) h ≡ false → test p ≡ false)
+      → list_any test (permissions_of dir b) ≡ false → list_any test (permissions_of dir a) ≡ false
+
+pub loses_nothing : (h : Header) (g : Group) → LosesUnmatched h g g
+loses_nothing h g = record { back = λ dir test fails none. none }
+
+pub and-later : (a b c : Bool) → (a && b) ≡ false → (a && (b && c)) ≡ false
+and-later true b c e = and-first b c e
+and-later false b c e = refl
+
+module _ (d : Description) (more less : List Group) (fewer : Alike FewerRules more less) (h : Header)
+    (lost : Alike (LosesUnmatched h) more less) where
+  abbrev all : Description
+  all = with_filters d d.acls more
+
+  abbrev left : Description
+  left = with_filters d d.acls less
+
+  all-of-group : (dir : Dir) (n : GroupNo) → rule_of_group left dir h n ≡ None → rule_of_group all dir h n ≡ None
+  all-of-group dir n none =
+      let a = group_at all n in
+      let b = group_at left n in
+      let r = group-fewer d more less fewer n in
+      let s : LosesUnmatched h a b = get_or-alike (LosesUnmatched h) no_group (loses_nothing h no_group) more less n.0 lost in
+      let no_permission : Permission = record { id = None; proto = None; q_from = 1; q_to = 0; blocks = []; lists = []; groups = [] } in
+      let after : list_any (permission_allows left b.vpc dir h) (permissions_of dir b) ≡ false = none-passes _ no_permission
+      (permissions_of dir b) (option_map-None _ _ none) in
+      let moved : list_any (permission_allows all b.vpc dir h) (permissions_of dir b) ≡ false =
+      list_any-agree (permission_allows all b.vpc dir h) (permission_allows left b.vpc dir h) (allows-same d more less fewer b.vpc dir h)
+      (permissions_of dir b) ∙ after in
+      let own : list_any (permission_allows all a.vpc dir h) (permissions_of dir b) ≡ false = subst
+      (λ (v : List ℕ). list_any (permission_allows all v dir h) (permissions_of dir b) ≡ false) (sym r.vpc) moved in
+      let before = s.back dir (permission_allows all a.vpc dir h)
+      (λ p fails. and-later (matches_proto p.proto h.proto) (is_between p.q_from p.q_to h.q) (names_address all a.vpc (far_address dir h) p) fails) own in
+      no-map _ _ (none-found (permission_allows all a.vpc dir h) no_permission (permissions_of dir a) before)
+
+  all-of-number : (dir : Dir) (n : Option GroupNo) → option_and_then (rule_of_group left dir h) n ≡ None
+      → option_and_then (rule_of_group all dir h) n ≡ None
+  all-of-number dir None none = refl
+  all-of-number dir (Some n) none = all-of-group dir n none
+
+  all-of-groups : (dir : Dir) (ids : List (List ℕ)) → first_rule_of left dir h ids ≡ None → first_rule_of all dir h ids ≡ None
+  all-of-groups dir [] none = refl
+  all-of-groups dir (id ∷ ids) none =
+      let parts = first-none (option_and_then (rule_of_group left dir h) (group_of_id left id)) (first_rule_of left dir h ids) none in
+      both-none (option_and_then (rule_of_group all dir h) (group_of_id all id)) (first_rule_of all dir h ids)
+      (subst (λ (n : Option GroupNo). option_and_then (rule_of_group all dir h) n ≡ None) (sym (number-same d more less fewer id))
+      (all-of-number dir (group_of_id left id) parts.0))
+      (all-of-groups dir ids parts.1)
+
+  -- where none of those that are left allows it, none did
+  pub none_allowed : (e : Interface) (dir : Dir) → first_rule left e dir h ≡ None → first_rule all e dir h ≡ None
+  none_allowed e dir none = all-of-groups dir e.groups none

@@ -68,7 +68,7 @@ less_than_one d c r is =
     subst (λ (x : Chunk). Alike FewerRules (groups_without d r) (groups_without_chunk d x)) (chunk-of c r is)
     (chunk-less_than_one d r c.from c.count is.from is.to)
 
-one_less : (d : Description) (r : RuleRef) → Alike FewerRules d.groups (groups_without d r)
+pub one_less : (d : Description) (r : RuleRef) → Alike FewerRules d.groups (groups_without d r)
 one_less d r =
     let g = group_at d r.group in
     alike_set FewerRules same-rules d.groups r.group.0 _ (without_permission r.dir r.number g) (one-less g r.dir r.number)

@@ -1,8 +1,10 @@
 pub mod Accepting
+pub mod AclSteps
 pub mod Alike
 pub mod Allowing
 pub mod Apart
 pub mod Chunking
+pub mod Concerning
 pub mod Decided
 pub mod Fewer
 pub mod Needing
@@ -10,6 +12,11 @@ pub mod NestedSteps
 pub mod NestedVerdicts
 pub mod NestedWalks
 pub mod Parts
+pub mod Ports
+pub mod Removed
 pub mod Removing
+pub mod SameSteps
+pub mod SameWalks
 pub mod Short
 pub mod Tallies
+pub mod Unmatched

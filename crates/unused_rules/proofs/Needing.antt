@@ -1,17 +1,28 @@
 -- What a search of two networks says of a rule that one of them lacks.
-use Rattle.std.proofs.Common.{◌≡◌, ◌≢◌, ◌∙◌, Bool, Err, IfOk, None, Ok, Option, Result, Some, ap, ap₂, false, if◌then◌else◌, inl, inr, refl, subst, sym, true}
-use Rattle.std.proofs.lemmas.Bool.{cases_Bool}
+use Rattle.std.proofs.Common.{◌≡◌, ◌≢◌, ◌∙◌, Bool, Err, IfOk, IfSome, None, Ok, Option, Result, Some, ap, ap₂, false, if◌then◌else◌, inl, inr, refl, subst, sym, true}
+use Rattle.std.proofs.lemmas.Bool.{cases_Bool, false≢true}
+use Rattle.std.specs.declared.cmp.Ordering.{Ordering}
+use Rattle.std.specs.declared.cmp.Ordering.TheVariants as orderings
 use Rattle.box_walk.specs.Asking.{Asking, asked, stop_of, word_of}
-use Rattle.header_boxes.proofs.Lemmas.{aligned_through, aligned_to_more, holds_whole}
-use Rattle.header_boxes.specs.Terms.{IsAligned, IsFirst, IsWithin, holds}
+use Rattle.header_boxes.proofs.Lemmas.{aligned_through, aligned_to_more, holds_whole, low_is_least}
+use Rattle.header_boxes.specs.Terms.{IsAligned, IsWithin, NoneThrough, holds, low_of}
 use Rattle.cut_laws.proofs.Among.{left_among, right_among}
 use Rattle.query_words.specs.declared.queries.Query.{Query}
+use Rattle.header_boxes.proofs.Codes.{before_or_same}
+use Rattle.ordered_cover.specs.Cover.{IsSearched}
+use Rattle.ordered_cover.specs.declared.rows.Searched.{Searched}
+use Rattle.ordered_cover.specs.declared.rows.Searched.TheVariants as searches
+use Rattle.ordered_cover.proofs.Order.{before_trans, before_upto}
 use Rattle.vpc_base.specs.Cuts.{CutLists, joined_cuts}
+use Rattle.vpc_base.specs.Header.{IsBefore, order_of}
 use Rattle.vpc_laws.specs.Types.{Box5, Description, End, Header, Phase, Stop, Verdict}
 use Rattle.vpc_model.specs.Terms.{appliances_of, is_end, verdict_of}
 use Rattle.vpc_model.specs.declared.outcomes.Verdict.TheVariants as verdicts
 use Rattle.unused_rules.proofs.Apart.{told_apart}
 use Rattle.unused_rules.specs.Terms.{Chunk, ChunkDecidesNothing, IsNeed, RuleName, StaysTheSame, agreement_of, same_told, unless_apart, without, without_chunk}
+use Rattle.unused_rules.specs.Concerned.{DecidesWithin, IsFirstIn, IsFirstOf, first_by, first_of, is_in_part, kept_by, part_before}
+use Rattle.unused_rules.specs.Needed.{IsAnother}
+use Rattle.unused_rules.specs.declared.concerned.Concerned.{Concerned}
 use Rattle.unused_rules.specs.declared.rules.RuleName.TheVariants as rules
 
 -- ---- parts
@@ -101,24 +112,121 @@ stays-the-same d rule start goal h same =
 same-if-stays : (d : Description) (rule : RuleName) (start goal : End) (h : Header) → StaysTheSame d rule start goal h → word_of (asked d start goal) h ≡ word_of (asked (without d rule) start goal) h
 same-if-stays d rule start goal h stays = sym (verdict-without d rule start goal h ∙ ap stop_of stays)
 
-need-found : (d : Description) (rule : RuleName) (query : Query) (found : Option Header)
-    → IsFirst (agreement_of (asked d query.start query.goal) (asked (without d rule) query.start query.goal)) query.sides found → IsNeed d rule query found
-need-found d rule query (Some h) is = record {
-  inside = is.inside;
-  another = λ stays. other-if _ _ is.through (same-if-stays d rule query.start query.goal h stays);
-  first = λ k held before. stays-the-same d rule query.start query.goal k (same-unless _ _ (is.first k held before));
-}
-need-found d rule query None is = λ h held. stays-the-same d rule query.start query.goal h (same-unless _ _ (is h held))
+-- nothing before the header that is found, or nothing at all, has another verdict
+abbrev pub ComesBefore : Header → Option Header → Type 0
+ComesBefore k None = Unit {0}
+ComesBefore k (Some h) = IsBefore k h
+
+abbrev pub StayUpTo : Description → RuleName → Query → Option Box5 → Option Header → Type 0
+StayUpTo d rule query part found =
+    (k : Header) → is_in_part part k ≡ true → ComesBefore k found → StaysTheSame d rule query.start query.goal k
+
+-- what is found is a request of the query that has
+abbrev pub IsAnotherIn : Description → RuleName → Query → Option Header → Type 0
+IsAnotherIn d rule query None = Unit {0}
+IsAnotherIn d rule query (Some h) = (holds h query.sides ≡ true) × IsAnother d rule query.start query.goal h
+
+none-some-header : (h : Header) → Some h ≡ None → ⊥
+none-some-header h e = cc
+
+-- what the search of a part says
+found-in : (d : Description) (rule : RuleName) (query : Query) (part : Option Box5) (found : Option Header) → IfSome part (λ b. IsWithin b query.sides)
+    → IsFirstIn (agreement_of (asked d query.start query.goal) (asked (without d rule) query.start query.goal)) part found
+    → StayUpTo d rule query part found × IsAnotherIn d rule query found
+found-in d rule query None None within is = (λ k held before. absurd (false≢true held), tt)
+found-in d rule query None (Some h) within is = absurd (none-some-header h is)
+found-in d rule query (Some b) (Some h) within is = (
+  λ k held before. stays-the-same d rule query.start query.goal k (same-unless _ _ (is.first k held before)),
+  (holds_whole h b query.sides within is.inside, λ stays. other-if _ _ is.through (same-if-stays d rule query.start query.goal h stays)),
+)
+found-in d rule query (Some b) None within is = (λ k held before. stays-the-same d rule query.start query.goal k (same-unless _ _ (is k held)), tt)
+
+less-equal : orderings.Less ≡ orderings.Equal → ⊥
+less-equal e = cc
+
+less-greater : orderings.Less ≡ orderings.Greater → ⊥
+less-greater e = cc
+
+-- what comes before the first of two comes before both
+before-both : (one other : Option Header) (k : Header) → ComesBefore k (first_of one other) → ComesBefore k one × ComesBefore k other
+before-both None other k before = (tt, before)
+before-both (Some h) None k before = (before, tt)
+before-both (Some h) (Some j) k before = by (order_of j h) refl before
+  where
+    after : (IsBefore j h → ⊥) → IsBefore k h → IsBefore k j
+    after not first = elim (before_or_same h j not) [ inl less ↦ before_trans k h j first less | inr same ↦ subst (λ (x : Header). IsBefore k x) same first ]
+
+    by : (o : Ordering) → order_of j h ≡ o → IsBefore k (first_by o h j) → IsBefore k h × IsBefore k j
+    by orderings.Less e first = (before_trans k j h first e, first)
+    by orderings.Equal e first = (first, after (λ less. less-equal (sym less ∙ e)) first)
+    by orderings.Greater e first = (first, after (λ less. less-greater (sym less ∙ e)) first)
+
+-- what comes before a header that was found is in what is left of a part for it
+stays-in_rest : (part : Option Box5) (found : Option Header) (k : Header) → is_in_part part k ≡ true → ComesBefore k found → is_in_part (part_before part found) k ≡ true
+stays-in_rest None found k held before = held
+stays-in_rest (Some b) None k held before = held
+stays-in_rest (Some b) (Some h) k held before = by (order_of (low_of b) h) refl
+  where
+    first : IsBefore (low_of b) h
+    first = before_upto k (low_of b) h (low_is_least b k held) before
+
+    by : (o : Ordering) → order_of (low_of b) h ≡ o → is_in_part (kept_by o b) k ≡ true
+    by orderings.Less e = held
+    by orderings.Equal e = absurd (less-equal (sym first ∙ e))
+    by orderings.Greater e = absurd (less-greater (sym first ∙ e))
+
+within-before : (part : Option Box5) (found : Option Header) (sides : Box5) → IfSome part (λ b. IsWithin b sides) → IfSome (part_before part found) (λ b. IsWithin b sides)
+within-before None found sides within = tt
+within-before (Some b) None sides within = within
+within-before (Some b) (Some h) sides within = by (order_of (low_of b) h)
+  where
+    by : (o : Ordering) → IfSome (kept_by o b) (λ c. IsWithin c sides)
+    by orderings.Less = within
+    by orderings.Equal = tt
+    by orderings.Greater = tt
+
+first-another : (d : Description) (rule : RuleName) (query : Query) (one other : Option Header) → IsAnotherIn d rule query one → IsAnotherIn d rule query other
+    → IsAnotherIn d rule query (first_of one other)
+first-another d rule query None other a b = b
+first-another d rule query (Some h) None a b = a
+first-another d rule query (Some h) (Some j) a b = by (order_of j h)
+  where
+    by : (o : Ordering) → (holds (first_by o h j) query.sides ≡ true) × IsAnother d rule query.start query.goal (first_by o h j)
+    by orderings.Less = b
+    by orderings.Equal = a
+    by orderings.Greater = a
+
+need-if : (d : Description) (rule : RuleName) (query : Query) (found : Option Header) → IsAnotherIn d rule query found
+    → ((k : Header) → holds k query.sides ≡ true → ComesBefore k found → StaysTheSame d rule query.start query.goal k) → IsNeed d rule query found
+need-if d rule query None another all = λ h held. all h held tt
+need-if d rule query (Some h) another all = record { inside = another.0; another = another.1; first = all }
+
+need-found : (d : Description) (rule : RuleName) (query : Query) (parts : Concerned) (found : Option Header) → DecidesWithin d rule query parts
+    → IsFirstOf (agreement_of (asked d query.start query.goal) (asked (without d rule) query.start query.goal)) parts found → IsNeed d rule query found
+need-found d rule query parts found within is =
+    let one = found-in d rule query parts.asked is.asked within.asked is.is_asked in
+    let other = found-in d rule query (part_before parts.answered is.asked) is.answered (within-before parts.answered is.asked query.sides within.answered) is.is_answered in
+    subst (IsNeed d rule query) (sym is.found_is)
+    (need-if d rule query (first_of is.asked is.answered) (first-another d rule query is.asked is.answered one.1 other.1)
+    (λ k held before.
+    let both = before-both is.asked is.answered k before in
+    elim (cases_Bool (is_in_part parts.asked k)) [
+      | inl first ↦ one.0 k first both.0
+      | inr out ↦ elim (cases_Bool (is_in_part parts.answered k)) [
+        | inl second ↦ other.0 k (stays-in_rest parts.answered is.asked k second both.0) both.1
+        | inr outside ↦ within.outside k held out outside
+      ]
+    ]))
 
 -- by the two that were asked
-pub need_of : {E : Type 0} (d e : Description) (rule : RuleName) (query : Query) (a b : Asking) (r : Result (Option Header) E)
-    → e ≡ without d rule → a ≡ asked d query.start query.goal → b ≡ asked e query.start query.goal
-    → IfOk r (IsFirst (agreement_of a b) query.sides) → IfOk r (IsNeed d rule query)
-need_of d e rule query a b (Ok found) less first second is =
-    need-found d rule query found
-    (subst (λ (y : Asking). IsFirst (agreement_of (asked d query.start query.goal) y) query.sides found) (second ∙ ap (λ (x : Description). asked x query.start query.goal) less)
-    (subst (λ (x : Asking). IsFirst (agreement_of x b) query.sides found) first is))
-need_of d e rule query a b (Err no_memory) less first second is = tt
+pub need_of : {E : Type 0} (d e : Description) (rule : RuleName) (query : Query) (parts : Concerned) (a b : Asking) (r : Result (Option Header) E)
+    → e ≡ without d rule → a ≡ asked d query.start query.goal → b ≡ asked e query.start query.goal → DecidesWithin d rule query parts
+    → IfOk r (IsFirstOf (agreement_of a b) parts) → IfOk r (IsNeed d rule query)
+need_of d e rule query parts a b (Ok found) less first second within is =
+    need-found d rule query parts found within
+    (subst (λ (y : Asking). IsFirstOf (agreement_of (asked d query.start query.goal) y) parts found) (second ∙ ap (λ (x : Description). asked x query.start query.goal) less)
+    (subst (λ (x : Asking). IsFirstOf (agreement_of x b) parts found) first is))
+need_of d e rule query parts a b (Err no_memory) less first second within is = tt
 
 -- ---- a description without a chunk
 
@@ -126,30 +234,21 @@ chunk-verdict : (d : Description) (c : Chunk) (start goal : End) (h : Header)
     → word_of (asked (without_chunk d c) start goal) h ≡ stop_of (verdict_of (without_chunk d c) (appliances_of d) start goal h)
 chunk-verdict d c start goal h = refl
 
-moved-first : (d e : Description) (c : Chunk) (query : Query) (a b : Asking) (found : Option Header)
-    → e ≡ without_chunk d c → a ≡ asked d query.start query.goal → b ≡ asked e query.start query.goal → IsFirst (agreement_of a b) query.sides found
-    → IsFirst (agreement_of (asked d query.start query.goal) (asked (without_chunk d c) query.start query.goal)) query.sides found
-moved-first d e c query a b found less first second is =
-    subst (λ (y : Asking). IsFirst (agreement_of (asked d query.start query.goal) y) query.sides found) (second ∙ ap (λ (x : Description). asked x query.start query.goal) less)
-    (subst (λ (x : Asking). IsFirst (agreement_of x b) query.sides found) first is)
-
 -- none is found
-pub none_needs : (d e : Description) (c : Chunk) (query : Query) (a b : Asking) (found : Option Header)
-    → e ≡ without_chunk d c → a ≡ asked d query.start query.goal → b ≡ asked e query.start query.goal → IsFirst (agreement_of a b) query.sides found
-    → found ≡ None → ChunkDecidesNothing d c query
-none_needs d e c query a b found less first second is none h held =
-    let all : IsFirst (agreement_of (asked d query.start query.goal) (asked (without_chunk d c) query.start query.goal)) query.sides None =
-    subst (λ (o : Option Header). IsFirst (agreement_of (asked d query.start query.goal) (asked (without_chunk d c) query.start query.goal)) query.sides o) none
-    (moved-first d e c query a b found less first second is) in
+pub none_needs : {E : Type 0} (d e : Description) (c : Chunk) (query : Query) (a b : Asking) (r : Result Bool E)
+    → e ≡ without_chunk d c → a ≡ asked d query.start query.goal → b ≡ asked e query.start query.goal
+    → IfOk r (λ alike. alike ≡ true → NoneThrough (agreement_of a b) query.sides) → IfOk r (λ idle. idle ≡ true → ChunkDecidesNothing d c query)
+none_needs d e c query a b (Ok alike) less first second is = λ alone h held.
+    let all : NoneThrough (agreement_of (asked d query.start query.goal) (asked (without_chunk d c) query.start query.goal)) query.sides =
+    subst (λ (y : Asking). NoneThrough (agreement_of (asked d query.start query.goal) y) query.sides) (second ∙ ap (λ (x : Description). asked x query.start query.goal) less)
+    (subst (λ (x : Asking). NoneThrough (agreement_of x b) query.sides) first (is alone)) in
     stop_of-same (verdict_of (without_chunk d c) (appliances_of d) query.start query.goal h) (verdict_of d (appliances_of d) query.start query.goal h)
     (sym (chunk-verdict d c query.start query.goal h) ∙ sym (same-unless _ _ (all h held)))
+none_needs d e c query a b (Err no_memory) less first second is = tt
 
--- one is
-pub one_needs : (d e : Description) (c : Chunk) (query : Query) (a b : Asking) (found : Option Header) (h : Header)
-    → e ≡ without_chunk d c → a ≡ asked d query.start query.goal → b ≡ asked e query.start query.goal → IsFirst (agreement_of a b) query.sides found
-    → found ≡ Some h → ChunkDecidesNothing d c query → ⊥
-one_needs d e c query a b found h less first second is some idle =
-    let one : IsFirst (agreement_of (asked d query.start query.goal) (asked (without_chunk d c) query.start query.goal)) query.sides (Some h) =
-    subst (λ (o : Option Header). IsFirst (agreement_of (asked d query.start query.goal) (asked (without_chunk d c) query.start query.goal)) query.sides o) some
-    (moved-first d e c query a b found less first second is) in
-    other-if _ _ one.through (sym (chunk-verdict d c query.start query.goal h ∙ ap stop_of (idle h one.inside)))
+-- a search that came to its end
+pub alike_if : (a b x y : Asking) (sides : Box5) (searched : Searched) → x ≡ a → y ≡ b → searched ≡ searches.Blocked → IsSearched (agreement_of x y) sides searched
+    → NoneThrough (agreement_of a b) sides
+alike_if a b x y sides searched one other ended is =
+    subst (λ (t : Asking). NoneThrough (agreement_of a t) sides) other
+    (subst (λ (t : Asking). NoneThrough (agreement_of t y) sides) one (subst (λ (s : Searched). IsSearched (agreement_of x y) sides s) ended is))

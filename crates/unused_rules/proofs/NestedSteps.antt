@@ -32,7 +32,7 @@ pub data AreNestedSteps (p : Place) (more between fewer : Step) : Type 0 where
   same : IsSameStep between more → IsSameStep fewer more → AreNestedSteps p more between fewer
   refused : (s : Stop) → door_of s ≡ Some p → (more.next ≡ stop s → ⊥) → fewer.next ≡ stop s → AreNestedSteps p more between fewer
 
-itself-step : (s : Step) → IsSameStep s s
+pub itself-step : (s : Step) → IsSameStep s s
 itself-step s = record { next = refl; conns = refl; nats = refl }
 
 all-same : (p : Place) (s : Step) → AreNestedSteps p s s s
@@ -60,7 +60,7 @@ nested-by_rule p s by door alike stopped passes (Some a) (Some b) (Some c) first
 nested-by_rule p s by door alike stopped passes (Some a) between None first second = refused s door (passes a) stopped
 
 -- on to what comes next, if groups let the packet pass
-abbrev passed : Moment → Stop → Next → Passing → Step
+abbrev pub passed : Moment → Stop → Next → Passing → Step
 passed m s x p =
     elim p.by [
       | None ↦ plain m (stop s)
@@ -71,7 +71,7 @@ pub no-door : (s : Stop) (p : Place) → door_of s ≡ None → door_of s ≡ So
 no-door s p none some = cc
 
 -- into an interface, no group stops a packet that groups let pass
-taken-no_stop : (d : Description) (appliances : Appliances) (i : EniNo) (h : Header) → taken_in d appliances i h ≡ stop (stops.GroupsIn i)
+pub taken-no_stop : (d : Description) (appliances : Appliances) (i : EniNo) (h : Header) → taken_in d appliances i h ≡ stop (stops.GroupsIn i)
     → ⊥
 taken-no_stop d appliances i h e = both_ways (is_refused (taken_in d appliances i h)) (taken_by-unrefused d i h (boxes_at appliances i)) (ap is_refused e)
 

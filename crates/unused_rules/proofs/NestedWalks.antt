@@ -23,14 +23,14 @@ use Rattle.unused_rules.proofs.NestedSteps.{AreNestedSteps, IsSameStep, nested_s
 -- ---- places
 
 -- the same places are among the hops
-abbrev SameSeen : List Hop → List Hop → Type 0
+abbrev pub SameSeen : List Hop → List Hop → Type 0
 SameSeen g h = (p : Place) → is_visited g p ≡ is_visited h p
 
 visited-push : (hops : List Hop) (h : Hop) (p : Place)
     → is_visited (hops ++ h ∷ []) p ≡ (is_visited hops p || (same_place h.place p || false))
 visited-push hops h p = list_any-append (λ (g : Hop). same_place g.place p) hops (h ∷ [])
 
-seen-push : (g h : List Hop) (a b : Hop) → SameSeen g h → a.place ≡ b.place → SameSeen (g ++ a ∷ []) (h ++ b ∷ [])
+pub seen-push : (g h : List Hop) (a b : Hop) → SameSeen g h → a.place ≡ b.place → SameSeen (g ++ a ∷ []) (h ++ b ∷ [])
 seen-push g h a b seen place p =
     visited-push g a p ∙ (ap₂ (λ (x : Bool) (q : Place). x || (same_place q p || false)) (seen p) place ∙ sym (visited-push h b p))
 
@@ -106,7 +106,7 @@ nested-if true true false e f one two three more between fewer first second = ab
 nested-if false true c e f one two three more between fewer first second = absurd (cc)
 nested-if false false true e f one two three more between fewer first second = absurd (cc)
 
-walk-moved : (d : Description) (appliances : Appliances) (label : Label) (n : ℕ) (hops : List Hop) (h : Header) (s t : Step)
+pub walk-moved : (d : Description) (appliances : Appliances) (label : Label) (n : ℕ) (hops : List Hop) (h : Header) (s t : Step)
     → IsSameStep s t
     → walk_on d appliances label n hops h s.next s.conns s.nats ≡ walk_on d appliances label n hops h t.next t.conns t.nats
 walk-moved d appliances label n hops h s t alike =

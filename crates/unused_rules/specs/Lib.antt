@@ -1,5 +1,6 @@
 pub mod Answered
 pub mod Chunks
+pub mod Concerned
 pub mod Laws
 pub mod Lines
 pub mod Needed

@@ -1,15 +1,17 @@
 // Which request of a query needs a rule.
-ghost use Rattle.std.specs.Prelude.{◌≡◌, ◌↔◌, IfOk, IsTrue};
+ghost use Rattle.std.specs.Prelude.{◌≡◌, IfOk, IfSome, IsTrue};
 ghost use Rattle.box_walk.specs.Asking.{asked};
 ghost use Rattle.header_boxes.specs.Boxes.{IsValid};
-ghost use Rattle.header_boxes.specs.Rows.{IsFirst};
+ghost use Rattle.header_boxes.specs.Rows.{IsFirst, NoneThrough};
 ghost use Rattle.vpc_model.specs.Appliances.{appliances_of};
 ghost use Rattle.unused_rules.specs.Chunks.{ChunkDecidesNothing, IsIdle, without_chunk};
+ghost use Rattle.unused_rules.specs.Concerned.{DecidesWithin, IsFirstIn, IsFirstOf};
 ghost use Rattle.unused_rules.specs.Needed.{IsAskedIn, IsNeed};
 ghost use Rattle.unused_rules.specs.Probe.{agreement_of};
 ghost use Rattle.unused_rules.specs.Without.{without};
 
 use crate::chunks::{Chunk, chunk_from, is_of};
+use crate::concerned::{Concerned, answered_box, asked_box, first_of, kept_filter, part_before};
 use crate::probe::AgreementProbe;
 use crate::removal::{network_without, network_without_chunk};
 use crate::rules::RuleName;
@@ -17,11 +19,16 @@ use appliances::Deciders;
 use box_walk::RoundProbe;
 use fabric::Fabric;
 use header_boxes::Box5;
-use ordered_cover::search::first;
+use ordered_cover::Searched;
+use ordered_cover::search::{first, first_within};
 use query_words::Query;
 use reference_check::Network;
 use std::alloc::Global;
 use vpc_base::{Header, NoMemory};
+
+// How many parts are asked of for a chunk: where there are more, its rules are asked about one by one, each for the parts that
+// concern it.
+const MOST_PARTS: u32 = 4096;
 
 /// A network as it is, and a query of it: what becomes of the requests without a rule is compared with this.
 #[derive(Drop)]
@@ -83,6 +90,75 @@ fn first_apart(
     first(alloc, &AgreementProbe::of(before, after), sides)
 }
 
+// The parts of the query outside which a rule decides nothing.
+fn concerned(base: &Baseline, rule: &RuleName) -> Concerned
+    ensures { DecidesWithin base.now.fabric.now rule.now base.now.query.now result }
+{
+    let sides = base.query.sides;
+    match kept_filter(base.fabric.network().description(), rule) {
+        None => Concerned {
+            asked: Some(sides),
+            answered: None,
+        },
+        Some(f) => Concerned {
+            asked: sides.meet(&asked_box(&sides, &f)),
+            answered: sides.meet(&answered_box(&sides, &f)),
+        },
+    }
+}
+
+fn first_in(
+    alloc: Global,
+    before: &RoundProbe,
+    after: &RoundProbe,
+    part: Option<Box5>,
+) -> Result<Option<Header>, NoMemory>
+    requires { IfSome part IsValid }
+    ensures { IfOk result (IsFirstIn (agreement_of
+        (asked before.now.fabric.now before.now.start before.now.goal)
+        (asked after.now.fabric.now after.now.start after.now.goal)) part) }
+{
+    match part {
+        None => Ok(None),
+        Some(sides) => first_apart(alloc, before, after, sides),
+    }
+}
+
+fn first_of_parts(
+    alloc: Global,
+    before: &RoundProbe,
+    after: &RoundProbe,
+    parts: &Concerned,
+) -> Result<Option<Header>, NoMemory>
+    requires asked { IfSome parts.now.asked IsValid }
+    requires answered { IfSome parts.now.answered IsValid }
+    ensures { IfOk result (IsFirstOf (agreement_of
+        (asked before.now.fabric.now before.now.start before.now.goal)
+        (asked after.now.fabric.now after.now.start after.now.goal)) parts.now) }
+{
+    let one = first_in(alloc, before, after, parts.asked)?;
+    let rest = part_before(parts.answered, one);
+    let other = first_in(alloc, before, after, rest)?;
+    Ok(first_of(one, other))
+}
+
+// What `needed` tells, by parts of the query outside which the rule decides nothing.
+fn needed_in(
+    alloc: Global,
+    base: &Baseline,
+    rule: &RuleName,
+    parts: &Concerned,
+) -> Result<Option<Header>, NoMemory>
+    requires { DecidesWithin base.now.fabric.now rule.now base.now.query.now parts.now }
+    ensures { IfOk result (IsNeed base.now.fabric.now rule.now base.now.query.now) }
+{
+    let fabric = fabric_without(alloc, base.fabric.network(), rule)?;
+    let query = base.query;
+    let mut after = RoundProbe::of(&fabric, base.deciders, query.start, query.goal);
+    after.look_ahead(&query.sides);
+    first_of_parts(alloc, &base.before, &after, parts)
+}
+
 /// What `needed` tells, by a baseline: the first request of its query that has another verdict without the rule.
 pub(crate) fn needed_by(
     alloc: Global,
@@ -91,26 +167,43 @@ pub(crate) fn needed_by(
 ) -> Result<Option<Header>, NoMemory>
     ensures { IfOk result (IsNeed base.now.fabric.now rule.now base.now.query.now) }
 {
-    let fabric = fabric_without(alloc, base.fabric.network(), rule)?;
-    let query = base.query;
-    let mut after = RoundProbe::of(&fabric, base.deciders, query.start, query.goal);
-    after.look_ahead(&query.sides);
-    first_apart(alloc, &base.before, &after, query.sides)
+    let parts = concerned(base, rule);
+    if parts.is_empty() {
+        Ok(None)
+    } else {
+        needed_in(alloc, base, rule, &parts)
+    }
 }
 
-// Whether no request of the query has another verdict without the chunk.
+// Whether the same becomes of all requests in both networks, as far as a search of some parts tells.
+fn are_alike(
+    alloc: Global,
+    before: &RoundProbe,
+    after: &RoundProbe,
+    sides: Box5,
+) -> Result<bool, NoMemory>
+    requires { IsValid sides }
+    ensures { IfOk result (λ alike. IsTrue alike → NoneThrough (agreement_of
+        (asked before.now.fabric.now before.now.start before.now.goal)
+        (asked after.now.fabric.now after.now.start after.now.goal)) sides) }
+{
+    match first_within(alloc, &AgreementProbe::of(before, after), sides, MOST_PARTS)? {
+        Searched::Blocked => Ok(true),
+        Searched::Found(_) => Ok(false),
+        Searched::Unfinished => Ok(false),
+    }
+}
+
+// Whether no request of the query has another verdict without the chunk, as far as a search of some parts tells.
 fn decides_nothing(alloc: Global, base: &Baseline, c: &Chunk) -> Result<bool, NoMemory>
     ensures { IfOk result (λ idle.
-        IsTrue idle ↔ ChunkDecidesNothing base.now.fabric.now c.now base.now.query.now) }
+        IsTrue idle → ChunkDecidesNothing base.now.fabric.now c.now base.now.query.now) }
 {
     let fabric = fabric_without_chunk(alloc, base.fabric.network(), c)?;
     let query = base.query;
     let mut after = RoundProbe::of(&fabric, base.deciders, query.start, query.goal);
     after.look_ahead(&query.sides);
-    match first_apart(alloc, &base.before, &after, query.sides)? {
-        None => Ok(true),
-        Some(_) => Ok(false),
-    }
+    are_alike(alloc, &base.before, &after, query.sides)
 }
 
 // The chunk, if there is one and it decides nothing.
@@ -171,8 +264,9 @@ pub(crate) fn needed_at(
 }
 
 /// The first request of the query whose verdict is another value without the rule, if there is one: something else stops
-/// it or its reply, or it gets through in one case alone. It takes time for each part of the query on which requests take
-/// one walk in both networks, beside that of a `Fabric`. Fails for want of memory alone.
+/// it or its reply, or it gets through in one case alone. It takes time for each part on which requests take one walk in
+/// both networks, of those that the rule may match by protocol and q, or whose replies it may (of all requests, where the
+/// network has a NAT gateway), beside that of a `Fabric`. Fails for want of memory alone.
 pub fn needed(
     alloc: Global,
     f: &Fabric,

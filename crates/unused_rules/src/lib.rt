@@ -5,6 +5,7 @@
 mod answer;
 mod chunks;
 mod command;
+mod concerned;
 mod judging;
 mod laws;
 mod lines;

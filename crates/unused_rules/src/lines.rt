@@ -101,7 +101,7 @@ fn acl_id(d: &Description, a: AclNo) -> &[u8]
     }
 }
 
-fn row_at(d: &Description, a: AclNo, place: u32) -> Option<AclRow>
+pub(crate) fn row_at(d: &Description, a: AclNo, place: u32) -> Option<AclRow>
     ensures { let acl = acl_at d.now a in result ≡ slice_get acl.rows place }
 {
     match d.acls.as_slice().get(a.0 as usize) {

@@ -1,9 +1,8 @@
-use Rattle.std.proofs.Common.{◌≡◌, ◌∙◌, ap, refl, sym}
-use Rattle.std.proofs.lemmas.Bool.{false≢true}
+use Rattle.std.proofs.Common.{◌≡◌, ◌∙◌, ap, sym}
 use Rattle.vpc_laws.specs.Types.{Description}
 use Rattle.vpc_model.specs.Appliances.{appliances_of}
 use Rattle.unused_rules.specs.Chunks.{without_chunk}
-use Rattle.unused_rules.proofs.Needing.{appliances-kept, none_needs, one_needs}
+use Rattle.unused_rules.proofs.Needing.{appliances-kept, none_needs}
 use Rattle.unused_rules.proofs.judging.decides_nothing.Goals as goal
 
 pub of-after-requires-clause-appliances : goal.of-after-requires-clause-appliances
@@ -12,21 +11,9 @@ of-after-requires-clause-appliances g c =
     c.in_ok-fabric.ensures ∙ ap (λ (d : Description). without_chunk d c.args.c.now) c.network.ensures in
     c.args.base.now.described ∙ sym (ap appliances_of less ∙ appliances-kept c.args.base.now.fabric.now c.args.c.now)
 
-pub returns-in-None : goal.returns-in-None
-returns-in-None g c =
-    let less : c.in_ok-fabric.fabric ≡ without_chunk c.args.base.now.fabric.now c.args.c.now =
-    c.in_ok-fabric.ensures ∙ ap (λ (d : Description). without_chunk d c.args.c.now) c.network.ensures in (
-      λ _. none_needs c.args.base.now.fabric.now c.in_ok-fabric.fabric c.args.c.now c.args.base.now.query.now _ _ c.in_ok-first_apart.field-0
-          less c.args.base.now.same_way (c.look_ahead.ensures ∙ c.of-after.ensures) c.in_ok-first_apart.ensures c.in-None.is,
-      λ _. refl,
-    )
-
 pub returns : goal.returns
 returns g c =
     let less : c.in_ok-fabric.fabric ≡ without_chunk c.args.base.now.fabric.now c.args.c.now =
-    c.in_ok-fabric.ensures ∙ ap (λ (d : Description). without_chunk d c.args.c.now) c.network.ensures in (
-      λ e. absurd (false≢true e),
-      λ idle. absurd
-          (one_needs c.args.base.now.fabric.now c.in_ok-fabric.fabric c.args.c.now c.args.base.now.query.now _ _ c.in_ok-first_apart.field-0 c.in-Some.field-0
-          less c.args.base.now.same_way (c.look_ahead.ensures ∙ c.of-after.ensures) c.in_ok-first_apart.ensures c.in-Some.is idle),
-    )
+    c.in_ok-fabric.ensures ∙ ap (λ (d : Description). without_chunk d c.args.c.now) c.network.ensures in
+    none_needs c.args.base.now.fabric.now c.in_ok-fabric.fabric c.args.c.now c.args.base.now.query.now _ _ c.are_alike.result
+    less c.args.base.now.same_way (c.look_ahead.ensures ∙ c.of-after.ensures) c.are_alike.ensures
