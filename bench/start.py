@@ -2,7 +2,7 @@
 
     python3 bench/start.py
 
-The example of README, asked of the built program itself and of ./vpc. In the last row a source is touched before each
+A packet of the example one-subnet.json, asked of the built program itself and of ./vpc. In the last row a source is touched before each
 start, so that its times differ and checksums are compared, as in a checkout that can't be written to and was copied.
 """
 

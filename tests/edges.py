@@ -5,7 +5,7 @@ PROGRAM (without it out/vpc) is run as a whole process once for each exit status
 0 to 20, and words that are empty, begin with a dash, are long or aren't UTF-8; with files of 2 MiB, of the limit of 64 MiB
 and of one byte more, in either place; with files that are missing, are folders, pipes or have no end; with an output that
 takes nothing, a part, or a byte at a time; and with little memory. The status and the standard output are compared with what
-README says, and standard error is to be empty. Prints each difference.
+docs/ANSWERS.md and docs/FAQ.md say, and standard error is to be empty. Prints each difference.
 
 Status 8 is reached by a limit on memory. That memory is refused while the words are read is not reached here, since the
 program is too small then to be started at all: refused_memory.py does it.
@@ -150,7 +150,7 @@ def refusals():
 
 
 def expected(words):
-    """The number of the first wrong word, by the table of commands in README; 0 where the count is right."""
+    """The number of the first wrong word, by the commands of docs/COMMANDS.md; 0 where the count is right."""
     count = len(words)
     least, most = {"trace": (10, 10), "ask": (6, 18), "check": (3, 4), "replay": (3, 3), "make": (2, 2)}.get(words[0] if words else "", (0, 0))
     if not most:

@@ -6,8 +6,8 @@ Bundles are made at random (networks.py) or come from examples/ and bench/; they
 damaged (damage.py): bits, parts, tokens exchanged or copied, members and rows repeated, deep nesting, numbers and texts that
 don't fit. Reports are also rewritten so that they stay true: rows in another order, or in pieces.
 
-Of each case it wants: an end within 20 seconds, by no signal; nothing on standard error; a status of README's table, which is 6
-for a missing file alone and neither 7 nor 8; one of the texts of answers.py; and that the text is true as far as other runs tell.
+Of each case it wants: an end within 20 seconds, by no signal; nothing on standard error; a status of docs/ANSWERS.md, which is
+6 for a missing file alone and neither 7 nor 8; one of the texts of answers.py; and that the text is true as far as other runs tell.
 The word that is refused is the first wrong one. The rows of a report are disjoint and make up its box, and `replay` stops some
 packets of some rows where the rows say; it brings the packet of `reachable` there and back. `trace` and `replay` end alike. A yes
 of `check` is true in the same ways, and so is a no.
