@@ -21,7 +21,8 @@ checkout() {
     # The stand-in's program takes other first words: each has a line in the launcher's list.
     sed "s/^commands='\$/&\nagain | |\na | |\nb | |\nby | |\nfails | |\nsome | |\nwords | |\nx | |\ny | |/" "$here/../vpc" >"$1/vpc"
     chmod +x "$1/vpc"
-    mkdir -p "$1/examples"
+    mkdir -p "$1/examples" "$1/launcher"
+    cp "$here/../launcher/refusals.sh" "$1/launcher/"
     echo '{}' >"$1/examples/one-subnet.json"
     printf '%s\n' '# lowest first' 'base:' 'left: base arrayvec' 'right: base' 'other: base' \
         'vpc_cli: left right  base serde_json' >"$1/crates.txt"
@@ -127,13 +128,42 @@ is 'edited, no kit: output' "$out" ''
 start "$stand_in" "$top/vpc" again
 is 'edited: output' "$out" "two $PWD again"
 
-# An edit of a proof counts, a new file too, one of another crate doesn't.
-for it in left/proofs/f/Answers.antt left/specs/Lib.antt right/src/new.rt; do
+# An edit of a source and of a contract counts, a new file too, one of another crate doesn't. One of a proof alters nothing that runs.
+for it in left/src/lib.rt left/specs/Lib.antt right/src/new.rt; do
     mkdir -p "$top/crates/${it%/*}"
     echo "-- $it" >>"$top/crates/$it"
+    start "$no_kit" "$top/vpc" again
+    is "edit of $it, no kit" "$status $out" '125 '
     start "$stand_in" "$top/vpc" again
     fits "edit of $it" "$calls" '*rt all check*'
 done
+for it in left/proofs/f/Answers.antt left/proofs/New.antt; do
+    echo "-- $it" >>"$top/crates/$it"
+    for _ in 'at first' again; do
+        start "$stand_in" "$top/vpc" again
+        is "edit of $it" "$status $out $err $(grep -c 'all check' "$CALLS")" "0 two $PWD again  0"
+        start "$no_kit" "$top/vpc" again
+        is "edit of $it, no kit" "$status $out $err" "0 two $PWD again "
+        settle
+    done
+done
+# What is built looks at proofs too, and so does a start that runs only what was proved here.
+start "$stand_in" env VPC_PROVE=1 "$top/vpc" again
+fits 'edited proofs, proved here' "$status $out $calls" "0 two $PWD again *rt all check*"
+start "$stand_in" env VPC_PROVE=1 "$top/vpc" again
+is 'edited proofs, proved here already' "$status $out $(grep -c 'all check' "$CALLS")" "0 two $PWD again 0"
+rm "$top/crates/left/proofs/New.antt"
+start "$no_kit" env VPC_PROVE=1 "$top/vpc" again
+is 'a proof removed, only what was proved here' "$status $out" '125 '
+start "$stand_in" "$top/vpc" again
+is 'a proof removed' "$status $out $(grep -c 'all check' "$CALLS")" "0 two $PWD again 0"
+# (a folder of sources that is named like one of proofs is none)
+mkdir -p "$top/crates/left/src/proofs"
+echo one >"$top/crates/left/src/proofs/part.rt"
+start "$no_kit" "$top/vpc" again
+is 'a source below proofs, no kit' "$status $out" '125 '
+start "$stand_in" "$top/vpc" again
+fits 'a source below proofs' "$calls" '*rt all check*'
 rm "$top/crates/right/src/new.rt"
 start "$stand_in" "$top/vpc" again
 fits 'a file removed' "$calls" '*rt all check*'
@@ -207,6 +237,12 @@ wait
 start "$stand_in" env TAKES=0.5 VPC_QUIET=1 "$top/vpc" again
 is 'written meanwhile' "$status $out" '125 '
 wait
+echo six >"$top/crates/vpc_cli/src/main.rt"
+(sleep 1 && echo '-- more' >>"$top/crates/left/proofs/f/Answers.antt") &
+start "$stand_in" env TAKES=0.5 VPC_QUIET=1 "$top/vpc" again
+is 'a proof edited meanwhile' "$status $out" '125 '
+wait
+echo five >"$top/crates/vpc_cli/src/main.rt"
 start "$stand_in" "$top/vpc" again
 is 'after all that' "$status $out" "0 five $PWD again"
 
@@ -301,6 +337,17 @@ is 'prebuilt, once more' "$status $out $err" "0 one $PWD y "
 rm -rf "$room/prebuilt/out"
 start "$stand_in" "$room/prebuilt/vpc" x
 is 'prebuilt, the same kit: nothing is built' "$status $out $calls" "0 one $PWD x rt version"
+
+# An edit of a proof alters nothing that runs, so it is taken all the same.
+rm -rf "$room/prebuilt/out"
+cp -p "$room/prebuilt/crates/left/proofs/f/Answers.antt" "$room/kept.antt"
+echo '-- more' >>"$room/prebuilt/crates/left/proofs/f/Answers.antt"
+for it in "$no_kit" "$stand_in"; do
+    start "$it" "$room/prebuilt/vpc" x
+    is 'prebuilt, with a proof edited' "$status $out $(grep -c 'all check' "$CALLS")" "0 one $PWD x 0"
+    rm -rf "$room/prebuilt/out"
+done
+mv "$room/kept.antt" "$room/prebuilt/crates/left/proofs/f/Answers.antt"
 
 # It is proved and built here where that is asked for, once.
 start "$stand_in" env VPC_PROVE=1 "$room/prebuilt/vpc" x
@@ -539,17 +586,73 @@ is 'a command: nothing is said' "$status $out $err" "0 one $PWD make 1 "
 settle
 start "$no_kit" "$door/vpc" make 2
 first_words=$(sed -n "/^commands='\$/,/^'\$/s/^\([a-z]*\) .*/\1/p" "$door/vpc" | tr '\n' ' ')
-for it in '' --help -h help 'make --help' 'ask -h'; do
+# the commands that a page tells of, and those that have an example there
+commands_in() {
+    sed -n 's/^  vpc \([a-z]*\) .*/\1/p' "$1" | tr '\n' ' '
+}
+examples_in() {
+    sed -n 's/^      \.\/vpc \([a-z]*\) .*/\1/p' "$1" | tr '\n' ' '
+}
+start "$no_kit" "$door/vpc"
+is "page, no word: output and status" "$status $out" "0 one $PWD "
+is "page, no word: commands" "$(commands_in "$room/err")" "$first_words"
+is "page, no word: an example each" "$(examples_in "$room/err")" "$first_words"
+fits "page, no word: where the documents are" "$err" "*$door*README.md*docs/FAQ.md*vpc.1*"
+cp "$room/err" "$room/page"
+# Help that was asked for is the answer, and nothing is run.
+for it in --help -h help '--help me' '-h make'; do
     # shellcheck disable=SC2086
     start "$no_kit" "$door/vpc" $it
-    is "page, $it: output and status" "$status $out" "0 one $PWD $it"
-    is "page, $it: commands" "$(printf '%s\n' "$err" | sed -n 's/^  vpc \([a-z]*\) .*/\1/p' | tr '\n' ' ')" "$first_words"
-    is "page, $it: an example each" "$(printf '%s\n' "$err" | sed -n 's/^      \.\/vpc \([a-z]*\) .*/\1/p' | tr '\n' ' ')" "$first_words"
-    fits "page, $it: where the documents are" "$err" "*$door*README.md*docs/FAQ.md*vpc.1*"
+    is "page, $it: status and errors" "$status $err" '0 '
+    is "page, $it" "$out" "$(cat "$room/page")"
 done
+for it in $(printf '%s' "$first_words" | tr ' ' '\n' | uniq); do
+    "$door/vpc" "$it" --help >"$room/page" 2>"$room/err"
+    is "help of $it: status and errors" "$? $(cat "$room/err")" '0 '
+    is "help of $it: its lines" "$(commands_in "$room/page")" "$(printf '%s' "$first_words" | tr ' ' '\n' | grep -x "$it" | tr '\n' ' ')"
+    is "help of $it: an example each" "$(examples_in "$room/page")" "$(commands_in "$room/page")"
+    is "help of $it: nothing else" "$("$door/vpc" --help | grep -c -v -x -F -f "$room/page")" "$((($(printf '%s' "$first_words" | wc -w) - $(commands_in "$room/page" | wc -w)) * 3))"
+    for how in "$it -h" "help $it" "$it --help me"; do
+        # shellcheck disable=SC2086
+        start "$no_kit" "$door/vpc" $how
+        is "help, $how" "$status $err $out" "0  $(cat "$room/page")"
+    done
+done
+start "$no_kit" "$door/vpc" help tarce
+fits 'help of no command' "$status $out $err" "0 one $PWD help tarce vpc: the first word is one of *"
+start "$no_kit" "$door/vpc" make 2 --help
+is 'help behind other words' "$status $out $err" "0 one $PWD make 2 --help "
+if [ -w /dev/full ]; then
+    for it in --help 'help make' 'make -h' --version; do
+        # shellcheck disable=SC2086
+        PATH=$no_kit "$door/vpc" $it >/dev/full 2>"$room/err"
+        is "$it on a full disk" "$? $(cat "$room/err")" '7 '
+    done
+fi
+# The version: what runs, what it was made from, and the kit. A proof that is edited changes none of them.
+start "$no_kit" "$door/vpc" --version
+is 'version: status and errors' "$status $err" '0 '
+is 'version' "$out" "program $(sha256sum <"$door/out/vpc" | cut -d ' ' -f 1)
+sources $(sed '$d; /\/proofs\//d' "$door/out/stamp" | sha256sum | cut -d ' ' -f 1)
+kit stand-in 1"
+version=$out
+start "$stand_in" env VPC_PROVE=1 "$door/vpc" --version
+is 'version, only what was proved here' "$status $out $err" "0 $version "
+echo '-- more' >>"$door/crates/left/proofs/f/Answers.antt"
+start "$no_kit" "$door/vpc" --version
+is 'version, a proof edited' "$status $out $err" "0 $version "
+start "$no_kit" env VPC_PROVE=1 "$door/vpc" --version
+is 'version, a proof edited, only what was proved here' "$status $out $err" '125  vpc: these sources are not built: any command builds them first'
+sed -i '1s/.*/kit\x1b[31m/' "$door/out/stamp"
+start "$no_kit" "$door/vpc" --version
+is 'version, a kit that is no plain text' "$status $(printf '%s\n' "$out" | sed -n 3p)" '0 kit unknown'
+sed -i '1s/.*/stand-in 1/' "$door/out/stamp"
+sed -i '$d' "$door/crates/left/proofs/f/Answers.antt"
+settle
+start "$no_kit" "$door/vpc" make 2
 # a command that is called in two ways stands in two lines, and once among the first words
 each_once=$(printf '%s' "$first_words" | tr ' ' '\n' | uniq | tr '\n' ' ')
-for it in tarce TRACE mak makes 'make5 x' '*' '.*' -v --version -; do
+for it in tarce TRACE mak makes 'make5 x' '*' '.*' -v --versions -; do
     start "$no_kit" "$door/vpc" "$it"
     is "mistyped, $it: output and status" "$status $out" "0 one $PWD $it"
     is "mistyped, $it" "$err" "vpc: the first word is one of $(printf '%s' "${each_once% }" | sed 's/ /, /g'); ./vpc --help tells of them"
@@ -558,7 +661,7 @@ start "$no_kit" "$door/vpc" ''
 fits 'an empty word' "$status $out $err" "0 one $PWD  vpc: the first word is one of *"
 start "$no_kit" "$door/vpc" fails
 is "mistyped: the program's own status" "$status $out" '3 '
-for it in '' help tarce; do
+for it in '' 'help me' tarce; do
     # shellcheck disable=SC2086
     is "closed standard error, $it" "$(PATH=$no_kit "$door/vpc" $it 2>&-)" "one $PWD $it"
     # shellcheck disable=SC2086
@@ -569,9 +672,63 @@ done
 # It stands before a build, and where nothing can be built.
 echo two >"$door/crates/vpc_cli/src/main.rt"
 start "$no_kit" "$door/vpc" --help
-fits 'page, not built' "$status $out $err" '125  vpc COMMAND *vpc: *no rt in PATH*'
+fits 'page, not built' "$status $out $err" '0 vpc COMMAND * '
+start "$no_kit" "$door/vpc"
+fits 'no word, not built' "$status $out $err" '125  vpc COMMAND *vpc: *no rt in PATH*'
+start "$stand_in" "$door/vpc" --version
+is 'version, not built' "$status $out $err $(grep -c 'all check' "$CALLS")" '125  vpc: these sources are not built: any command builds them first 0'
 start "$stand_in" "$door/vpc" tarce
 fits 'mistyped, not built' "$status $out $err" "0 two $PWD tarce vpc: the first word is one of *proving base*"
+
+# A refusal is told in words on standard error, by the words and the files; standard output and the status stay the program's. What
+# the sentences say is tried in tests/refusals.py.
+start "$stand_in" env VPC_QUIET=1 "$door/vpc" make 1
+settle
+start "$no_kit" "$door/vpc" make 2
+echo '{}' >"$room/bundle.json"
+start "$no_kit" env REFUSES='refused query BadWord 8' ENDS=4 "$door/vpc" ask "$room/bundle.json" from eni-a to eni-b port 443
+is 'refused' "$status $out $err" '4 refused query BadWord 8 vpc: word 8, "443", is no range: write 443-443'
+for it in 0 1 5 7 9 125 128; do
+    start "$no_kit" env REFUSES='refused query BadWord 8' ENDS=$it "$door/vpc" ask "$room/bundle.json" from eni-a to eni-b port 443
+    is "status $it is no refusal" "$status $out $err" "$it refused query BadWord 8 "
+done
+start "$no_kit" env REFUSES='refused query BadWord 8' ENDS=3 "$door/vpc" ask "$room/bundle.json" from eni-a to eni-b port 443
+is 'a text that is not of the status' "$status $out $err" '3 refused query BadWord 8 '
+is 'refused, standard error closed' "$(PATH=$no_kit REFUSES='refused query BadWord 8' ENDS=4 "$door/vpc" ask "$room/bundle.json" from a to b port 443 2>&-; echo $?)" 'refused query BadWord 8
+4'
+is 'refused, standard error on a full disk' "$(PATH=$no_kit REFUSES='refused query BadWord 8' ENDS=4 "$door/vpc" ask "$room/bundle.json" from a to b port 443 2>/dev/full; echo $?)" 'refused query BadWord 8
+4'
+mv "$door/launcher" "$door/gone"
+start "$no_kit" env REFUSES='refused query BadWord 8' ENDS=4 "$door/vpc" ask "$room/bundle.json" from eni-a to eni-b port 443
+is 'refused, and no sentences' "$status $out $err" '4 refused query BadWord 8 '
+mv "$door/gone" "$door/launcher"
+# A pipe is read by the program alone.
+mkfifo "$room/once"
+echo read >"$room/once" &
+start "$no_kit" env REFUSES='refused description NotJson' ENDS=3 "$door/vpc" matrix "$room/once"
+is 'a pipe is not read again' "$status $out $err" '3 refused description NotJson vpc: docs/FAQ.md, "When it refuses", tells what each refusal means'
+wait
+
+# A signal that ends the program ends the launcher, and one that ends the launcher ends the program, where setpriv is there.
+for it in TERM KILL SEGV; do
+    PATH=$no_kit "$door/vpc" make "ends by $it" >"$room/out" 2>/dev/null
+    is "the program ends by $it" "$(kill -l $?)" $it
+done
+if [ -x /usr/bin/setpriv ]; then
+    for it in TERM KILL; do
+        PATH=$no_kit "$door/vpc" make waits >"$room/out" 2>"$room/err" &
+        launcher=$!
+        for _ in 1 2 3 4 5 6 7 8 9 10; do [ -s "$room/out" ] || sleep 0.2; done
+        kill -$it $launcher
+        wait $launcher 2>/dev/null
+        sleep 0.2
+        # (what nobody waits for any more has no words left)
+        is "the launcher ends by $it" "$(tr '\0' ' ' <"/proc/$(cat "$room/out")/cmdline" 2>/dev/null)" ''
+    done
+else
+    skipped=$((skipped + 1))
+    echo 'skipped: there is no setpriv, by which the program ends with the launcher'
+fi
 
 # On a terminal one line moves.
 if command -v script >/dev/null; then

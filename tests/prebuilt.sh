@@ -23,7 +23,7 @@ fail() {
 }
 
 # The launcher's own list of what the program is made from: its functions, without what it does at the end.
-sed '/^if ! looks_the_same/,$d' "$top/vpc" >"$room/launcher"
+sed '/^# ---- what a start does/,$d' "$top/vpc" >"$room/launcher"
 made_from() {
     # shellcheck disable=SC2016 # (the shell that is started expands it)
     sh -c 'self=$1; . "$2"; top=$1; sources "$3"' "$top/vpc" "$1" "$room/launcher" "$(rt version)"
