@@ -35,9 +35,14 @@ said() {
     grep -v -e '^collect-bundle: asking aws ' -e '^not followed: ' "$room/err"
 }
 
-# The names of the calls that were made, each once.
+# The names of the calls of EC2 that were made, each once.
 names() {
-    sed 's/.* ec2 \([a-z-]*\).*/\1/' "$CALLS" | sort -u
+    sed -n 's/.* ec2 \([a-z-]*\).*/\1/p' "$CALLS" | sort -u
+}
+
+# The calls that were made, without an order: four are made at a time.
+calls() {
+    sed 's/--output json //' "$CALLS" | sort
 }
 
 collect=$here/../collect-bundle
@@ -47,7 +52,7 @@ collect "$collect"
 is 'one account: status' $status 0
 is 'one account: errors' "$(said)" ''
 is 'one account: lists' "$(told 'keys_unsorted | join(" ")')" \
-    'Vpcs Subnets NetworkInterfaces RouteTables PrefixLists NetworkAcls SecurityGroups SecurityGroupRules InternetGateways NatGateways VpcPeeringConnections TransitGatewayVpcAttachments TransitGatewayAttachments Reservations PrefixListEntries TransitGatewayRoutes'
+    'Vpcs Subnets NetworkInterfaces RouteTables PrefixLists NetworkAcls SecurityGroups SecurityGroupRules InternetGateways NatGateways VpcPeeringConnections TransitGatewayVpcAttachments TransitGatewayAttachments Reservations PrefixListEntries TransitGatewayRoutes Collected'
 for it in vpcs:Vpcs subnets:Subnets network-interfaces:NetworkInterfaces route-tables:RouteTables \
     prefix-lists:PrefixLists network-acls:NetworkAcls security-groups:SecurityGroups \
     internet-gateways:InternetGateways nat-gateways:NatGateways vpc-peering-connections:VpcPeeringConnections \
@@ -66,7 +71,7 @@ is 'all routes were asked for' "$(grep search-transit "$CALLS")" \
 is 'no entries of a list whose blocks are told' "$(told .PrefixListEntries)" '[]'
 is 'no filters' "$(grep -c vpc-id "$CALLS")" 0
 jq -S . "$here/../examples/shop.json" >"$room/example"
-is 'examples/shop.json is this bundle' "$(told . | jq -S . | cmp - "$room/example" && echo yes)" yes
+is 'examples/shop.json is this bundle' "$(told 'del(.Collected)' | jq -S . | cmp - "$room/example" && echo yes)" yes
 
 # Of instances what an interface is found by, and nothing else.
 is 'instances' "$(told '.Reservations | map(.Instances | map([.InstanceId, .State.Name, .Tags[].Value, .NetworkInterfaces[].NetworkInterfaceId]))')" \
@@ -75,14 +80,31 @@ is 'instances: no more' "$(told '[.Reservations[] | keys, (.Instances[] | keys, 
     '[["InstanceId","NetworkInterfaces","State","Tags"],["Instances"],["Key","Value"],["Name"],["NetworkInterfaceId"]]'
 
 # Each call has its line where standard error is no terminal, and survey's lines come last.
-is 'a line for each call' "$(sed -n 's/^collect-bundle: asking //p' "$room/err")" "$(sed 's/--output json //' "$CALLS")"
+is 'a line for each call' "$(sed -n 's/^collect-bundle: asking //p' "$room/err" | sort)" "$(calls)"
+is 'the first call' "$(head -n 1 "$CALLS")" 'aws --output json ec2 describe-vpcs'
+
+# How it was collected.
+is 'collected: account, region' "$(told '.Collected | [.Account, .Region]')" '["111122223333","us-east-1"]'
+is 'collected: the time' "$(told '.Collected.Time | strptime("%Y-%m-%dT%H:%M:%SZ") | mktime | . > now - 100 and . <= now')" true
+is 'collected: the calls' "$(told '.Collected.Calls[]' | sed 's/^/aws /' | sort)" "$(calls)"
+is 'collected: the version' "$(told .Collected.Version)" "$(sha256sum <"$collect" | cut -d ' ' -f 1)"
+is 'collected: nothing else' "$(told '.Collected | keys_unsorted | join(" ")')" 'Account Region Time Calls Version'
+is 'one call is none of EC2' "$(grep -v ' ec2 ' "$CALLS")" 'aws --output json sts get-caller-identity'
+for it in 1 2; do
+    collect env NAMELESS=$it "$collect"
+    is "collected: no account, $it" "$status $(told .Collected.Account) $(said)" '0 null '
+done
+collect env ELSEWHERE=shop "$collect"
+is 'collected: the region of the subnets' "$(told .Collected.Region)" eu-west-1
+collect "$collect" --region us-east-1
+is 'collected: the region that was named' "$(told .Collected.Region)" us-east-1
 is 'what is not followed' "$(sed -n '/^not followed: /,$p' "$room/err")" "$("$here/../survey" "$room/out")"
 is 'and there is something' "$(grep -c '^not followed: ' "$room/err")" 4
 if command -v script >/dev/null; then
     : >"$CALLS"
     script -qec "'$collect' >/dev/null" /dev/null >"$room/typed" </dev/null
     is 'on a terminal no such lines' "$(grep -c asking "$room/typed")" 0
-    is 'on a terminal one that moves' "$(tr '\r' '\n' <"$room/typed" | grep -c 'aws ec2 ')" "$(wc -l <"$CALLS")"
+    is 'on a terminal one that moves' "$(tr '\r' '\n' <"$room/typed" | grep -c 'aws [a-z0-9]* ')" "$(wc -l <"$CALLS")"
 else
     skipped=$((skipped + 1))
     echo 'skipped: there is no script, which stands for a terminal'
@@ -105,9 +127,18 @@ is 'two accounts: VPCs' "$(told 'map(.Vpcs[].VpcId)')" '["vpc-shop","vpc-tools"]
 is 'two accounts: the region' "$(grep -c -- '--region us-east-1' "$CALLS")" "$(wc -l <"$CALLS")"
 is 'two accounts: lists that either names' "$(told 'map([(.PrefixLists, .PrefixListEntries)[].PrefixListId])')" \
     '[["pl-s3"],["pl-s3","pl-corp"]]'
-cp "$room/out" "$room/both" && cp "$CALLS" "$room/both-calls"
+is 'two accounts: collected' "$(told 'map(.Collected.Account)')" '["111122223333","444455556666"]'
+is 'two accounts: the calls of each' "$(told '.[].Collected.Calls[]' | sort)" "$(calls | sed 's/^aws --profile [a-z]* --region us-east-1 //' | sort)"
+jq -c 'del(.[].Collected.Time)' "$room/out" >"$room/both" && calls >"$room/both-calls"
 collect "$collect" --region=us-east-1 --profile=shop --profile=tools
-is 'words with =' "$status $(cmp "$room/out" "$room/both" && cmp "$CALLS" "$room/both-calls")" '0 '
+is 'words with =' "$status $(told 'del(.[].Collected.Time)' | cmp - "$room/both" && calls | cmp - "$room/both-calls")" '0 '
+
+# Four calls at a time, whatever each takes: the same bundle, and the same lines in the same order.
+began=$(date +%s)
+collect env BESIDE="$room/beside" TAKES=0.4 "$collect" --region=us-east-1 --profile=shop --profile=tools
+is 'slow calls' "$status $(told 'del(.[].Collected.Time)' | cmp - "$room/both") $(said)" '0  '
+is 'slow calls: four at a time' "$(awk '{ now += $1 == "begins" ? 1 : -1; most = now > most ? now : most } END { print most }' "$room/beside")" 4
+is 'slow calls: a part of the time' "$(($(date +%s) - began < $(wc -l <"$CALLS") * 4 / 10))" 1
 
 # The policy in --help allows the calls that were made, and no others.
 pascal_case() {
@@ -202,6 +233,25 @@ is 'more routes' "$status $(cat "$room/out") $(said)" \
 collect "$collect" --profile shop --profile nobody
 is 'no such profile' "$status $(cat "$room/out")" '1 '
 
+# What aws says of a call that fails stands above the line that names it, and no other call is begun. Of some that fail it is the first.
+collect env FAILS=describe-route-tables TAKES=0.2 "$collect"
+is 'what aws says' "$(tail -n 2 "$room/err")" 'An error occurred (UnauthorizedOperation) when calling describe-route-tables: You are not authorized to perform this operation.
+collect-bundle: aws ec2 describe-route-tables failed; nothing is printed'
+is 'no other call' "$(($(wc -l <"$CALLS") < 10))" 1
+for _ in 1 2 3; do
+    collect env FAILS=describe-vpc-peering-connections "$collect" --vpc vpc-shop
+    is 'the first of two that fail' "$status $(tail -n 1 "$room/err")" '1 collect-bundle: aws ec2 describe-vpc-peering-connections --filters Name=requester-vpc-info.vpc-id,Values=vpc-shop failed; nothing is printed'
+done
+# Where it is ended, the calls end with it.
+: >"$room/beside"
+env BESIDE="$room/beside" TAKES=1.5 "$collect" >"$room/out" 2>/dev/null &
+it=$!
+sleep 4
+kill $it
+wait $it
+is 'ended' "$? $(cat "$room/out") $(grep -c begins "$room/beside") $(grep -c ends "$room/beside")" "1  $(grep -c begins "$room/beside") $(grep -c begins "$room/beside")"
+is 'ended: calls too' "$(($(grep -c killed "$room/beside") > 0))" 1
+
 # Words.
 for it in '--profile' '--profile --vpc' '--region' '--vpc' '--vpc subnet-1' '--vpc vpc-1,vpc-2' 'shop' '--all' \
     '--profile=' '--region=' '--vpc=' '--vpc=subnet-1' '--vpc=vpc-1,vpc-2' '--help=all' \
@@ -221,7 +271,7 @@ for it in bash cat env; do ln -s "$(command -v $it)" "$room/bin/$it"; done
 collect env PATH="$room/bin" "$collect"
 is 'no aws' "$status $(cat "$room/err")" '2 collect-bundle: there is no aws in PATH; --help says more'
 # Without python3, and where it was copied alone, survey isn't asked.
-for it in dirname jq mkdir mktemp mv readlink rm sed sh; do ln -s "$(command -v $it)" "$room/bin/$it"; done
+for it in date dirname jq mkdir mkfifo mktemp mv readlink rm sed sh; do ln -s "$(command -v $it)" "$room/bin/$it"; done
 note='collect-bundle: note: what of it is not followed is not told: that takes python3, and survey beside collect-bundle'
 collect env PATH="$here/account:$room/bin" "$collect"
 is 'no python3' "$status $(told '.Vpcs | length') $(tail -n 1 "$room/err")" "0 1 $note"
