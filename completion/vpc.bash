@@ -3,7 +3,8 @@
 #
 #     source CHECKOUT/completion/vpc.bash
 #
-# The commands and their words are those in the list of the launcher that is called, else of the one beside this folder.
+# The commands and their words are those in the list of the launcher that is called, else of the one beside this folder. vpc.zsh and
+# vpc.fish call this file as a script, with the words of the line.
 
 _vpc_beside=$(cd -- "$(dirname -- "${BASH_SOURCE[0]}")/.." 2>/dev/null && pwd)/vpc
 
@@ -42,16 +43,21 @@ _vpc_words() {
     done
 }
 
-# What a place of the kind $1 may have that begins with $2; the bundles of the line follow. Kinds are the words in the list:
-# those in small letters stand for themselves, and what isn't told apart here is the name of a file.
+# What a place of the kind $1 may have that begins with $2, where that is no file; the bundles of the line follow. Kinds are the words
+# in the list: those in small letters stand for themselves, and what isn't told apart here is the name of a file.
 _vpc_fill() {
     case $1 in
     END) _vpc_ends "${@:2}" ;;
     LABEL) _vpc_words "$2" 'open answer' ;;
     PROTO) _vpc_words "$2" 'tcp udp icmp' ;;
-    SRC | DST | P | Q | N | PREFIX | A-B) ;;
+    A-B) ;;
     *[!A-Z]*) _vpc_words "$2" "$1" ;;
-    *) compgen -f -- "$2" ;;
+    esac
+}
+
+_vpc_is_file() {
+    case $1 in
+    '' | END | LABEL | PROTO | SRC | DST | P | Q | N | PREFIX | *[!A-Z]*) return 1 ;;
     esac
 }
 
@@ -89,9 +95,25 @@ _vpc_place() {
     fi
 }
 
+# Finds for the launcher that is called as $1 what may stand in the place of the last of the words that follow: the kind of the place,
+# and the bundles among the words.
+_vpc_look() {
+    local list line at=$(($# - 1))
+    list=$(_vpc_commands "$1")
+    shift
+    kind='' bundles=()
+    if ((at < 2)); then
+        kind="$(cut -d ' ' -f 1 <<<"$list" | uniq) help"
+    else
+        while IFS= read -r line; do
+            [[ $line != "$1 "* ]] || _vpc_place "$line" "${@:1:at - 1}"
+        done <<<"$list"
+    fi
+}
+
 # Called with the command as it was typed and the word that readline completes.
 _vpc() {
-    local list line words at begun before kind='' bundles=()
+    local words at begun before kind bundles
     COMPREPLY=()
     # (readline's own words end at : and =, which may stand in the name of a file, and have the \ before a blank)
     # shellcheck disable=SC2162
@@ -99,20 +121,35 @@ _vpc() {
     words=("${words[@]/#'~/'/$HOME/}")
     at=$((${#words[@]} - 1))
     begun=${words[at]%x}
-    list=$(_vpc_commands "$1")
-    if ((at < 2)); then
-        kind="$(cut -d ' ' -f 1 <<<"$list" | uniq) help"
+    _vpc_look "$1" "${words[@]:1:at - 1}" "$begun"
+    if _vpc_is_file "$kind"; then
+        compopt -o filenames 2>/dev/null
+        mapfile -t COMPREPLY < <(compgen -f -- "$begun")
     else
-        while IFS= read -r line; do
-            [[ $line != "${words[1]} "* ]] || _vpc_place "$line" "${words[@]:1:at - 1}"
-        done <<<"$list"
+        mapfile -t COMPREPLY < <(_vpc_fill "$kind" "$begun" "${bundles[@]}")
     fi
-    [[ $kind ]] || return 0
-    [[ $kind == *[!A-Z]* || $kind == END ]] || compopt -o filenames 2>/dev/null
-    mapfile -t COMPREPLY < <(_vpc_fill "$kind" "$begun" "${bundles[@]}")
     # What readline has before its own word is there already.
     before=${begun%"$2"}
     [[ $begun != *"$2" || -z $before ]] || COMPREPLY=("${COMPREPLY[@]#"$before"}")
 }
 
-complete -F _vpc vpc
+# The script: its words are those of a line up to the cursor, the launcher first. It prints 'files' where the last one is the name of a
+# file, else 'words' and, a line each, what it may be.
+_vpc_print() {
+    local kind bundles
+    (($# > 1)) || return 0
+    set -- "${@/#'~/'/$HOME/}"
+    _vpc_look "$@"
+    if _vpc_is_file "$kind"; then
+        echo files
+    else
+        echo words
+        _vpc_fill "$kind" "${*: -1}" "${bundles[@]}"
+    fi
+}
+
+if [[ ${BASH_SOURCE[0]} == "$0" ]]; then
+    _vpc_print "$@"
+else
+    complete -F _vpc vpc
+fi

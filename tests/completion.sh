@@ -1,7 +1,7 @@
 #!/bin/bash
-# Tests of completion/vpc.bash: tests/completion.sh [PROGRAM]. They call its function as bash does, and bash itself with keys typed where
-# `script` is there. With PROGRAM they ask whether the list in the launcher, from which it takes its words, has the commands
-# of that program and no others. The last line is 'N passed, M failed, K skipped'.
+# Tests of completion/: tests/completion.sh [PROGRAM]. They call the function of vpc.bash as bash does, and bash itself with keys typed where
+# `script` is there; then those of vpc.zsh and vpc.fish, where zsh and fish are there. With PROGRAM they ask whether the list in the
+# launcher, from which the words are taken, has the commands of that program and no others. The last line is 'N passed, M failed, K skipped'.
 here=$(cd -- "$(dirname -- "$0")" && pwd)
 top=$(dirname -- "$here")
 [[ -z ${1-} || $1 == /* ]] || set -- "$PWD/$1"
@@ -225,6 +225,106 @@ if command -v script >/dev/null; then
 else
     skipped=$((skipped + 1))
     echo 'skipped: there is no script, which stands for a terminal'
+fi
+
+# The other shells tell what bash does, at each kind of place; of the name of a file, that it is one.
+cat >"$room/zsh" <<'END'
+compdef() {}
+source $1
+# (what completion is told, and how zsh has the words of a line)
+compadd() { [[ $1 == -- ]] && shift; seen=(words "$@") }
+_files() { seen=(files) }
+while IFS= read -r line; do
+    words=(${(z)line}) seen=()
+    [[ $line != *' ' ]] || words+=('')
+    CURRENT=$#words PREFIX=$words[-1]
+    _vpc
+    print -r -- "${(j:|:)seen}"
+done
+END
+cat >"$room/fish" <<'END'
+source $argv[1]
+while read -l line
+    string join '|' words (complete -C "$line" | sort)
+end
+END
+# What vpc.bash tells of such a line, called as they call it.
+script_says() {
+    local it
+    read -ra it <<<"$1"
+    [[ $1 != *' ' ]] || it+=('')
+    bash "$top/completion/vpc.bash" "${it[@]}" | paste -sd '|'
+}
+cd "$room/work" || exit
+cp "$top/examples/one-subnet.json" 'two words.json'
+same=('./vpc ' './vpc tr' './vpc x' './vpc x ' './vpc help ' './vpc ask shop.json ' './vpc ask shop.json from ' './vpc ask shop.json from eni-'
+    './vpc ask none from ' './vpc ask odd.json from a' './vpc trace shop.json ' './vpc trace shop.json open from eni-app ' './vpc make '
+    './vpc trace shop.json open from eni-app tcp ' "$query " "$query s" "$query src 10.0.0.0/8 " "$query max 5 " "$query things 5 "
+    './vpc diff shop.json one-subnet.json from eni-' './vpc .* ')
+others=('./other map shop.json ' './other w' './none ' './built as')
+for shell in zsh fish; do
+    if ! command -v "$shell" >/dev/null; then
+        skipped=$((skipped + 1))
+        echo "skipped: there is no $shell"
+        continue
+    fi
+    as=(-f)
+    [[ $shell == zsh ]] || as=(--no-config)
+    # What it tells of each of some lines, with the words sorted.
+    tells() {
+        printf '%s\n' "$@" | "$shell" "${as[@]}" "$room/$shell" "$top/completion/vpc.$shell" 2>&1
+    }
+    sorted() {
+        while IFS='|' read -ra words; do
+            printf '%s\n' "${words[@]:1}" | sort | paste -sd '|'
+        done
+    }
+    mapfile -t found < <(tells "${same[@]}" | sorted)
+    for k in "${!same[@]}"; do
+        is "$shell: ${same[k]}" "${found[k]}" "$(script_says "${same[k]}" | sorted)"
+    done
+    # (fish looks at the command's name before it asks)
+    [[ $shell == fish ]] || for it in "${others[@]}"; do
+        is "$shell: $it" "$(tells "$it" | sorted)" "$(script_says "$it" | sorted)"
+    done
+    is "$shell: words with blanks" "$(tells "./vpc ask two\\ words.json from eni-" './vpc ask "two words.json" from eni-' | paste -sd ' ')" \
+        'words|eni-a|eni-b words|eni-a|eni-b'
+    # shellcheck disable=SC2088 # (as it is typed)
+    is "$shell: below ~" "$(HOME=$room/work tells '~/vpc ask ~/shop.json from eni-w')" 'words|eni-web'
+    if [[ $shell == zsh ]]; then
+        is "zsh: a file" "$(tells './vpc ask one' './vpc check shop.json ' | paste -sd ' ')" 'files files'
+    else
+        is "fish: a file" "$(tells './vpc ask one-s' './vpc check shop.json two' | paste -sd ' ')" 'words|one-subnet.json words|two words.json'
+        is "fish: a variable before it" "$(tells 'VPC_QUIET=1 ./vpc ask shop.json from eni-w')" 'words|eni-web'
+    fi
+    cd "$room/strange" || exit
+    is "$shell, hostile: commands" "$(tells './vpc ' | sorted)" 'good|help'
+    is "$shell, hostile: a word of its own" "$(tells './vpc good one-subnet.json ')" 'words|ask'
+    for it in ask alpha beta gamma delta epsilon zeta eta theta iota; do
+        is "$shell, hostile: behind $it" "$(tells "./vpc $it one-subnet.json " "./vpc $it one-subnet.json from " | sort -u | sed 's/^words$//' | tr -d '\n')" ''
+    done
+    # shellcheck disable=SC2016
+    for it in '$(>ran)' '`>ran`' '${x[$(>ran)]}' '<(>ran)' '(>ran)' '=(>ran)' '*(e:">ran":)' "'\$(>ran)" '"$(>ran)'; do
+        tells "./vpc $it" "./vpc good $it" "./vpc good one-subnet.json $it" "./vpc good one-subnet.json ask from $it" "./vpc $it " "$it " "./vpc good $it ask from " >/dev/null
+    done
+    is "$shell, hostile: nothing was called" "$(echo ./*)" './one-subnet.json ./vpc'
+    cd "$room/work" || exit
+done
+
+# zsh itself, with keys typed.
+if command -v script >/dev/null && command -v zsh >/dev/null; then
+    cd "$room/typed" || exit
+    rm -f told ended
+    printf '%s\n' "autoload -Uz compinit && compinit -u -d '$room/dump'" "source '$top/completion/vpc.zsh'" 'unsetopt beep' >.zshrc
+    {
+        printf './vpc as\tmy\tf\teni-w\tt\tint\tpo\t443-443\n'
+        printf './vpc tr\tat\top\tf\teni-ap\tu\t10.0.2.10\n'
+        printf 'VPC_QUIET=1 ./vpc rep\tfol\t\tat-12\t\n>ended\nexit\n'
+        for _ in {1..300}; do [[ ! -e ended ]] && sleep 0.1; done
+    } | ZDOTDIR=$room/typed HISTFILE='' TERM=xterm timeout 60 script -qec 'zsh -i' /dev/null >seen 2>&1
+    is 'zsh: typed at a terminal' "$(cat told)" \
+        '<ask><my shop.json><from><eni-web><to><internet><port><443-443><trace><at-12:00.json><open><from><eni-app><udp><10.0.2.10><replay><folder/shop.json><at-12:00.json>'
+    cd "$room" || exit
 fi
 
 printf '%s passed, %s failed, %s skipped\n' "$passed" "$failed" "$skipped"
