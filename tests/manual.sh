@@ -34,18 +34,29 @@ while read -r words; do
 done <<END
 $list
 END
-is 'as many commands' "$(printf '%s' "$synopsis" | grep -o ' vpc ' | wc -l)" "$(printf '%s\n' "$list" | wc -l)"
+is 'help' "$(printf '%s' "$synopsis" | grep -c ' vpc help \[COMMAND\] vpc --version ')" 1
+is 'as many commands' "$(printf '%s' "$synopsis" | grep -o ' vpc ' | wc -l)" "$(($(printf '%s\n' "$list" | wc -l) + 2))"
+
+# The words that the launcher answers itself.
+for it in help -h --help --version; do
+    is "$it" "$(section DESCRIPTION | grep -c -e " ${it}[ ,]")$("$top/vpc" "$it" >/dev/null 2>&1; echo ", status $?")" '1, status 0'
+done
+# Each file of completion/ and launcher/ is told of.
+for it in "$top"/completion/* "$top"/launcher/*; do
+    is "files: $it" "$(section FILES | grep -c -F "${it#"$top/"}")" 1
+done
 
 # The variables that the launcher reads, each exit status, and files that are there.
 is 'environment' "$(section ENVIRONMENT | grep -o 'VPC_[A-Z]*' | sort -u)" "$(grep -o '[{]VPC_[A-Z]*' "$top/vpc" | tr -d '{' | sort -u)"
 is 'exit status' "$(sed -n '/^.Sh EXIT STATUS/,/^.El/s/^.It \([0-9]*\)$/\1/p' "$top/vpc.1" | tr '\n' ' ')" '0 1 2 3 4 5 6 7 8 125 '
 while read -r it; do
     case $it in
-    out/* | prebuilt/) ;;
+    '' | out/* | prebuilt/) ;;
+    /*) is "$it is what the launcher calls" "$(grep -c -F "$it" "$top/vpc")" 1 ;;
     *) is "$it is there" "$([ -e "$top/$it" ] && echo yes)" yes ;;
     esac
 done <<END
-$(sed -n 's/^\(.It \)\{0,1\}[.]*Pa \([^ ]*\).*/\2/p' "$top/vpc.1" | sort -u)
+$(sed -n 's/^\(.It \)\{0,1\}[.]*Pa \(.*\)/\2/p' "$top/vpc.1" | sed 's/ [,:;.]/ /g' | tr -s ' ' '\n' | sort -u)
 END
 
 printf '%s passed, %s failed\n' "$passed" "$failed"
