@@ -2,7 +2,7 @@
 # Says in words why the program refused something: refusals.sh STATUS CHECKOUT WORD.., called by the launcher after a run that ended
 # with that status. It runs the program once more to see what it printed, as far as each file can be read a second time.
 # Of what comes from words and files it prints nothing but visible letters.
-status=$1 top=$2
+self=$0 status=$1 top=$2
 shift 2
 program=$top/out/vpc
 export LC_ALL=C
@@ -316,6 +316,16 @@ refused_description() {
     esac
 }
 
+# Which word of a line is wrong, as that is told of a command ($2) with the same words ($3), which has $1 words more before them.
+word_of_line() {
+    # shellcheck disable=SC2086 # (the words of the line are meant)
+    said=$(sh "$self" 4 "$top" "$2" "$first" $3)
+    number=${said#vpc: word }
+    number=${number%%[!0-9]*}
+    is_number "$number" && [ "$number" -gt "$1" ] &&
+        printf 'word %s%s' $((number - $1)) "${said#"vpc: word $number"}"
+}
+
 # A line of the second or third file isn't what belongs there.
 refused_line() {
     file=$second what='' name=
@@ -337,7 +347,19 @@ refused_line() {
         case $line in
         *"$(printf '\r')") tell "line $2 of $name ends with a carriage return: tr -d '\\r' takes these out" ;;
         '') tell "line $2 of $name, which is empty or missing, $what" ;;
-        *) tell "line $2 of $name, \"$(shown "$line")\", $what" ;;
+        *)
+            found=
+            case ${#line}:$1:$line in
+            400:*) ;;
+            *:events:*) found=$(word_of_line 2 trace "$line") ;;
+            *:'rules:reachable '* | *:'rules:blocked '* | *:'rules:open '*) found=$(word_of_line 1 ask "${line#* }") ;;
+            esac
+            if [ -n "$found" ]; then
+                tell "line $2 of $name: $found"
+            else
+                tell "line $2 of $name, \"$(shown "$line")\", $what"
+            fi
+            ;;
         esac
         ;;
     esac

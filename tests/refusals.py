@@ -117,6 +117,10 @@ SENTENCES = [
     # lines
     (f"replay {ONE} lines.txt", f'line 2 of lines.txt, "open eni-a", is no packet of {ONE}: a line is LABEL from END PROTO SRC DST P Q'),
     (f"expect {ONE} rules.txt", f'line 3 of rules.txt, "closed from eni-a to eni-b", is no rule about {ONE}: a line is reachable, blocked or open, and the words of ask behind FILE, without max'),
+    (f"expect {ONE} ports.txt", 'line 2 of ports.txt: word 7, "443", is no range: write 443-443'),
+    (f"expect {ONE} ends.txt", f'line 1 of ends.txt: word 5, "eni-x", is neither internet nor the id of an interface of {ONE}'),
+    (f"expect {ONE} most.txt", f'line 1 of most.txt, "reachable from eni-a to eni-b max 5", is no rule about {ONE}: a line is reachable, blocked or open, and the words of ask behind FILE, without max'),
+    (f"replay {ONE} address.txt", 'line 2 of address.txt: word 5, "10.0.1.010", is no IPv4 address, such as 10.0.1.10'),
     (f"flows {ONE} lines.txt", 'line 1 of lines.txt, "open from eni-a tcp 10.0.1.10 10.0.1.20 1 2", is no line of a flow log of version 2 in the default format'),
     (f"check {ONE} lines.txt", 'line 1 of lines.txt, "open from eni-a tcp 10.0.1.10 10.0.1.20 1 2", is not what a report about this has there'),
     (f"check {ONE} {ONE} lines.txt", 'line 1 of lines.txt, "open from eni-a tcp 10.0.1.10 10.0.1.20 1 2", is not what a report about this has there'),
@@ -161,6 +165,10 @@ def write_files(room):
         "rules.txt": b"# hosts\n\nclosed from eni-a to eni-b\n",
         "windows.txt": event.replace(b"\n", b"\r\n"),
         "gap.txt": b"\n" + event,
+        "ports.txt": b"# web\nreachable from eni-a to eni-b port 443\n",
+        "ends.txt": b"open from eni-a to eni-x\n",
+        "most.txt": b"reachable from eni-a to eni-b max 5\n",
+        "address.txt": event + event.replace(b"10.0.1.10", b"10.0.1.010"),
     }
     with open(os.path.join(TOP, "examples", "shop.json"), "rb") as file:
         files["shop.json"] = file.read()
