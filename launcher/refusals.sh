@@ -396,7 +396,7 @@ fi
 if [ "$status" != 2 ]; then
     for it in "$first" "$second" "$third"; do
         if [ -e "$it" ] && [ ! -f "$it" ] && [ ! -d "$it" ]; then
-            tell 'docs/FAQ.md, "When it refuses", tells what each refusal means'
+            tell "$(shown "$it") can't be read twice, so this tells no more: docs/FAQ.md, \"When it refuses\", has what each refusal means"
             exit
         fi
     done

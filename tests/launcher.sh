@@ -706,7 +706,7 @@ mv "$door/gone" "$door/launcher"
 mkfifo "$room/once"
 echo read >"$room/once" &
 start "$no_kit" env REFUSES='refused description NotJson' ENDS=3 "$door/vpc" matrix "$room/once"
-is 'a pipe is not read again' "$status $out $err" '3 refused description NotJson vpc: docs/FAQ.md, "When it refuses", tells what each refusal means'
+is 'a pipe is not read again' "$status $out $err" "3 refused description NotJson vpc: $room/once can't be read twice, so this tells no more: docs/FAQ.md, \"When it refuses\", has what each refusal means"
 wait
 
 # A signal that ends the program ends the launcher, and one that ends the launcher ends the program, where setpriv is there.
