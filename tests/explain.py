@@ -18,7 +18,6 @@ import json
 import os
 import random
 import re
-import runpy
 import subprocess
 import sys
 import tempfile
@@ -26,6 +25,14 @@ import tempfile
 import networks
 
 TOP = os.path.dirname(os.path.dirname(os.path.abspath(__file__)))
+sys.path.insert(0, TOP)
+
+from scripts import explain as script
+from scripts.explain_network import Network
+from scripts.explain_walk import Walker, round_trip
+from scripts.headers import Header, address, block_of, dotted, low_corner
+from scripts.words import PROTOCOL_NUMBERS, STOPS as ALL_STOPS
+
 DATA = os.path.join(TOP, "crates", "cli_rows", "data")
 ANYWHERE = "0.0.0.0/0"
 
@@ -270,7 +277,7 @@ def explain(data, *words):
     before, sys.stdin = sys.stdin, Input(data.encode() if isinstance(data, str) else data)
     try:
         with contextlib.redirect_stdout(out), contextlib.redirect_stderr(err):
-            status = EXPLAIN["main"](list(words))
+            status = script.main(list(words))
     finally:
         sys.stdin = before
     return status, out.getvalue(), err.getvalue()
@@ -343,7 +350,6 @@ def by_id(bundle, name, member, wanted):
 def mended(bundle, stop):
     """Changes a bundle as the sentence of a stop says. Whether there is such a change that a test can make."""
     facts, h = stop.facts, stop.facts.get("header")
-    dotted = EXPLAIN["dotted"]
     if stop.name in ("GroupsIn", "GroupsOut"):
         interface = by_id(bundle, "NetworkInterfaces", "NetworkInterfaceId", stop.id)
         outward = stop.name == "GroupsOut"
@@ -393,7 +399,7 @@ def mended(bundle, stop):
 
 
 def block_text(text):
-    return EXPLAIN["block_text"](EXPLAIN["block_of"](text)) if text else None
+    return str(block_of(text)) if text else None
 
 
 def turned(bundle, note):
@@ -415,21 +421,32 @@ def turned(bundle, note):
     if kind == "transit":
         table, chosen = of
         for it in by_id(bundle, "TransitGatewayRoutes", "TransitGatewayRouteTableId", table)["Routes"]:
-            if block_text(it["DestinationCidrBlock"]) == EXPLAIN["block_text"](chosen.block):
+            if block_text(it["DestinationCidrBlock"]) == str(chosen.block):
                 it["State"] = "blackhole"
-        return f"TgwBlackhole {table} {EXPLAIN['block_text'](chosen.block)}"
+        return f"TgwBlackhole {table} {chosen.block}"
     return None
 
 
 def block_text_of(chosen):
-    return EXPLAIN["block_text"](chosen.block) if chosen.block else chosen.list
+    return str(chosen.block) if chosen.block else chosen.list
+
+
+def header_of(words):
+    """The header of five words."""
+    proto, src, dst, p, q = words
+    return Header(PROTOCOL_NUMBERS.get(proto) or int(proto), address(src), address(dst), int(p), int(q))
+
+
+def box_of(text):
+    """The five ranges of a box."""
+    return [tuple((address if side in (1, 2) else int)(it) for it in ends.split("-")) for side, ends in enumerate(text.split(" "))]
 
 
 def walk_of(network, words, text):
     """The walk of a packet's words that is the text: its hops and its end."""
     label, _, start, *header = words.split(" ")
-    hops, end = EXPLAIN["Walker"](network).walk(label, start, EXPLAIN["header_of"](" ".join(header)))
-    assert "\n".join([*EXPLAIN["printed_walk"](hops, end), ""]) == text
+    hops, end = Walker(network).walk(label, start, header_of(header))
+    assert "\n".join([*script.printed_walk(hops, end), ""]) == text
     return hops, end
 
 
@@ -463,7 +480,7 @@ def run_random(results, asked, cases):
 
 def try_trace(wrong, told_of, asked, bundle, words, answer, name):
     """Turns all that let the packet pass, one after the other, and changes what would have to change."""
-    network = EXPLAIN["Network"](bundle if isinstance(bundle, list) else [bundle])
+    network = Network(bundle if isinstance(bundle, list) else [bundle])
     hops, end = walk_of(network, words, answer)
     tried = 0
     for number, hop in enumerate(hops, 1):
@@ -490,26 +507,26 @@ def try_trace(wrong, told_of, asked, bundle, words, answer, name):
 
 def try_report(wrong, told_of, asked, bundle, words, answer, name):
     """Changes what would have to change for the first packet of a row, which then isn't stopped as the row says."""
-    network, tried = EXPLAIN["Network"]([bundle]), 0
+    network, tried = Network([bundle]), 0
     start, goal = re.search(r"^query from (\S+) to (\S+)$", answer, re.M).groups()
     seen = set()
     for it in re.finditer(r"^row \d+ (request|reply) (\S+ \S+ \S+) (.*)$", answer, re.M):
         if it[2] in seen or len(seen) == 5:
             continue
         seen.add(it[2])
-        header = EXPLAIN["low_corner"](EXPLAIN["box_of"](it[3]))
-        told = EXPLAIN["round_trip"](network, start, goal, header)
+        header = low_corner(box_of(it[3]))
+        told = round_trip(network, start, goal, header)
         told_of.add(told.stop.name)
         other = copy.deepcopy(bundle)
         if mended(other, told.stop):
             tried += 1
-            narrow = f"from {start} to {goal} proto {header.proto} src {EXPLAIN['dotted'](header.src)}/32 dst {EXPLAIN['dotted'](header.dst)}/32"
+            narrow = f"from {start} to {goal} proto {header.proto} src {dotted(header.src)}/32 dst {dotted(header.dst)}/32"
             narrow += f" sport {header.p}-{header.p} port {header.q}-{header.q}" if header.proto in (1, 6, 17) else ""
             before, after = asked.answer(bundle, "ask", narrow), asked.answer(other, "ask", narrow)
             if f"{it[1]} {it[2]} " not in before or after.startswith("refused") and "TwoInternetGateways" not in after:
                 wrong.append((name, it[2], before, after))
             elif f"{it[1]} {it[2]} " in after:
-                again = EXPLAIN["round_trip"](EXPLAIN["Network"]([other]), start, goal, header)
+                again = round_trip(Network([other]), start, goal, header)
                 if (len(again.request), len(again.reply or [])) <= (len(told.request), len(told.reply or [])):
                     wrong.append((name, it[2], "it still stops there"))
     return tried
@@ -729,7 +746,7 @@ def main():
         asked = Asked(os.path.abspath(told.program), folder)
         for it in STOPS:
             run_stop(results, asked, it)
-        results.add("all stops", {it[0].split(",")[0].split(" ")[0] for it in STOPS}, set(EXPLAIN["NAMES"]))
+        results.add("all stops", {it[0].split(",")[0].split(" ")[0] for it in STOPS}, set(ALL_STOPS))
         run_examples(results, asked)
         run_others(results, asked)
         run_forged(results, asked)
@@ -741,5 +758,4 @@ def main():
 
 
 if __name__ == "__main__":
-    EXPLAIN = runpy.run_path(os.path.join(TOP, "explain"))
     sys.exit(main())

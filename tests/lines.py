@@ -14,12 +14,14 @@ import itertools
 import json
 import os
 import random
-import runpy
 import subprocess
 import sys
 import tempfile
 
 TOP = os.path.dirname(os.path.dirname(os.path.abspath(__file__)))
+sys.path.insert(0, TOP)
+
+from scripts import lines as script
 
 # Each line of a text, and below it what it tells. An empty line ends a text.
 TOLD = """
@@ -671,15 +673,15 @@ class Results:
 def to_json(data):
     """The JSON lines of a text; None where it is refused."""
     try:
-        return LINES["json_of"](data)
-    except LINES["NoText"]:
+        return script.json_of(data)
+    except script.NoText:
         return None
 
 
 def to_text(data):
     try:
-        return LINES["text_of"](data)
-    except LINES["NoText"]:
+        return script.text_of(data)
+    except script.NoText:
         return None
 
 
@@ -845,5 +847,4 @@ def main(words):
 
 
 if __name__ == "__main__":
-    LINES = runpy.run_path(os.path.join(TOP, "lines"))
     sys.exit(main(sys.argv[1:]))

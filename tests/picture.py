@@ -17,13 +17,17 @@ import os
 import random
 import re
 import resource
-import runpy
 import subprocess
 import sys
 import tempfile
 import xml.etree.ElementTree as xml
 
 TOP = os.path.dirname(os.path.dirname(os.path.abspath(__file__)))
+sys.path.insert(0, TOP)
+
+from scripts import picture as script, picture_classes, picture_matrix, picture_reports, picture_ways
+from scripts.bundles import printable
+
 SVG = "{http://www.w3.org/2000/svg}"
 AWS = "eni-0123456789abcdef0"
 
@@ -220,7 +224,7 @@ def picture(data, *words):
     before, sys.stdin = sys.stdin, Input(data.encode() if isinstance(data, str) else data)
     try:
         with contextlib.redirect_stdout(out), contextlib.redirect_stderr(err):
-            status = PICTURE["main"](list(words))
+            status = script.main(list(words))
     finally:
         sys.stdin = before
     return status, out.getvalue(), err.getvalue()
@@ -234,8 +238,8 @@ def words_of(svg):
 
 def strange_words(svg, text, names):
     """Words of a picture that stand neither in the text, nor in the names, nor among its own; numbers aside."""
-    told = set(re.split(r"[\s:]+", text)) | {part for it in text.split() for part in it.split("-")} | set(PICTURE["OWN_WORDS"])
-    told |= {word for it in re.findall(r'"((?:[^"\\]|\\.)*)"', names) for word in re.split(r"[\s,;:.()]+", PICTURE["printable"](json.loads(f'"{it}"')))}
+    told = set(re.split(r"[\s:]+", text)) | {part for it in text.split() for part in it.split("-")} | set(script.OWN_WORDS)
+    told |= {word for it in re.findall(r'"((?:[^"\\]|\\.)*)"', names) for word in re.split(r"[\s,;:.()]+", printable(json.loads(f'"{it}"')))}
     parts = {word for it in told for word in re.split(r"[,;:.()]+", it)}
     return sorted({it for it in words_of(svg) if it not in told and it not in parts and not re.fullmatch(r"[0-9-]+", it)})
 
@@ -366,7 +370,7 @@ def run_classes(results):
             value = told[kinds[a], kinds[b]] if rng.random() < 0.93 else rng.randrange(3)
             if value:
                 cells.setdefault(a, {})[b] = value
-        found = {frozenset(it.ids) for it in PICTURE["fold"](ids, cells)}
+        found = {frozenset(it.ids) for it in picture_classes.fold(ids, cells)}
         wanted = {frozenset(it for it in ids if it == own or exchanged(ids, cells, own, it)) for own in ids}
         if found != wanted:
             results.add(f"classes, case {case}", (found, cells), wanted)
@@ -377,8 +381,8 @@ def run_classes(results):
 def run_matrix(results, seed, hosts, kinds):
     """Each pair stands in the cell of its classes, with what the text says of it."""
     text = matrix_text(seed, hosts, kinds)
-    told = PICTURE["read_text"](text.encode())
-    folded = PICTURE["Folded"](told)
+    told = script.read_text(text.encode())
+    folded = picture_matrix.Folded(told)
     at = {it: k for k, row in enumerate(folded.classes) for it in row.ids}
     pairs = {}
     for line in text.splitlines()[1:]:
@@ -388,7 +392,7 @@ def run_matrix(results, seed, hosts, kinds):
     words = {number: "open " + " ".join(f"{a}-{b}" for a, b in it) if isinstance(it, list) else it for number, it in told.values.items()}
     found = {(r, c): {words[value]: count for value, count in of.items()} for r, row in enumerate(folded.cells) for c, of in enumerate(row) if of}
     results.add(f"cells of a matrix of {hosts}", found, wanted)
-    results.add(f"few classes of a matrix of {hosts}", len(folded.classes) <= PICTURE["MOST_CLASSES"], True)
+    results.add(f"few classes of a matrix of {hosts}", len(folded.classes) <= picture_matrix.MOST_CLASSES, True)
     counts = [len(it.ids) for it in folded.classes]
     svg = check_picture(results, f"a matrix of {hosts}, {kinds} kinds", text)
     shown_counts = [int(it.replace(",", "")) for it in re.findall(r"class \d+: (?:[^;]*?, )?([\d,]+) interfaces", svg.find(SVG + "desc").text)]
@@ -446,10 +450,10 @@ def run_planes(results):
     for seed in range(30):
         rows = (1, 2, 5, 20, 60, 200)[seed % 6]
         text = report_text(seed, rows, seed % 3 == 2)
-        told = PICTURE["read_text"](text.encode())
-        reasons = PICTURE["Reasons"](told)
-        across, down = PICTURE["axes_of"](told)
-        cells = PICTURE["cells_of"](told, [reasons.mark(it) for it in told.rows], across, down)
+        told = script.read_text(text.encode())
+        reasons = picture_reports.Reasons(told)
+        across, down = picture_reports.axes_of(told)
+        cells = picture_reports.cells_of(told, [reasons.mark(it) for it in told.rows], across, down)
         wrong = []
         for axis in (across, down):
             held = sorted(it for piece in axis.pieces for it in piece)
@@ -462,7 +466,7 @@ def run_planes(results):
             if set(cells[line][column]) != wanted:
                 wrong.append((line, column))
         results.add(f"a plane of {len(told.rows)} rows", wrong, [])
-        drawn = sum((right - left) * (bottom - top) for left, top, right, bottom, _ in PICTURE["rectangles"](cells))
+        drawn = sum((right - left) * (bottom - top) for left, top, right, bottom, _ in picture_reports.rectangles(cells))
         results.add(f"its rectangles, {len(told.rows)} rows", drawn, len(across.pieces) * len(down.pieces))
         check_picture(results, f"a report of {len(told.rows)} rows, {seed}", text)
 
@@ -489,12 +493,12 @@ def run_ways(results):
     """Each row is in one way, with its start, end, ports and stop, and a way holds no other."""
     for seed in range(40):
         text = diff_text(seed, 200)
-        told = PICTURE["read_text"](text.encode())
+        told = script.read_text(text.encode())
         found = []
-        for word, starts, ends, rows in PICTURE["folds_of"](told.rows, lambda it: it.word, PICTURE["note_of"]):
+        for word, starts, ends, rows in picture_ways.folds_of(told.rows, lambda it: it.word, picture_ways.note_of):
             signs = {(chip, note) for chip, note, _ in rows}
             found += [(word, a, b, *it) for a in starts for b in ends if a != b or (a, b) in {(it.start, it.end) for it in told.rows} for it in signs]
-        wanted = [(it.word, it.start, it.end, PICTURE["chip_of"](it.box, it.start, it.end), PICTURE["note_of"](it)) for it in told.rows]
+        wanted = [(it.word, it.start, it.end, picture_ways.chip_of(it.box, it.start, it.end), picture_ways.note_of(it)) for it in told.rows]
         results.add(f"ways of {len(told.rows)} rows", sorted(found), sorted(set(wanted)))
         check_picture(results, f"a change of {len(told.rows)} rows", text)
 
@@ -535,10 +539,10 @@ def run_large(results):
         svg = check_picture(results, name, text)
         results.add(f"{name}: size", len(ran.stdout) < 700_000, True)
         if "report" in name:
-            report = PICTURE["read_text"](text.encode())
-            parts = PICTURE["Reasons"](report).components.values()
+            report = script.read_text(text.encode())
+            parts = picture_reports.Reasons(report).components.values()
             told = svg.find(SVG + "desc").text
-            results.add(f"{name}: components", sum(map(len, parts)), sum(int(it.replace(",", "")) for it in re.findall(r"and ([\d,]+) more", told)) + sum(min(len(it), PICTURE["MOST_COMPONENTS"]) for it in parts))
+            results.add(f"{name}: components", sum(map(len, parts)), sum(int(it.replace(",", "")) for it in re.findall(r"and ([\d,]+) more", told)) + sum(min(len(it), picture_reports.MOST_COMPONENTS) for it in parts))
 
 
 # ---- answers of the program
@@ -590,5 +594,4 @@ def main(words):
 
 
 if __name__ == "__main__":
-    PICTURE = runpy.run_path(os.path.join(TOP, "picture"))
     sys.exit(main(sys.argv[1:]))

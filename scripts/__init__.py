@@ -1,0 +1,1 @@
+"""The scripts beside vpc: explain, lines, picture, plan-bundle and survey."""

@@ -1,0 +1,190 @@
+"""What a bundle has: its objects and rows, the names of components, and how what a file tells is printed."""
+
+from __future__ import annotations
+
+import json
+import unicodedata
+from collections.abc import Callable, Iterable, Iterator
+from typing import Any, Optional
+
+# An object of JSON: of a bundle a row of one of its lists.
+Row = dict[str, Any]
+
+# The lists that make a bundle, and the member that is the id of a row.
+LISTS = {
+    "Vpcs": "VpcId",
+    "Subnets": "SubnetId",
+    "NetworkInterfaces": "NetworkInterfaceId",
+    "RouteTables": "RouteTableId",
+    "PrefixLists": "PrefixListId",
+    "PrefixListEntries": "PrefixListId",
+    "NetworkAcls": "NetworkAclId",
+    "SecurityGroups": "GroupId",
+    "SecurityGroupRules": "SecurityGroupRuleId",
+    "InternetGateways": "InternetGatewayId",
+    "NatGateways": "NatGatewayId",
+    "VpcPeeringConnections": "VpcPeeringConnectionId",
+    "TransitGatewayVpcAttachments": "TransitGatewayAttachmentId",
+    "TransitGatewayAttachments": "TransitGatewayAttachmentId",
+    "TransitGatewayRoutes": "TransitGatewayRouteTableId",
+    "Appliances": "NetworkInterfaceId",
+}
+# What may stand beside them, which vpc reads over. (EC2 answers the options as one object)
+BESIDE = ("Reservations", "VpcBlockPublicAccessOptions", "VpcBlockPublicAccessExclusions")
+# The members of a route that may name its target: the first that is there does.
+TARGETS = (
+    "GatewayId NatGatewayId TransitGatewayId VpcPeeringConnectionId NetworkInterfaceId InstanceId "
+    "LocalGatewayId CarrierGatewayId EgressOnlyInternetGatewayId CoreNetworkArn"
+).split()
+
+
+class NoBundle(Exception):
+    """Why a file is no bundle."""
+
+
+# ---- printing
+
+# What may move a cursor, change the direction of letters or begin a line, and what is no letter.
+HARMFUL = ("Cc", "Cf", "Cs", "Cn", "Zl", "Zp")
+
+
+def harmless(value: object, form: str = "id") -> str:
+    """What a file or a word tells, so that it can be printed: it can't pass for other words, nor for
+    a line of its own, nor do anything to a terminal.
+
+    An `id` is as it is where it is one, and else in the form of JSON; `words` may have blanks. A
+    `name` is any text in one line, with a mark in the place of each letter that isn't visible. In a
+    `line` such letters alone are in the form of JSON."""
+    if form == "name":
+        seen = (unicodedata.category(it) in HARMFUL for it in str(value))
+        return " ".join("".join("\ufffd" if bad else it for it, bad in zip(str(value), seen)).split())
+    if form == "line":
+        return "".join(it if " " <= it <= "~" else json.dumps(it)[1:-1] for it in str(value))
+    first = "!" if form == "id" else " "
+    if isinstance(value, str) and value and all(first <= it <= "~" for it in value):
+        return value
+    return json.dumps(value)
+
+
+def harmless_ids(values: Iterable[object]) -> str:
+    return ", ".join(map(harmless, values))
+
+
+# ---- reading
+
+
+def no_number(text: str) -> Any:
+    raise ValueError(f"{text} is no number")
+
+
+def json_in(path: str, parse_float: Optional[Callable[[str], Any]] = None) -> Any:
+    """The JSON value of a file."""
+    with open(path, "rb") as file:
+        data = file.read()
+    try:
+        return json.loads(data.decode("utf-8"), parse_constant=no_number, parse_float=parse_float)
+    except (ValueError, RecursionError):
+        raise NoBundle("it is not one JSON value in UTF-8") from None
+
+
+def objects_of(value: Any) -> list[Row]:
+    """The objects of a bundle: it is one, or an array of them."""
+    objects = value if isinstance(value, list) else [value]
+    if not all(isinstance(it, dict) for it in objects):
+        raise NoBundle("it is neither an object nor an array of objects")
+    return objects
+
+
+def has_lists(objects: list[Row]) -> list[Row]:
+    """The objects, some of which have lists of a bundle."""
+    if not any(name in it for it in objects for name in LISTS):
+        raise NoBundle("it has none of a bundle's lists")
+    return objects
+
+
+def member(value: Any, *names: Any) -> Any:
+    """The member of a value, or of a part of it; None where there is none."""
+    for name in names:
+        if isinstance(value, dict):
+            value = value.get(name)
+        elif isinstance(value, list) and isinstance(name, int) and name < len(value):
+            value = value[name]
+        else:
+            return None
+    return value
+
+
+def rows(value: Any, *names: Any) -> list[Row]:
+    """The rows of a list, or of one that is a member. What is no row is left out."""
+    found = member(value, *names)
+    return [it for it in found if isinstance(it, dict)] if isinstance(found, list) else []
+
+
+# ---- names
+
+# The lists whose rows have a name.
+NAMED = [it for it in LISTS if it not in ("PrefixListEntries", "TransitGatewayRoutes", "Appliances")]
+
+
+def tag_of(row: Row) -> Optional[str]:
+    """The Name tag of a row."""
+    for it in rows(row, "Tags") + rows(row, "TagSet"):
+        if it.get("Key") == "Name" and isinstance(it.get("Value"), str) and printable(it["Value"]):
+            return printable(it["Value"])
+    return None
+
+
+def printable(text: str) -> str:
+    return harmless(text, "name")
+
+
+class Names:
+    """The names of components, and what interfaces have in common."""
+
+    def __init__(self, objects: Iterable[Row] = ()) -> None:
+        self.names: dict[str, str] = {}
+        self.shared: dict[str, list[str]] = {}
+        objects = list(objects)
+        instances = dict(instance_names(objects))
+        for it in objects:
+            for name in NAMED:
+                for row in rows(it, name):
+                    self.name_row(name, row)
+        for row in (row for it in objects for row in rows(it, "NetworkInterfaces")):
+            self.name_interface(row, instances)
+
+    def name_row(self, list_name: str, row: Row) -> None:
+        """By its tag, and a group or a prefix list by its own name."""
+        own = {"SecurityGroups": "GroupName", "PrefixLists": "PrefixListName"}.get(list_name)
+        row_id, name = row.get(LISTS[list_name]), tag_of(row) or (row.get(own) if own else None)
+        if isinstance(row_id, str) and isinstance(name, str) and printable(name):
+            self.names.setdefault(row_id, printable(name))
+
+    def name_interface(self, row: Row, instances: dict[str, str]) -> None:
+        """By the name of its instance, where it has none of its own."""
+        own = row.get("NetworkInterfaceId")
+        if not isinstance(own, str):
+            return
+        name = instances.get(own) or instances.get(str(member(row, "Attachment", "InstanceId")))
+        if name:
+            self.names.setdefault(own, name)
+        groups = [it.get("GroupId") for it in rows(row, "Groups")]
+        found = [row.get("Description"), *groups, row.get("SubnetId"), row.get("VpcId")]
+        told = [printable(it) for it in found if isinstance(it, str) and printable(it)]
+        self.shared.setdefault(own, told)
+
+    def of(self, component: str) -> Optional[str]:
+        """The name of a component, where it has one that its id doesn't end with."""
+        name = self.names.get(component)
+        return None if not name or f"-{component}".endswith(f"-{name}") else name
+
+
+def instance_names(objects: list[Row]) -> Iterator[tuple[str, str]]:
+    """The names of instances, by their ids and by those of their interfaces."""
+    reservations = (row for it in objects for row in rows(it, "Reservations"))
+    for instance in (it for row in reservations for it in rows(row, "Instances")):
+        name = tag_of(instance)
+        if name:
+            ids = [it.get("NetworkInterfaceId") for it in rows(instance, "NetworkInterfaces")]
+            ids.append(instance.get("InstanceId"))
+            yield from ((it, name) for it in ids if isinstance(it, str))

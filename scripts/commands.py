@@ -1,0 +1,50 @@
+"""What the commands have in common: how they start and read files, and what they say on standard error."""
+
+from __future__ import annotations
+
+import importlib
+import signal
+import sys
+from typing import Optional
+
+from scripts.bundles import harmless
+
+COMMANDS = {
+    "explain": "scripts.explain",
+    "lines": "scripts.lines",
+    "picture": "scripts.picture",
+    "plan-bundle": "scripts.plan_bundle",
+    "survey": "scripts.survey",
+}
+
+
+class Refused(Exception):
+    """Why a command does nothing."""
+
+
+def start(name: str) -> None:
+    """Runs a command with the words of the process, and ends the process with its status."""
+    # (a reader that has enough, as head, ends it)
+    signal.signal(signal.SIGPIPE, signal.SIG_DFL)
+    signal.signal(signal.SIGINT, signal.SIG_DFL)
+    if sys.stdout:
+        sys.stdout.reconfigure(encoding="utf-8")  # type: ignore[union-attr]
+    main = importlib.import_module(COMMANDS[name]).main
+    sys.exit(main(sys.argv[1:]))
+
+
+def read(path: Optional[str]) -> bytes:
+    """A file, or standard input."""
+    if path is None:
+        return sys.stdin.buffer.read()
+    try:
+        with open(path, "rb") as file:
+            return file.read()
+    except OSError as error:
+        raise Refused(f"{path} can't be read: {error.strerror}") from None
+
+
+def refuse(name: str, why: object) -> int:
+    """Tells why a command does nothing, in one line; its status."""
+    print(f"{name}: {harmless(str(why), 'name')}", file=sys.stderr)
+    return 2

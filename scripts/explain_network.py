@@ -1,0 +1,525 @@
+"""The rows of a bundle by their ids, as vpc reads them of a bundle that it accepts."""
+
+from __future__ import annotations
+
+import collections
+from collections.abc import Iterator
+from typing import Any, NamedTuple, Optional
+
+from scripts.bundles import TARGETS, Names, NoBundle, Row, harmless, json_in, member, objects_of, rows
+from scripts.commands import Refused
+from scripts.headers import Block, Header, address, block_of
+
+
+class Vpc(NamedTuple):
+    id: str
+    blocks: list[Block]
+
+
+class Subnet(NamedTuple):
+    id: str
+    vpc: str
+    zone: str
+
+
+class Interface(NamedTuple):
+    """`addresses` are the private ones, each with its public one or None."""
+
+    id: str
+    subnet: str
+    addresses: dict[int, Optional[int]]
+    groups: list[str]
+    checked: bool
+    idle: bool
+    is_gateway: bool
+    kind: str
+
+
+class Route(NamedTuple):
+    """It has a block, or else a prefix list."""
+
+    block: Optional[Block]
+    list: Optional[str]
+    kind: str
+    target: str
+    blackhole: bool
+    propagated: bool
+
+    def reach(self) -> str:
+        return str(self.block or self.list)
+
+
+class RouteTable(NamedTuple):
+    id: str
+    vpc: str
+    routes: list[Route]
+
+
+class AclRow(NamedTuple):
+    number: int
+    outward: bool
+    allow: bool
+    proto: Optional[int]
+    first: int
+    last: int
+    block: Block
+
+
+class Acl(NamedTuple):
+    id: str
+    subnets: list[str]
+    rows: list[AclRow]
+
+
+class Rule(NamedTuple):
+    name: str
+    proto: Optional[int]
+    first: int
+    last: int
+    blocks: list[Block]
+    lists: list[str]
+    groups: list[str]
+
+
+class Group(NamedTuple):
+    id: str
+    vpc: str
+    inward: list[Rule]
+    outward: list[Rule]
+
+
+class Nat(NamedTuple):
+    id: str
+    state: str
+    subnet: Optional[str]
+    eni: Optional[str]
+    address: Optional[int]
+
+
+class Peering(NamedTuple):
+    id: str
+    code: str
+    pair: Optional[tuple[str, str]]
+
+
+class Attachment(NamedTuple):
+    id: str
+    gateway: str
+    vpc: str
+    subnets: list[str]
+
+
+class TransitRoute(NamedTuple):
+    block: Block
+    blackhole: bool
+    propagated: bool
+    attachment: Optional[str]
+
+
+class Appliance(NamedTuple):
+    kind: str
+    first: int
+    last: int
+    block: Optional[Block]
+
+
+# What a route's target is by its member; what has none here isn't followed.
+TARGET_KINDS = {
+    "GatewayId": "gateway",
+    "NatGatewayId": "nat",
+    "TransitGatewayId": "transit",
+    "VpcPeeringConnectionId": "peering",
+    "NetworkInterfaceId": "interface",
+}
+PROTOCOL_WORDS = {"-1": None, "tcp": 6, "udp": 17, "icmp": 1, "icmpv6": 58}
+LIVE = ("available", "modifying")
+
+
+def items(row: Row, name: str) -> Any:
+    return row.get(name) or []
+
+
+def ports_of(proto: Optional[int], first: Any, last: Any, kind: Any, code: Any) -> tuple[int, int]:
+    """The range of q of a rule: ports, or types and codes of ICMP."""
+    if proto in (6, 17):
+        return 0 if first in (None, -1) else first, 65535 if last in (None, -1) else last
+    if proto == 1 and kind not in (None, -1):
+        if code in (None, -1):
+            return kind * 256, kind * 256 + 255
+        return kind * 256 + code, kind * 256 + code
+    return 0, 65535
+
+
+def protocol_of(text: str) -> Optional[int]:
+    return PROTOCOL_WORDS[text] if text in PROTOCOL_WORDS else int(text)
+
+
+# ---- rows
+
+
+def vpc_of(row: Row) -> Vpc:
+    more = [
+        it["CidrBlock"]
+        for it in items(row, "CidrBlockAssociationSet")
+        if member(it, "CidrBlockState", "State") in (None, "associated")
+    ]
+    return Vpc(row["VpcId"], [block_of(it) for it in dict.fromkeys([row["CidrBlock"], *more])])
+
+
+def interface_of(row: Row) -> Interface:
+    addresses: dict[int, Optional[int]] = {}
+    for it in items(row, "PrivateIpAddresses"):
+        public = member(it, "Association", "PublicIp")
+        addresses[address(it["PrivateIpAddress"])] = None if public is None else address(public)
+    if row.get("PrivateIpAddress") is not None:
+        addresses = {address(row["PrivateIpAddress"]): None, **addresses}
+    kind = row.get("InterfaceType") or "interface"
+    plain = kind.lower().replace("_", "").replace("-", "")
+    return Interface(
+        row["NetworkInterfaceId"],
+        row["SubnetId"],
+        addresses,
+        [it["GroupId"] for it in items(row, "Groups")],
+        row.get("SourceDestCheck") is not False,
+        row.get("Status") == "available",
+        plain in ("natgateway", "transitgateway"),
+        kind,
+    )
+
+
+def route_of(row: Row) -> Optional[Route]:
+    block, name = row.get("DestinationCidrBlock"), row.get("DestinationPrefixListId")
+    if block is None and name is None:
+        return None
+    known = next((it for it in TARGETS if row.get(it) is not None), None)
+    target = row[known] if known else "none"
+    kind = TARGET_KINDS.get(known or "", "other")
+    if kind == "gateway":
+        is_internet = target.startswith("igw-")
+        kind = "local" if target == "local" else "internet" if is_internet else "other"
+    reach = (block_of(block), None) if block is not None else (None, name)
+    is_gone = row.get("State") == "blackhole"
+    return Route(*reach, kind, target, is_gone, row.get("Origin") == "EnableVgwRoutePropagation")
+
+
+def acl_row_of(row: Any) -> Optional[AclRow]:
+    if not isinstance(row, dict) or row.get("CidrBlock") is None:
+        return None
+    proto = None if row["Protocol"] == "-1" else int(row["Protocol"])
+    ports, types = row.get("PortRange") or {}, row.get("IcmpTypeCode") or {}
+    told = (ports.get("From"), ports.get("To"), types.get("Type"), types.get("Code"))
+    first, last = ports_of(proto, *told)
+    is_allow, block = row["RuleAction"] == "allow", block_of(row["CidrBlock"])
+    return AclRow(row["RuleNumber"], row["Egress"], is_allow, proto, first, last, block)
+
+
+def rule_ports(row: Row) -> tuple[Optional[int], int, int]:
+    """The protocol and the range of q of a rule of a group."""
+    proto, first, last = protocol_of(row["IpProtocol"]), row.get("FromPort"), row.get("ToPort")
+    return proto, *ports_of(proto, first, last, first, last)
+
+
+def listed_rule(row: Row, reference: str) -> Rule:
+    """A rule that has a row of its own."""
+    block, name = row.get("CidrIpv4"), row.get("PrefixListId")
+    blocks = [block_of(block)] if block is not None else []
+    lists = [name] if block is None and name is not None else []
+    groups = [] if blocks or lists else [reference]
+    return Rule(row["SecurityGroupRuleId"], *rule_ports(row), blocks, lists, groups)
+
+
+def permissions(row: Row, name: str) -> list[Rule]:
+    """The rules that are members of a group."""
+    rules = []
+    for number, it in enumerate(items(row, name), 1):
+        pairs = items(it, "UserIdGroupPairs")
+        found = [member(that, "GroupId") for that in pairs]
+        groups = [that for that in found if that is not None]
+        blocks = [block_of(that["CidrIp"]) for that in items(it, "IpRanges")]
+        lists = [that["PrefixListId"] for that in items(it, "PrefixListIds")]
+        rules.append(Rule(str(number), *rule_ports(it), blocks, lists, groups))
+    return rules
+
+
+def nat_of(row: Row) -> Nat:
+    is_live = row["State"] == "available" and row.get("SubnetId") is not None
+    found = items(row, "NatGatewayAddresses") if is_live else []
+    otherwise = found[0] if found else None
+    first = next((it for it in found if it.get("IsPrimary") is True), otherwise)
+    if not first:
+        return Nat(row["NatGatewayId"], row["State"], None, None, None)
+    own = address(first["PrivateIp"])
+    state, subnet = row["State"], row["SubnetId"]
+    return Nat(row["NatGatewayId"], state, subnet, first["NetworkInterfaceId"], own)
+
+
+def transit_route_of(row: Row) -> TransitRoute:
+    found = items(row, "TransitGatewayAttachments")
+    attachment = found[0]["TransitGatewayAttachmentId"] if found else None
+    is_gone, is_propagated = row["State"] == "blackhole", row["Type"] == "propagated"
+    return TransitRoute(block_of(row["DestinationCidrBlock"]), is_gone, is_propagated, attachment)
+
+
+def appliance_of(row: Row) -> Appliance:
+    if row["Kind"] == "service":
+        first, _, last = (row.get("Ports") or "").partition("-")
+        return Appliance("service", int(first), int(last or 0), None)
+    return Appliance(row["Kind"], 0, 0, block_of(row["Prefix"]) if row["Kind"] == "peer" else None)
+
+
+class Network:
+    """The rows of a bundle, and what its tables, lists and rules choose."""
+
+    def __init__(self, objects: list[Row]) -> None:
+        lists: dict[str, list[Any]] = collections.defaultdict(list)
+        for it in objects:
+            for name, found in it.items():
+                lists[name] += found if isinstance(found, list) else []
+        self.vpcs = {it["VpcId"]: vpc_of(it) for it in lists["Vpcs"]}
+        self.subnets = {
+            it["SubnetId"]: Subnet(it["SubnetId"], it["VpcId"], it["AvailabilityZone"])
+            for it in lists["Subnets"]
+        }
+        interfaces = lists["NetworkInterfaces"]
+        self.interfaces = {it["NetworkInterfaceId"]: interface_of(it) for it in interfaces}
+        self.read_tables(lists["RouteTables"])
+        self.read_lists(lists["PrefixLists"], lists["PrefixListEntries"])
+        self.read_acls(lists["NetworkAcls"])
+        self.read_groups(lists["SecurityGroups"], lists["SecurityGroupRules"])
+        self.read_gateways(lists["InternetGateways"], lists["NatGateways"])
+        self.read_peerings(lists["VpcPeeringConnections"])
+        self.read_transit(lists)
+        self.appliances = {it["NetworkInterfaceId"]: appliance_of(it) for it in lists["Appliances"]}
+        self.names = Names(objects)
+        self.index_addresses()
+
+    def read_tables(self, found: list[Row]) -> None:
+        self.tables: dict[str, RouteTable] = {}
+        self.main_of: dict[str, RouteTable] = {}
+        self.table_of_subnet: dict[str, RouteTable] = {}
+        for row in found:
+            routes = [it for it in map(route_of, items(row, "Routes")) if it]
+            table = RouteTable(row["RouteTableId"], row["VpcId"], routes)
+            self.tables[table.id] = table
+            for it in rows(row, "Associations"):
+                if it.get("Main"):
+                    self.main_of[table.vpc] = table
+                if it.get("SubnetId") is not None:
+                    self.table_of_subnet[it["SubnetId"]] = table
+
+    def read_lists(self, found: list[Row], entries: list[Row]) -> None:
+        self.lists: dict[str, list[Block]] = {}
+        told = [(it["PrefixListId"], it["Cidrs"]) for it in found if it.get("Cidrs") is not None]
+        for it in entries:
+            told.append((it["PrefixListId"], [entry["Cidr"] for entry in items(it, "Entries")]))
+        for name, blocks in told:
+            self.lists.setdefault(name, [block_of(it) for it in blocks if ":" not in it])
+
+    def read_acls(self, found: list[Row]) -> None:
+        self.acls: dict[str, Acl] = {}
+        self.acl_of_subnet: dict[str, Acl] = {}
+        for row in found:
+            subnets = [it["SubnetId"] for it in items(row, "Associations")]
+            entries = [it for it in map(acl_row_of, items(row, "Entries")) if it]
+            acl = Acl(row["NetworkAclId"], subnets, entries)
+            self.acls[acl.id] = acl
+            self.acl_of_subnet.update((it, acl) for it in acl.subnets)
+
+    def read_groups(self, found: list[Row], listed: list[Row]) -> None:
+        self.groups: dict[str, Group] = {}
+        apart = self.listed_rules({it["GroupId"] for it in found}, listed)
+        for row in found:
+            group = row["GroupId"]
+            if group in apart:
+                inward, outward = apart[group]
+            else:
+                inward = permissions(row, "IpPermissions")
+                outward = permissions(row, "IpPermissionsEgress")
+            self.groups[group] = Group(group, row["VpcId"], inward, outward)
+
+    def listed_rules(
+        self, known: set[str], listed: list[Row]
+    ) -> dict[str, tuple[list[Rule], list[Rule]]]:
+        """The rules that have rows of their own, inward and outward, of each group that has some."""
+        apart: dict[str, tuple[list[Rule], list[Rule]]] = {}
+        seen = set()
+        for it in listed:
+            reference = member(it, "ReferencedGroupInfo", "GroupId")
+            has_far = any(
+                that is not None
+                for that in (it.get("CidrIpv4"), it.get("PrefixListId"), reference)
+            )
+            if has_far and it["GroupId"] in known and it["SecurityGroupRuleId"] not in seen:
+                seen.add(it["SecurityGroupRuleId"])
+                of_group = apart.setdefault(it["GroupId"], ([], []))
+                of_group[{False: 0, True: 1}[it["IsEgress"]]].append(listed_rule(it, reference))
+        return apart
+
+    def read_gateways(self, gateways: list[Row], nats: list[Row]) -> None:
+        self.igws: dict[str, list[str]] = {}
+        self.igw_of: dict[str, str] = {}
+        for row in gateways:
+            attached = [
+                it["VpcId"]
+                for it in items(row, "Attachments")
+                if it["State"] in ("available", "attached")
+            ]
+            self.igws[row["InternetGatewayId"]] = attached
+            for it in attached:
+                self.igw_of.setdefault(it, row["InternetGatewayId"])
+        self.nats = {row["NatGatewayId"]: nat_of(row) for row in nats}
+        self.nat_at: dict[str, Nat] = {}
+        for nat in self.nats.values():
+            if nat.eni is not None:
+                self.nat_at.setdefault(nat.eni, nat)
+
+    def read_peerings(self, found: list[Row]) -> None:
+        self.peerings: dict[str, Peering] = {}
+        for row in found:
+            code, pair = row["Status"]["Code"], None
+            if code == "active":
+                pair = (row["RequesterVpcInfo"]["VpcId"], row["AccepterVpcInfo"]["VpcId"])
+            name = row["VpcPeeringConnectionId"]
+            self.peerings.setdefault(name, Peering(name, code, pair))
+
+    def read_transit(self, lists: dict[str, list[Any]]) -> None:
+        self.attachments: dict[str, Attachment] = {}
+        self.associations: dict[str, str] = {}
+        self.transit_tables: dict[str, list[TransitRoute]] = {}
+        for row in lists["TransitGatewayVpcAttachments"]:
+            if row["State"] in LIVE:
+                name, gateway = row["TransitGatewayAttachmentId"], row["TransitGatewayId"]
+                found = Attachment(name, gateway, row["VpcId"], list(items(row, "SubnetIds")))
+                self.attachments.setdefault(name, found)
+        for row in lists["TransitGatewayAttachments"]:
+            table = member(row, "Association", "TransitGatewayRouteTableId")
+            if table is not None:
+                self.associations.setdefault(row["TransitGatewayAttachmentId"], table)
+        for row in lists["TransitGatewayRoutes"]:
+            routes = [it for it in items(row, "Routes") if ":" not in it["DestinationCidrBlock"]]
+            self.transit_tables[row["TransitGatewayRouteTableId"]] = list(map(transit_route_of, routes))
+
+    def index_addresses(self) -> None:
+        self.host_at: dict[tuple[str, int], Interface] = {}
+        self.owner_of: dict[int, tuple[Interface, int, str]] = {}
+        self.members: dict[str, dict[int, str]] = {}
+        for it in self.interfaces.values():
+            vpc = self.subnets[it.subnet].vpc
+            for private, public in it.addresses.items():
+                self.host_at[vpc, private] = it
+                if public is not None:
+                    self.owner_of[public] = (it, private, vpc)
+            for group in it.groups:
+                own = ((private, it.id) for private in it.addresses)
+                self.members.setdefault(group, {}).update(own)
+
+    # -- choices
+
+    def table_at(self, subnet: str) -> RouteTable:
+        return self.table_of_subnet.get(subnet) or self.main_of[self.subnets[subnet].vpc]
+
+    def length_of(self, route: Route, number: int) -> Optional[int]:
+        """How long a route's destination is that holds an address; None where none does."""
+        blocks = [route.block] if route.block else self.lists.get(route.list or "", [])
+        return max((it.length for it in blocks if it.holds(number)), default=None)
+
+    def choose(self, table: RouteTable, number: int) -> Optional[Route]:
+        told = [(self.length_of(it, number), it) for it in table.routes]
+        found = [(length, it) for length, it in told if length is not None]
+        if any(it.kind == "local" for _, it in found):
+            found = [it for it in found if not it[1].propagated or it[1].kind == "local"]
+
+        def rank(it: tuple[int, Route]) -> tuple[int, int]:
+            return it[0], 0 if it[1].propagated else 2 if it[1].block else 1
+
+        return max(found, key=rank)[1] if found else None
+
+    def choose_transit(self, table: str, number: int) -> Optional[TransitRoute]:
+        found = [it for it in self.transit_tables[table] if it.block.holds(number)]
+        return max(found, key=lambda it: (it.block.length, not it.propagated), default=None)
+
+    def decide(self, acl: Acl, outward: bool, h: Header) -> Optional[AclRow]:
+        """The row that decides; None where none matches."""
+        far = h.dst if outward else h.src
+        found = [
+            it
+            for it in acl.rows
+            if it.outward == outward
+            and it.proto in (None, h.proto)
+            and it.first <= h.q <= it.last
+            and it.block.holds(far)
+        ]
+        return min(found, key=lambda it: it.number, default=None)
+
+    def counts(self, group: str, reference: str) -> bool:
+        """Whether a group's rule may name another group."""
+        if reference not in self.groups:
+            return False
+        one, other = self.groups[group].vpc, self.groups[reference].vpc
+        pairs = (it.pair for it in self.peerings.values())
+        return one == other or any(it is not None and set(it) == {one, other} for it in pairs)
+
+    def allows_flow(self, rule: Rule, h: Header) -> bool:
+        return rule.proto in (None, h.proto) and rule.first <= h.q <= rule.last
+
+    def list_holds(self, name: str, number: int) -> bool:
+        return any(it.holds(number) for it in self.lists.get(name, []))
+
+    def group_holds(self, group: str, reference: str, far: int) -> bool:
+        """Whether a group that a group's rule names has an address, and may be named."""
+        return far in self.members.get(reference, {}) and self.counts(group, reference)
+
+    def allows_far(self, group: str, rule: Rule, far: int) -> bool:
+        return (
+            any(it.holds(far) for it in rule.blocks)
+            or any(self.list_holds(it, far) for it in rule.lists)
+            or any(self.group_holds(group, it, far) for it in rule.groups)
+        )
+
+    def rules_of(self, interface: Interface, outward: bool) -> Iterator[tuple[str, Rule]]:
+        for name in interface.groups:
+            group = self.groups[name]
+            yield from ((name, it) for it in (group.outward if outward else group.inward))
+
+    def first_rule(
+        self, interface: Interface, outward: bool, h: Header
+    ) -> Optional[tuple[str, Rule]]:
+        far = h.dst if outward else h.src
+        for group, it in self.rules_of(interface, outward):
+            if self.allows_flow(it, h) and self.allows_far(group, it, far):
+                return group, it
+        return None
+
+    def zone_subnet(self, attachment: Attachment, subnet: str) -> Optional[str]:
+        zone = self.subnets[subnet].zone
+        return next((it for it in attachment.subnets if self.subnets[it].zone == zone), None)
+
+    def other_side(self, peering: Peering, vpc: str) -> str:
+        assert peering.pair
+        return peering.pair[1] if peering.pair[0] == vpc else peering.pair[0]
+
+
+# What a bundle that vpc refuses may end a reading or a walk with.
+ODD = (
+    ArithmeticError,
+    AssertionError,
+    AttributeError,
+    LookupError,
+    MemoryError,
+    RecursionError,
+    TypeError,
+    ValueError,
+)
+
+
+def read_network(path: str) -> Network:
+    try:
+        objects = objects_of(json_in(path))
+    except OSError as error:
+        raise Refused(f"{path} can't be read: {error.strerror}") from None
+    except NoBundle as why:
+        raise Refused(f"{path} is no bundle: {why}") from None
+    try:
+        return Network(objects)
+    except ODD:
+        raise Refused(f"{path} is no bundle that vpc accepts") from None

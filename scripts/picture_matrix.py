@@ -1,0 +1,210 @@
+"""Pictures of matrices, folded into classes of interfaces that reach and are reached alike."""
+
+from __future__ import annotations
+
+import collections
+import itertools
+import math
+from collections.abc import Sequence
+from typing import Union
+
+from scripts.bundles import Names
+from scripts.headers import Range
+from scripts.picture_canvas import MARGIN, Drawing, Run, counted_words, grouped, number, width_of
+from scripts.picture_classes import Class, Label, fold
+from scripts.texts import Matrix
+
+MOST_CLASSES = 30
+# How far the names of classes reach.
+LABELS = 34 + 250 + 20
+Value = Union[str, list[Range]]
+Counts = collections.Counter[int]
+
+
+def open_words(ranges: Sequence[Range]) -> list[str]:
+    return [str(first) if first == last else f"{first}-{last}" for first, last in ranges]
+
+
+def shade(value: Value) -> float:
+    """How dark a cell is: by the logarithm of how many ports are open."""
+    ranges = value if isinstance(value, list) else []
+    ports = sum(last - first + 1 for first, last in ranges)
+    return 0 if not ports else 0.25 + 0.75 * math.log2(ports) / 16
+
+
+class Folded:
+    """A matrix by classes: exact where these are few, else without its ports, and what is still too
+    much is one class of others."""
+
+    def __init__(self, matrix: Matrix) -> None:
+        self.matrix = matrix
+        self.classes = fold(matrix.ids, matrix.pairs)
+        self.exact = len(self.classes)
+        if len(self.classes) > MOST_CLASSES:
+            self.classes = fold(matrix.ids, self.without_ports())
+        if len(self.classes) > MOST_CLASSES:
+            most = sorted(self.classes, key=lambda it: -len(it.ids))[: MOST_CLASSES - 1]
+            kept = sorted(most, key=lambda it: it.number or 0)
+            numbers = {it.number for it in kept}
+            others = [it for of in self.classes if of.number not in numbers for it in of.ids]
+            self.classes = [*kept, Class(None, others)]
+        self.cells = self.counts()
+
+    def without_ports(self) -> dict[str, dict[str, int]]:
+        """The pairs by whether anything is open."""
+        values = self.matrix.values.items()
+        words = {it: 3 if value == "no-address" else 2 for it, value in values}
+        words.update((it, 1) for it, value in values if isinstance(value, list))
+        return {
+            own: dict(zip(row, map(words.__getitem__, row.values())))
+            for own, row in self.matrix.pairs.items()
+        }
+
+    def counts(self) -> list[list[Counts]]:
+        """From each class to each, how many pairs have which value."""
+        at = {it: k for k, row in enumerate(self.classes) for it in row.ids}
+        cells: list[list[Counts]] = [[Counts() for _ in self.classes] for _ in self.classes]
+        for own, row in self.matrix.pairs.items():
+            of = cells[at[own]]
+            found = collections.Counter(zip(map(at.__getitem__, row), row.values()))
+            for (column, value), count in found.items():
+                of[column][value] += count
+        return cells
+
+    def totals(self) -> dict[str, int]:
+        """How many pairs are open, blocked, or of an interface without an address."""
+        totals = {"open": 0, "blocked": 0, "no-address": 0}
+        for value, pairs in sum(itertools.chain(*self.cells), Counts()).items():
+            word = self.matrix.values[value]
+            totals[word if isinstance(word, str) else "open"] += pairs
+        return totals
+
+
+def opened(values: dict[int, Value], counts: Counts) -> int:
+    """How many pairs of a cell something is open for."""
+    return sum(count for it, count in counts.items() if isinstance(values[it], list))
+
+
+def cell_lines(values: dict[int, Value], counts: Counts, most: int = 4) -> list[str]:
+    """What a cell says: the ports that are open, or in how many of its pairs something is."""
+    if len(counts) == 1:
+        value = values[next(iter(counts))]
+        if isinstance(value, str):
+            return []
+        words = open_words(value)
+        if len(words) <= most:
+            return words
+        return [*words[: most - 1], f"and {len(words) - most + 1} more"]
+    count = opened(values, counts)
+    return [grouped(count), f"of {grouped(sum(counts.values()))}"] if count else []
+
+
+def draw_matrix(matrix: Matrix, names: Names, drawing_name: str) -> tuple[Drawing, str, str]:
+    folded = Folded(matrix)
+    count = len(folded.classes)
+    grid = Grid(folded, [Label(it.ids, names, 250, 4 if count > 12 else 6) for it in folded.classes])
+    width = 2 * MARGIN + LABELS + grid.size * count
+    drawing = Drawing(max(width, 620), drawing_name)
+    classes = counted_words(folded.exact, "class", "classes")
+    summary = f"{counted_words(len(matrix.ids), 'interface', 'interfaces')} in {classes}"
+    summary += f", {count} drawn" * (count != folded.exact)
+    title = [Run("matrix", 18, "ink", False, True), Run(summary, 13, "soft")]
+    drawing.runs(MARGIN, drawing.bottom + 16, title)
+    drawing.bottom += 34
+    totals = folded.totals()
+    draw_shades(drawing, totals)
+    grid.draw(drawing)
+    return drawing, f"matrix: {summary}", matrix_words(grid, totals)
+
+
+def draw_shades(drawing: Drawing, totals: dict[str, int]) -> None:
+    """What the shades mean, with how many pairs there are of each."""
+    x, top = float(MARGIN), drawing.bottom
+    for word, count in totals.items():
+        if not count:
+            continue
+        if word == "open":
+            for k, value in enumerate((0.25, 0.6, 1)):
+                draw_open(drawing, x + 12 * k, top, 12, 16, value)
+        else:
+            drawing.rect(x, top, 36, 16, "panel" if word == "blocked" else "grey")
+            drawing.rect(x, top, 36, 16, "edge")
+        told = f"{word} {counted_words(count, 'pair', 'pairs')}"
+        drawing.text(x + 44, top + 12.5, told, 12, "ink")
+        x += 44 + width_of(told, 12) + 22
+    drawing.bottom = top + 16
+
+
+def draw_open(
+    drawing: Drawing, x: float, y: float, width: float, height: float, value: float
+) -> None:
+    drawing.rect(x, y, width, height, "blue", 0, f' fill-opacity="{value:.2f}"')
+
+
+class Grid:
+    """A folded matrix as it is drawn: the words of its cells, and how wide these are."""
+
+    def __init__(self, folded: Folded, labels: list[Label]) -> None:
+        self.values, self.cells, self.labels = folded.matrix.values, folded.cells, labels
+        self.words = [[cell_lines(self.values, it) for it in row] for row in self.cells]
+        widths = [width_of(it, 10, True) + 10 for row in self.words for of in row for it in of]
+        self.size = max([34 if len(labels) > 18 else 48, *widths])
+
+    def draw(self, drawing: Drawing) -> None:
+        count, left, size = len(self.labels), MARGIN + LABELS, self.size
+        shorts = [it.short() for it in self.labels]
+        over = max([width_of(it, 11) for it in shorts], default=0)
+        over = over if over <= 190 else 0
+        top = drawing.bottom + 14 + over
+        for column, it in enumerate(shorts):
+            x = left + size * (column + 0.5)
+            if over:
+                drawing.text(x + 4, top, it, 11, "ink", turned=True)
+            drawing.key(x, top + 15, str(column + 1))
+        top += 30
+        line = f"H{number(left + size * count)}"
+        for row, label in enumerate(self.labels):
+            lengths = [13 * len(it) + 12 for it in self.words[row]]
+            height = max([label.height + 14, 30, *lengths])
+            drawing.path(f"M{MARGIN} {number(top)}{line}", "edge")
+            drawing.key(MARGIN + 12, top + 16, str(row + 1))
+            label.draw(drawing, MARGIN + 34, top + 6)
+            for column in range(count):
+                self.draw_cell(drawing, (row, column), left + size * column, top, height)
+            top += height
+        drawing.path(f"M{MARGIN} {number(top)}{line}", "edge")
+        drawing.bottom = top
+
+    def draw_cell(
+        self, drawing: Drawing, at: tuple[int, int], x: float, top: float, height: float
+    ) -> None:
+        (row, column), values, width = at, self.values, self.size
+        counts, lines = self.cells[row][column], self.words[row][column]
+        if not counts:
+            drawing.path(f"M{number(x + width / 2 - 5)} {number(top + height / 2)}h10", "mark")
+            return
+        darkest = max(shade(values[it]) for it in counts)
+        is_grey = all(values[it] == "no-address" for it in counts)
+        style = "grey" if is_grey else "panel"
+        drawing.rect(x + 1, top + 1, width - 2, height - 2, style, 3)
+        if darkest:
+            # (as high as the part of its pairs that is open)
+            part = opened(values, counts) / sum(counts.values())
+            darkest = darkest if part == 1 else 0.35
+            begin = top + 1 + (height - 2) * (1 - part)
+            draw_open(drawing, x + 1, begin, width - 2, (height - 2) * part, darkest)
+        is_dark = darkest > 0.6
+        base, ink = top + height / 2 - 6.5 * len(lines) + 9.5, "white" if is_dark else "ink"
+        for line in lines:
+            drawing.text(x + width / 2, base, line, 10, ink, True, is_dark, "middle")
+            base += 13
+
+
+def matrix_words(grid: Grid, totals: dict[str, int]) -> str:
+    """The classes, and what is open between them."""
+    told = [f"{counted_words(it, 'pair', 'pairs')} {word}" for word, it in totals.items() if it]
+    told += [f"class {k}: {it.told()}" for k, it in enumerate(grid.labels, 1)]
+    for row, columns in enumerate(grid.words, 1):
+        opened = [f"{column} {' '.join(it)}" for column, it in enumerate(columns, 1) if it]
+        told += [f"class {row} to {', '.join(opened)}"] * bool(opened)
+    return "; ".join(told) + "."

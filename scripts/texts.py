@@ -1,0 +1,516 @@
+"""The texts of vpc, read by their grammar: what each line tells, and each text as a record."""
+
+from __future__ import annotations
+
+import dataclasses
+from collections.abc import Callable, Iterator
+from typing import Any, NoReturn, Optional, Union
+
+from scripts.grammar import Members, forms_of, is_id
+from scripts.headers import Box, Header, Range, address, is_within, reply_of
+from scripts.words import PROTOCOL_NUMBERS
+
+
+class NoText(Exception):
+    """Why there is no text of vpc: the number of the line that no text has there, or words alone."""
+
+    def __init__(self, why: str, number: Optional[int] = None) -> None:
+        super().__init__(why)
+        self.number = number
+
+
+# ---- records
+
+record = dataclasses.dataclass(frozen=True)
+
+
+@record
+class Hop:
+    """`by` is what let the packet pass, in the words behind `by`."""
+
+    place: str
+    id: str
+    header: Header
+    by: Optional[str]
+
+
+@record
+class Arrived:
+    id: str
+
+    def __str__(self) -> str:
+        return f"arrived {self.id}"
+
+
+@record
+class Stopped:
+    name: str
+    id: str
+    rule: str
+
+    def __str__(self) -> str:
+        return f"stopped {self.name} {self.id} {self.rule}"
+
+
+@record
+class Walk:
+    """Hops and an end; `first` is the number of the first line, and `lines` are those of it."""
+
+    hops: list[Hop]
+    end: Union[Arrived, Stopped]
+    first: int
+    lines: list[str]
+
+
+@record
+class Reachable:
+    packet: Header
+    request: Walk
+    reply: Walk
+
+
+@record
+class ReportRow:
+    phase: str
+    stop: Stopped
+    box: Box
+
+
+@record
+class Report:
+    """`next` and `cells` are None where the rows hold all."""
+
+    start: str
+    goal: str
+    box: Box
+    rows: list[ReportRow]
+    next: Optional[Header]
+    cells: Optional[str]
+
+
+@record
+class Matrix:
+    """Of each pair the number of what is said of it: a large matrix has few of those."""
+
+    ids: list[str]
+    pairs: dict[str, dict[str, int]]
+    values: dict[int, Union[str, list[Range]]]
+
+
+@record
+class ReachRow:
+    start: str
+    end: str
+    box: Box
+
+
+@record
+class Fare:
+    """What becomes of a packet, or changes for it. `word` is through, same, reached, at, stopped,
+    opened, closed or moved; `after` is another end where it is moved, and `stop` is what stops it."""
+
+    word: str
+    end: str = ""
+    after: str = ""
+    phase: str = ""
+    stop: Optional[Stopped] = None
+
+
+@record
+class DiffRow:
+    start: str
+    fare: Fare
+    box: Box
+
+    @property
+    def word(self) -> str:
+        return self.fare.word
+
+    @property
+    def end(self) -> str:
+        return self.fare.end
+
+
+@record
+class Reach:
+    """`next` is the start and header of the first packet that the rows leave out."""
+
+    query: str
+    rows: list[ReachRow]
+    next: Optional[tuple[str, Header]]
+
+
+@record
+class Diff:
+    query: str
+    rows: list[DiffRow]
+    next: Optional[tuple[str, Header]]
+
+
+@record
+class Verdict:
+    """What check says: `why` is yes, overlap, uncovered, untrue or unlisted."""
+
+    why: str
+    rows: list[int]
+    start: str
+    header: Optional[Header]
+    fare: Optional[Fare]
+
+
+@record
+class Event:
+    end: Union[Arrived, Stopped]
+    header: Optional[Header]
+
+
+@record
+class Events:
+    events: list[Event]
+
+
+@record
+class Table:
+    """A text of which no picture and no sentence is made: make, expect, flows, unused, a refusal."""
+
+    name: str
+    lines: list[Members]
+
+
+Record = Union[Walk, Reachable, Report, Matrix, Reach, Diff, Verdict, Events, Table]
+
+
+def header_of(told: Members) -> Header:
+    proto = told["proto"]
+    number = PROTOCOL_NUMBERS[proto] if isinstance(proto, str) else proto
+    return Header(number, address(told["src"]), address(told["dst"]), told["p"], told["q"])
+
+
+def box_of(told: Members) -> Box:
+    (first, last), (src, src_last), (dst, dst_last) = told["proto"], told["src"], told["dst"]
+    addresses = (address(src), address(src_last)), (address(dst), address(dst_last))
+    (p, p_last), (q, q_last) = told["p"], told["q"]
+    return (first, last), *addresses, (p, p_last), (q, q_last)
+
+
+def stop_of(told: Members) -> Stopped:
+    return Stopped(told["name"], told["id"], "-" if told["rule"] is None else told["rule"])
+
+
+def fare_of(told: Members) -> Fare:
+    """Where the line has no word of its own the packet is stopped, or at an end."""
+    word = told.get("word") or ("stopped" if "name" in told else "at")
+    stop = stop_of(told) if "name" in told else None
+    return Fare(word, told.get("end", ""), told.get("after", ""), told.get("phase", ""), stop)
+
+
+def hop_of(told: Members) -> Hop:
+    by = told.get("by")
+    if by == "rule":
+        by = f"{told['group']} {told['direction']} {'-' if told['rule'] is None else told['rule']}"
+    return Hop(told["place"], told["id"], header_of(told), by)
+
+
+# ---- reading: which lines each text has, in order
+
+
+class Text:
+    """A text whose lines are taken one after another. Where it is read as a whole, what each tells is
+    kept, and what lines say of each other is asked too."""
+
+    def __init__(self, name: str, lines: list[str], is_whole: bool) -> None:
+        self.name, self.lines, self.is_whole = name, lines, is_whole
+        self.at, self.forms = 0, forms_of(name)
+        self.told: list[Members] = []
+
+    def refuse(self, number: int) -> NoReturn:
+        if number > len(self.lines):
+            raise NoText("it breaks off", number)
+        raise NoText(f"line {number} is not what the text of {self.name} has there", number)
+
+    def begins(self, word: str) -> bool:
+        """Whether the next line begins with this word."""
+        return self.at < len(self.lines) and self.lines[self.at].partition(" ")[0] == word
+
+    def take(self, *tags: str, **around: str) -> Members:
+        """What the next line tells, which begins in one of these ways."""
+        line = self.lines[self.at] if self.at < len(self.lines) else ""
+        for form in (form for tag in tags for form in self.forms[tag]):
+            told = form.read(line, around)
+            if told and (not self.is_whole or form.write(told) == line):
+                self.at += 1
+                if self.is_whole:
+                    self.told.append(told)
+                return told
+        self.refuse(self.at + 1)
+
+    def must(self, holds: object, why: str = "") -> None:
+        """The line that was taken last is refused unless this holds."""
+        if not holds and why and not self.is_whole:
+            raise NoText(why)
+        if not holds:
+            self.refuse(self.at)
+
+    def agrees(self, holds: object) -> None:
+        """The same of what is asked only where the text is read as a whole."""
+        self.must(holds or not self.is_whole)
+
+    def numbered(self, tag: str, **around: str) -> Iterator[Members]:
+        """What each of the next lines tells that begin in this way and are numbered from 1."""
+        number = 0
+        while self.begins(tag):
+            number += 1
+            told = self.take(tag, **around)
+            self.must(told["n"] == number)
+            yield told
+
+
+def read_walk(text: Text, **around: str) -> Walk:
+    """The hops of a walk, and how it ends: it begins where packets are sent, and arrives where its
+    last hop is."""
+    first = text.at
+    hops = [hop_of(it) for it in text.numbered("hop", **around)]
+    told = text.take("arrived", "stopped", **around)
+    end = Arrived(told["id"]) if told["line"] == "arrived" else stop_of(told)
+    text.must(hops, "it has a walk without hops")
+    text.agrees(len(hops) <= 64 and hops[0].place in ("out", "internet"))
+    judged = [it for it in hops if it.place in ("out", "in")]
+    if isinstance(end, Arrived):
+        text.agrees(hops[-1].place in ("in", "internet") and hops[-1].id == end.id)
+    elif judged and judged[-1] is hops[-1]:
+        judged.pop()
+    text.agrees(all(it.by for it in judged))
+    return Walk(hops, end, first + 1, text.lines[first : text.at])
+
+
+def read_reachable(text: Text) -> Reachable:
+    """A packet, the walk of its request and that of its reply."""
+    text.take("reachable")
+    packet = header_of(text.take("packet"))
+    text.take("request")
+    request = read_walk(text, phase="request")
+    text.agrees(isinstance(request.end, Arrived) and request.hops[0].header == packet)
+    text.take("reply")
+    reply = read_walk(text, phase="reply")
+    text.agrees(reply.end == Arrived(request.hops[0].id) and reply.hops[0].id == request.end.id)
+    text.agrees(reply.hops[0].header == reply_of(request.hops[-1].header))
+    text.agrees(reply.hops[-1].header == reply_of(packet))
+    return Reachable(packet, request, reply)
+
+
+def count_of(text: Text, rows: int) -> None:
+    """The last line tells how many rows there are."""
+    is_count = text.take("end")["n"] == rows
+    text.must(is_count, "its last line tells another number of rows than there are")
+
+
+def read_report(text: Text) -> Report:
+    """A report, or the rows of one that would be longer."""
+    first, query = text.take("vpc-report", "more boxes"), text.take("query")
+    text.agrees((query["from"], query["to"]) != ("internet", "internet"))
+    whole, rows = box_of(text.take("box")), []
+    for it in text.numbered("row"):
+        row = ReportRow(it["phase"], stop_of(it), box_of(it))
+        rows.append(row)
+        text.must(is_within(row.box, whole), "a row lies beyond the box of the query")
+    if first["line"] == "vpc-report":
+        count_of(text, len(rows))
+        return Report(query["from"], query["to"], whole, rows, None, None)
+    following = header_of(text.take("next"))
+    text.must(all(low <= it <= high for it, (low, high) in zip(following, whole)))
+    cells = text.take("cells")["cells"]
+    text.agrees(0 < len(rows) < int(cells))
+    return Report(query["from"], query["to"], whole, rows, following, cells)
+
+
+def read_rows(text: Text, more: str) -> tuple[str, list[Members], Optional[tuple[str, Header]]]:
+    """The query and the rows of reach or of diff, all of them or the first."""
+    first = text.take(f"vpc-{text.name}", more)
+    text.take("query")
+    query = text.lines[text.at - 1]
+    rows = list(text.numbered("row"))
+    if first["line"] != more:
+        count_of(text, len(rows))
+        return query, rows, None
+    text.agrees(rows)
+    following = text.take("next")
+    return query, rows, (following["start"], header_of(following))
+
+
+def read_reach(text: Text) -> Reach:
+    query, rows, following = read_rows(text, "more reach")
+    return Reach(query, [ReachRow(it["start"], it["end"], box_of(it)) for it in rows], following)
+
+
+def read_diff(text: Text) -> Diff:
+    query, rows, following = read_rows(text, "more changes")
+    return Diff(query, [DiffRow(it["start"], fare_of(it), box_of(it)) for it in rows], following)
+
+
+def read_matrix(text: Text) -> Matrix:
+    """A line for each two hosts, as vpc prints it by the order of their ids."""
+    text.take("matrix")
+    first, numbers = text.at, dict[str, int]()
+    values: dict[int, Union[str, list[Range]]] = {}
+    pairs: dict[str, dict[str, int]] = {}
+    while text.at < len(text.lines) and (not text.is_whole or text.begins("pair")):
+        told = text.take("pair")
+        said = text.lines[text.at - 1].split(" ", 3)[3]
+        number = numbers.setdefault(said, len(numbers) + 1)
+        values[number] = meaning_of(told)
+        pairs.setdefault(told["from"], {})[told["to"]] = number
+        if not text.is_whole:
+            take_known(text, pairs, numbers)
+    ids, count = set(pairs), text.at - first
+    is_all = count == len(ids) * (len(ids) - 1) and all(is_id(it) for it in ids)
+    is_all = is_all and all(row.keys() | {own} == ids for own, row in pairs.items())
+    is_all = is_all and not any(own in row for own, row in pairs.items())
+    text.must(is_all, "it hasn't a line for each two interfaces, both ways")
+    if text.is_whole:
+        listed = [(it["from"], it["to"]) for it in text.told[1:]]
+        text.must(listed == [(it, other) for it in sorted(ids) for other in sorted(ids) if it != other])
+    return Matrix(list(pairs), pairs, values)
+
+
+def take_known(text: Text, pairs: dict[str, dict[str, int]], numbers: dict[str, int]) -> None:
+    """Takes the next lines that say of a pair what was said before: a large matrix has few others."""
+    for at in range(text.at, len(text.lines)):
+        words = text.lines[at].split(" ", 3)
+        if len(words) != 4 or words[0] != "pair" or words[3] not in numbers:
+            break
+        pairs.setdefault(words[1], {})[words[2]] = numbers[words[3]]
+        text.at += 1
+
+
+def meaning_of(told: Members) -> Union[str, list[Range]]:
+    """What is said of a pair: its open ranges, or the word."""
+    if told["answer"] != "open":
+        return str(told["answer"])
+    return [(first, last) for first, last in told["ports"]]
+
+
+def read_check(text: Text) -> Verdict:
+    told = text.take("yes", "no")
+    why = told.get("why", "yes")
+    fare = fare_of(told) if why in ("untrue", "unlisted") else None
+    header = header_of(told) if "proto" in told else None
+    rows = [told[it] for it in ("i", "j") if it in told]
+    return Verdict(why, rows, told.get("start", ""), header, fare)
+
+
+def read_replay(text: Text) -> Events:
+    events = []
+    for it in text.numbered("event"):
+        if it["outcome"] == "arrived":
+            events.append(Event(Arrived(it["id"]), header_of(it)))
+        else:
+            events.append(Event(stop_of(it), None))
+    return Events(events)
+
+
+def read_make(text: Text) -> Table:
+    count = text.take("make")["n"]
+    text.must(1 <= count <= 50)
+    for goal in [*(f"eni-{k}" for k in range(2, count + 1)), "internet"]:
+        pair = text.take("pair")
+        text.must((pair["from"], pair["to"]) == ("eni-1", goal))
+    return Table(text.name, text.told)
+
+
+def read_judged(text: Text, count: str) -> Table:
+    """Lines with ascending numbers, and how many they are."""
+    lines, last = 0, 0
+    while text.begins("line"):
+        lines, before, last = lines + 1, last, text.take("line")["n"]
+        text.must(before < last)
+    text.must(text.take("ok")[count] == lines)
+    return Table(text.name, text.told)
+
+
+def read_unused(text: Text) -> Table:
+    for _ in range(text.take("rules")["n"]):
+        text.take("rule")
+    return Table(text.name, text.told)
+
+
+def read_refusal(text: Text) -> Table:
+    text.take("refused", "read fault", "want of memory")
+    return Table(text.name, text.told)
+
+
+def read_ask(text: Text) -> Union[Reachable, Report]:
+    return read_reachable(text) if text.begins("reachable") else read_report(text)
+
+
+READERS: dict[str, Callable[[Text], Record]] = {
+    "trace": read_walk,
+    "ask": read_ask,
+    "check": read_check,
+    "replay": read_replay,
+    "make": read_make,
+    "matrix": read_matrix,
+    "reach": read_reach,
+    "diff": read_diff,
+    "expect": lambda text: read_judged(text, "fail"),
+    "flows": lambda text: read_judged(text, "differ"),
+    "unused": read_unused,
+    "refusal": read_refusal,
+}
+# Which text it is, by how its first line begins, or is.
+BEGINNINGS = {
+    **dict.fromkeys(["hop"], "trace"),
+    **dict.fromkeys(["reachable", "vpc-report", "more boxes"], "ask"),
+    **dict.fromkeys(["yes", "no"], "check"),
+    **dict.fromkeys(["event"], "replay"),
+    **dict.fromkeys(["make"], "make"),
+    **dict.fromkeys(["matrix"], "matrix"),
+    **dict.fromkeys(["vpc-reach", "more reach"], "reach"),
+    **dict.fromkeys(["vpc-diff", "more changes"], "diff"),
+    **dict.fromkeys(["rules"], "unused"),
+    **dict.fromkeys(["refused", "read", "want"], "refusal"),
+}
+
+
+def name_of(lines: list[str]) -> str:
+    """Which text these lines may be; none where no text begins so."""
+    if not lines:
+        return "replay"
+    first = lines[0]
+    if first.startswith(("line ", "ok ")):
+        return "flows" if " differ " in lines[-1] else "expect"
+    return BEGINNINGS.get(first) or BEGINNINGS.get(first.partition(" ")[0]) or ""
+
+
+def read_lines(name: str, lines: list[str], is_whole: bool) -> tuple[Record, list[Members]]:
+    """The record of a text of which these are the lines, and what each of them tells."""
+    text = Text(name, lines, is_whole)
+    found = READERS[name](text)
+    if text.at < len(lines):
+        text.refuse(text.at + 1)
+    return found, text.told
+
+
+def read_record(data: bytes, names: tuple[str, ...], what: str, meant: str, more: str) -> Record:
+    """The record of a text that is one of these. Where it is none, that is told of `what` was `meant`,
+    with `more` behind the beginning of a long line."""
+    try:
+        text = data.decode("ascii")
+    except UnicodeDecodeError:
+        raise NoText(f"it has a byte that no {what} of vpc has") from None
+    if not text.endswith("\n"):
+        raise NoText("its last line has no end" if text else "it is empty")
+    lines = text[:-1].split("\n")
+    name = name_of(lines)
+    if name not in names:
+        first = lines[0] if len(lines[0]) <= 60 else lines[0][:60] + more
+        raise NoText(f"{first!r} begins no {meant}")
+    try:
+        return read_lines(name, lines, False)[0]
+    except NoText as why:
+        if why.number is None:
+            raise
+        raise NoText(f"line {why.number} isn't what {article(what)} of vpc has there") from None
+
+
+def article(what: str) -> str:
+    return f"an {what}" if what[0] in "aeiou" else f"a {what}"

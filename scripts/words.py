@@ -1,0 +1,22 @@
+"""The words of vpc's texts, each list once. tests/words.py compares them with the sources of the program."""
+
+# What may stop a packet.
+STOPS = (
+    "Detached SourceCheck DestCheck GroupsOut GroupsIn NotAHost ApplianceDrop NoRoute Blackhole "
+    "AclOut AclIn NoHost NoGateway GatewayDetached NoPublic PrivateAddress NatNotAvailable NatAnswer "
+    "NatProtocol NatFull NatUnsolicited PeerNotActive PeerSource PeerDestination TgwNoAttachment "
+    "TgwNoZone TgwNoTable TgwNoRoute TgwBlackhole Unmodelled Loop TooFar WrongPlace WrongReturn NoReply"
+).split()
+# Where a packet may be.
+PLACES = "out router enter in igw-out internet igw-in nat-out nat-in peer tgw tgw-leave".split()
+# The lists of a bundle that may have too many rows.
+COUNTED_LISTS = (
+    "Vpcs Subnets NetworkInterfaces RouteTables PrefixLists NetworkAcls SecurityGroups "
+    "InternetGateways NatGateways VpcPeeringConnections TransitGatewayVpcAttachments "
+    "TransitGatewayAttachments TransitGatewayRoutes Appliances"
+).split()
+# The protocols that have a name.
+PROTOCOLS = {1: "icmp", 6: "tcp", 17: "udp"}
+PROTOCOL_NUMBERS = {name: number for number, name in PROTOCOLS.items()}
+# The sides of a header and of a box, as queries name them.
+SIDES = ("proto", "src", "dst", "sport", "port")
