@@ -16,13 +16,16 @@ import json
 import os
 import random
 import re
-import runpy
 import subprocess
 import sys
 import tempfile
 import traceback
 
 TOP = os.path.dirname(os.path.dirname(os.path.abspath(__file__)))
+sys.path.insert(0, TOP)
+
+from scripts import plan_bundle as script
+
 PLANS = os.path.join(TOP, "tests", "plans")
 
 # A web host that the internet reaches, and a database behind it. The rules of sg-old aren't listed separately. `Extra` is of no kind.
@@ -749,7 +752,7 @@ def planned(*words):
     """The status of plan-bundle, called within this process, and what it prints on standard output and standard error."""
     out, err = io.StringIO(), io.StringIO()
     with contextlib.redirect_stdout(out), contextlib.redirect_stderr(err):
-        status = MAIN(list(words))
+        status = script.main(list(words))
     return status, out.getvalue(), err.getvalue().splitlines()
 
 
@@ -1028,5 +1031,4 @@ def main(words):
 
 
 if __name__ == "__main__":
-    MAIN = runpy.run_path(os.path.join(TOP, "plan-bundle"))["main"]
     sys.exit(main(sys.argv[1:]))

@@ -2,9 +2,10 @@
 """What `survey` tells of small bundles, and whether the program answers as it says: tests/survey.py [PROGRAM]
 
 Each row of ROWS is one bundle: a small network and what the row puts into it. Its lines are all that survey prints of it, without
-`not followed: `. Where a row has a packet and PROGRAM is given, PROGRAM traces the packet in the same bundle, and its last line is
-the row's: so a line that says how packets end is true of the program. The rows call survey within this process, and a few more run
-it as one of its own. The last line is 'N passed, M failed'.
+`not followed: ` and with --all. Without it no line is another where each is of a kind of its own, and those of one kind are one line
+with their count (FOLDED). Where a row has a packet and PROGRAM is given, PROGRAM traces the packet in the same bundle, and its last
+line is the row's: so a line that says how packets end is true of the program. The rows call survey within this process, and a few
+more run it as one of its own. The last line is 'N passed, M failed'.
 """
 
 import contextlib
@@ -12,12 +13,14 @@ import copy
 import io
 import json
 import os
-import runpy
 import subprocess
 import sys
 import tempfile
 
 TOP = os.path.dirname(os.path.dirname(os.path.abspath(__file__)))
+sys.path.insert(0, TOP)
+
+from scripts import survey as script
 
 # vpc-a, attached to igw-a and to tgw-1, and vpc-b of another account, attached to tgw-1: a host and a table in each of the subnets.
 BASE = json.loads("""{
@@ -221,6 +224,26 @@ ROWS = [
     ("zones of one account", {"subnet": '{"AvailabilityZoneId": null, "OwnerId": "111122223333"}'}, [], None, None),
 ]
 
+# Name, what is put in, and the lines without --all.
+VGW = '{"DestinationCidrBlock": "10.%s.0.0/16", "GatewayId": "%s"}'
+FOLDED = [
+    ("two routes to one gateway", {"route": f"{VGW % (8, 'vgw-1')}, {VGW % (9, 'vgw-1')}"},
+     [f"2 routes that lead beyond what is followed, as rtb-a 10.8.0.0/16 to vgw-1: {STOPS}", f"vgw-1: {BEHIND}"]),
+    ("to two", {"route": f"{VGW % (8, 'vgw-1')}, {VGW % (9, 'vgw-2')}"},
+     [f"2 routes that lead beyond what is followed, as rtb-a 10.8.0.0/16 to vgw-1: {STOPS}",
+      "2 gateways to other networks, as vgw-1: packets from behind them can't be asked about"]),
+    ("a thousand of them", {"route": ", ".join('{"DestinationCidrBlock": "10.9.%d.%d/32", "GatewayId": "vpce-1"}' % (k // 256, k % 256) for k in range(1000))},
+     [f"1,000 routes that lead beyond what is followed, as rtb-a 10.9.0.0/32 to vpce-1: {STOPS}"]),
+    ("two instances", {"Reservations": '{"Instances": [{"InstanceId": "i-1", "State": {"Name": "stopped"}, "NetworkInterfaces": [{"NetworkInterfaceId": "eni-a"}]},'
+                                       '{"InstanceId": "i-2", "State": {"Name": "stopped"}, "NetworkInterfaces": [{"NetworkInterfaceId": "eni-b"}]}]}'},
+     ["2 instances that don't run, as i-1: their interfaces take and send packets all the same"]),
+    ("both directions of a reference", {"in": '{"IpProtocol": "tcp", "UserIdGroupPairs": [{"GroupId": "sg-a"}]}, {"IpProtocol": "udp", "UserIdGroupPairs": [{"GroupId": "sg-a"}]}'},
+     ["2 references over transit gateways, as sg-b in 2 to sg-a over tgw-1: what they alone allow stops as GroupsIn or GroupsOut"]),
+    ("a word that is none", {"RouteTables": '{"RouteTableId": "rtb-\\u001b[2J", "Routes": [{"DestinationIpv6CidrBlock": "::/0", "GatewayId": "igw-a"}]}, '
+                                            '{"RouteTableId": "rtb-z", "Routes": [{"DestinationIpv6CidrBlock": "::/0", "GatewayId": "igw-a"}]}'},
+     [f'2 route tables with routes of IPv6, as "rtb-\\u001b[2J": {IPV4}']),
+]
+
 # Files, the status, and the line on standard error behind 'survey: FILE '.
 FILES = [
     ("no file", None, 2, "can't be read: No such file or directory"),
@@ -256,7 +279,7 @@ def survey(*words):
     """The status of survey, called within this process, and its lines on standard output and standard error."""
     out, err = io.StringIO(), io.StringIO()
     with contextlib.redirect_stdout(out), contextlib.redirect_stderr(err):
-        status = MAIN(list(words))
+        status = script.main(list(words))
     return status, out.getvalue().splitlines(), err.getvalue().splitlines()
 
 
@@ -285,10 +308,29 @@ def run_row(results, row, path, program):
         put(bundle, place, texts)
     with open(path, "w", encoding="utf-8") as file:
         json.dump(bundle, file)
-    results.add(name, survey(path), (1 if lines else 0, [f"not followed: {it}" for it in lines], []))
+    wanted = (1 if lines else 0, [f"not followed: {it}" for it in lines], [])
+    results.add(name, survey("--all", path), wanted)
+    results.add(f"{name}, --all behind", survey(path, "--all"), wanted)
+    status, found, err = survey(path)
+    kinds = [it.kind for find in script.FINDERS for it in find(script.bundle_of(path))]
+    if len(set(kinds)) == len(lines):
+        results.add(f"{name}, by kinds", (status, found, err), wanted)
+    else:
+        results.add(f"{name}, by kinds", (status, len(found), err), (wanted[0], len(set(kinds)), []))
     if program and packet:
         ran = subprocess.run([program, "trace", path, *packet.split()], capture_output=True, text=True, check=False)
         results.add(f"{name}, traced", ran.stdout.splitlines()[-1:], [last])
+
+
+def run_folded(results, path):
+    """Several findings of a kind are one line, with the first of them; each that is alone in its kind is told as by --all."""
+    for name, parts, lines in FOLDED:
+        bundle = copy.deepcopy(BASE)
+        for place, texts in parts.items():
+            put(bundle, place, texts)
+        with open(path, "w", encoding="utf-8") as file:
+            json.dump(bundle, file)
+        results.add(name, survey(path), (1, [f"not followed: {it}" for it in lines], []))
 
 
 def run_file(results, row, path):
@@ -320,9 +362,9 @@ def run_others(results, path):
         results.add("a file of such a name", survey(name), (2, [], [f"survey: {json.dumps(name)} is no bundle: it is not one JSON value in UTF-8"]))
     os.remove(name)
     results.add("as a process, no bundle", process(os.devnull), (2, [], [f"survey: {os.devnull} is no bundle: it is not one JSON value in UTF-8"]))
-    for words in ([], [path, path], ["--all"]):
+    for words in ([], [path, path], ["--all"], ["--all", "--all", path], ["--all", path, path], ["--each", path]):
         results.add(f"words {words}", survey(*words), (2, [], ["survey: one BUNDLE is meant; --help says more"]))
-    results.add("--help", (survey("--help")[0], survey("--help")[1][:1]), (0, ["Tells what a bundle has that vpc doesn't follow: survey BUNDLE"]))
+    results.add("--help", (survey("--help")[0], survey("--help")[1][:1]), (0, ["Tells what a bundle has that vpc doesn't follow: survey [--all] BUNDLE"]))
 
 
 def main(words):
@@ -334,6 +376,7 @@ def main(words):
         path = os.path.join(room, "bundle.json")
         for row in ROWS:
             run_row(results, row, path, program)
+        run_folded(results, path)
         for row in FILES:
             run_file(results, row, path)
         run_others(results, path)
@@ -342,5 +385,4 @@ def main(words):
 
 
 if __name__ == "__main__":
-    MAIN = runpy.run_path(os.path.join(TOP, "survey"))["main"]
     sys.exit(main(sys.argv[1:]))
