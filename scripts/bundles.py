@@ -1,4 +1,5 @@
-"""What a bundle has: its objects and rows, the names of components, and how what a file tells is printed."""
+"""What a bundle has: its objects and rows, the names of components, and how what a file tells is
+printed."""
 
 from __future__ import annotations
 
@@ -49,15 +50,16 @@ HARMFUL = ("Cc", "Cf", "Cs", "Cn", "Zl", "Zp")
 
 
 def harmless(value: object, form: str = "id") -> str:
-    """What a file or a word tells, so that it can be printed: it can't pass for other words, nor for
-    a line of its own, nor do anything to a terminal.
+    """What a file or a word tells, so that it can be printed: it can't pass for other words, nor
+    for a line of its own, nor do anything to a terminal.
 
     An `id` is as it is where it is one, and else in the form of JSON; `words` may have blanks. A
     `name` is any text in one line, with a mark in the place of each letter that isn't visible. In a
     `line` such letters alone are in the form of JSON."""
     if form == "name":
-        seen = (unicodedata.category(it) in HARMFUL for it in str(value))
-        return " ".join("".join("\ufffd" if bad else it for it, bad in zip(str(value), seen)).split())
+        kinds = map(unicodedata.category, str(value))
+        seen = ("\ufffd" if kind in HARMFUL else it for it, kind in zip(str(value), kinds))
+        return " ".join("".join(seen).split())
     if form == "line":
         return "".join(it if " " <= it <= "~" else json.dumps(it)[1:-1] for it in str(value))
     first = "!" if form == "id" else " "
@@ -123,7 +125,8 @@ def rows(value: Any, *names: Any) -> list[Row]:
 # ---- names
 
 # The lists whose rows have a name.
-NAMED = [it for it in LISTS if it not in ("PrefixListEntries", "TransitGatewayRoutes", "Appliances")]
+NAMELESS = ("PrefixListEntries", "TransitGatewayRoutes", "Appliances")
+NAMED = [it for it in LISTS if it not in NAMELESS]
 
 
 def tag_of(row: Row) -> Optional[str]:

@@ -1,8 +1,11 @@
-"""What the commands have in common: how they start and read files, and what they say on standard error."""
+"""What the commands have in common: how they start and read files, and what they say on standard
+error."""
 
 from __future__ import annotations
 
+import gc
 import importlib
+import io
 import signal
 import sys
 from typing import Optional
@@ -27,8 +30,10 @@ def start(name: str) -> None:
     # (a reader that has enough, as head, ends it)
     signal.signal(signal.SIGPIPE, signal.SIG_DFL)
     signal.signal(signal.SIGINT, signal.SIG_DFL)
-    if sys.stdout:
-        sys.stdout.reconfigure(encoding="utf-8")  # type: ignore[union-attr]
+    # (nothing here refers in circles, and looking for circles takes time with large texts)
+    gc.disable()
+    if isinstance(sys.stdout, io.TextIOWrapper):
+        sys.stdout.reconfigure(encoding="utf-8")
     main = importlib.import_module(COMMANDS[name]).main
     sys.exit(main(sys.argv[1:]))
 

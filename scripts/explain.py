@@ -6,12 +6,12 @@ BUNDLE is the one that was asked:
     ./vpc ask shop.json from eni-web to eni-db | ./explain shop.json
 
 Of each hop it tells what let the packet pass: the rule of a group, the route, the rows of network
-ACLs, in words and with the names of components by their Name tags. Of what stopped it, it tells why,
-and what would have to change at that component; whether the packet then gets further is another
-question. What vpc doesn't follow (`Unmodelled`) is told as not known.
+ACLs, in words and with the names of components by their Name tags. Of what stopped it, it tells
+why, and what would have to change at that component; whether the packet then gets further is
+another question. What vpc doesn't follow (`Unmodelled`) is told as not known.
 
-It follows packets itself, as docs/WALK.md tells, to know what a rule decided. So it tells nothing of
-a text that BUNDLE doesn't bear out. That what it tells is true is tested, and not proved.
+It follows packets itself, as docs/WALK.md tells, to know what a rule decided. So it tells nothing
+of a text that BUNDLE doesn't bear out. That what it tells is true is tested, and not proved.
 
 Status 0; 2: the text is no answer of these commands, or not one about BUNDLE, or a file can't be
 read, as one line on standard error says. It needs Python 3.9 or later alone.
@@ -20,7 +20,7 @@ read, as one line on standard error says. It needs Python 3.9 or later alone.
 from __future__ import annotations
 
 import sys
-from collections.abc import Sequence
+from collections.abc import Callable, Sequence
 from typing import Any, Optional, Union
 
 from scripts import texts
@@ -127,7 +127,9 @@ class Answer:
         if isinstance(answer.request.end, texts.Stopped):
             goal = answer.request.end.name
         found = round_trip(self.network, self.known(start), self.known(goal), answer.packet)
-        stopped = found.stop if found.stop and found.phase == "request" else goal
+        stopped: Union[Stop, str] = goal
+        if found.stop and found.phase == "request":
+            stopped = found.stop
         unlike(answer.request, printed_walk(found.request, stopped))
         reply = found.reply or []
         unlike(answer.reply, printed_walk(reply, start) if reply and not found.stop else [])
@@ -144,9 +146,9 @@ class Answer:
         start, goal = self.known(report.start), self.known(report.goal)
         way = f"from {self.named(start)} to {self.named(goal)}: {box_words(report.box)}"
         self.tell(f"No packet gets through {way}.")
-        groups: dict[tuple[str, texts.Stopped], list[int]] = {}
+        groups: dict[tuple[str, str], list[int]] = {}
         for number, row in enumerate(report.rows, 1):
-            groups.setdefault((row.phase, row.stop), []).append(number)
+            groups.setdefault((row.phase, str(row.stop)), []).append(number)
         for numbers in groups.values():
             self.tell_rows(report, numbers)
         unknown = sum(it.stop.name == "Unmodelled" for it in report.rows)
@@ -161,8 +163,8 @@ class Answer:
             self.tell(f"The report was cut short. {what}")
 
     def tell_rows(self, report: texts.Report, numbers: list[int]) -> None:
-        """What stops the packets of rows that have one reason: of the first packet of the first such
-        row, which it is true of."""
+        """What stops the packets of rows that have one reason: of the first packet of the first
+        such row, which it is true of."""
         row = report.rows[numbers[0] - 1]
         header = low_corner(row.box)
         found = round_trip(self.network, report.start, report.goal, header)
@@ -246,11 +248,11 @@ class Answer:
 # What becomes of packets that no check of a report, of reach or of diff says.
 UNTOLD = {"untrue": ("at",), "unlisted": ("at", "through", "same", "stopped")}
 YES = (
-    "The report is true of this bundle: no packet of its box gets through, and each is stopped where "
-    "its row says.",
+    "The report is true of this bundle: no packet of its box gets through, and each is stopped "
+    "where its row says.",
     "What a row with Unmodelled holds is not known from there on.",
-    "Of what reach or diff printed, a yes says that each row is true, and that nothing else of what "
-    "was asked for is to be told.",
+    "Of what reach or diff printed, a yes says that each row is true, and that nothing else of "
+    "what was asked for is to be told.",
 )
 
 
@@ -285,12 +287,9 @@ def tell(network: Network, data: bytes) -> str:
     """What is told of a text."""
     found: Any = texts.read_record(data, TOLD, "answer", MEANT, "")
     answer = Answer(network, data.split(b"\n")[0][:60].decode("ascii"))
-    acts = {
-        texts.Walk: answer.trace,
-        texts.Reachable: answer.reachable,
-        texts.Report: answer.report,
-        texts.Verdict: answer.check,
-        texts.Events: answer.replay,
+    acts: dict[Any, Callable[[Any], None]] = {
+        texts.Walk: answer.trace, texts.Reachable: answer.reachable, texts.Report: answer.report,
+        texts.Verdict: answer.check, texts.Events: answer.replay,
     }
     acts[type(found)](found)
     return "\n".join(answer.out) + "\n"

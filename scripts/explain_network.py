@@ -6,7 +6,7 @@ import collections
 from collections.abc import Iterator
 from typing import Any, NamedTuple, Optional
 
-from scripts.bundles import TARGETS, Names, NoBundle, Row, harmless, json_in, member, objects_of, rows
+from scripts.bundles import TARGETS, Names, NoBundle, Row, json_in, member, objects_of, rows
 from scripts.commands import Refused
 from scripts.headers import Block, Header, address, block_of
 
@@ -159,8 +159,7 @@ def protocol_of(text: str) -> Optional[int]:
 
 def vpc_of(row: Row) -> Vpc:
     more = [
-        it["CidrBlock"]
-        for it in items(row, "CidrBlockAssociationSet")
+        it["CidrBlock"] for it in items(row, "CidrBlockAssociationSet")
         if member(it, "CidrBlockState", "State") in (None, "associated")
     ]
     return Vpc(row["VpcId"], [block_of(it) for it in dict.fromkeys([row["CidrBlock"], *more])])
@@ -176,14 +175,9 @@ def interface_of(row: Row) -> Interface:
     kind = row.get("InterfaceType") or "interface"
     plain = kind.lower().replace("_", "").replace("-", "")
     return Interface(
-        row["NetworkInterfaceId"],
-        row["SubnetId"],
-        addresses,
-        [it["GroupId"] for it in items(row, "Groups")],
-        row.get("SourceDestCheck") is not False,
-        row.get("Status") == "available",
-        plain in ("natgateway", "transitgateway"),
-        kind,
+        row["NetworkInterfaceId"], row["SubnetId"], addresses,
+        [it["GroupId"] for it in items(row, "Groups")], row.get("SourceDestCheck") is not False,
+        row.get("Status") == "available", plain in ("natgateway", "transitgateway"), kind,
     )
 
 
@@ -340,14 +334,14 @@ class Network:
     def listed_rules(
         self, known: set[str], listed: list[Row]
     ) -> dict[str, tuple[list[Rule], list[Rule]]]:
-        """The rules that have rows of their own, inward and outward, of each group that has some."""
+        """The rules that have rows of their own, inward and outward, of each group that has
+        some."""
         apart: dict[str, tuple[list[Rule], list[Rule]]] = {}
         seen = set()
         for it in listed:
             reference = member(it, "ReferencedGroupInfo", "GroupId")
             has_far = any(
-                that is not None
-                for that in (it.get("CidrIpv4"), it.get("PrefixListId"), reference)
+                that is not None for that in (it.get("CidrIpv4"), it.get("PrefixListId"), reference)
             )
             if has_far and it["GroupId"] in known and it["SecurityGroupRuleId"] not in seen:
                 seen.add(it["SecurityGroupRuleId"])
@@ -360,8 +354,7 @@ class Network:
         self.igw_of: dict[str, str] = {}
         for row in gateways:
             attached = [
-                it["VpcId"]
-                for it in items(row, "Attachments")
+                it["VpcId"] for it in items(row, "Attachments")
                 if it["State"] in ("available", "attached")
             ]
             self.igws[row["InternetGatewayId"]] = attached
@@ -392,12 +385,13 @@ class Network:
                 found = Attachment(name, gateway, row["VpcId"], list(items(row, "SubnetIds")))
                 self.attachments.setdefault(name, found)
         for row in lists["TransitGatewayAttachments"]:
-            table = member(row, "Association", "TransitGatewayRouteTableId")
+            table = member(row.get("Association"), "TransitGatewayRouteTableId")
             if table is not None:
                 self.associations.setdefault(row["TransitGatewayAttachmentId"], table)
         for row in lists["TransitGatewayRoutes"]:
-            routes = [it for it in items(row, "Routes") if ":" not in it["DestinationCidrBlock"]]
-            self.transit_tables[row["TransitGatewayRouteTableId"]] = list(map(transit_route_of, routes))
+            table, routes = row["TransitGatewayRouteTableId"], items(row, "Routes")
+            routes = [it for it in routes if ":" not in it["DestinationCidrBlock"]]
+            self.transit_tables[table] = list(map(transit_route_of, routes))
 
     def index_addresses(self) -> None:
         self.host_at: dict[tuple[str, int], Interface] = {}
@@ -436,20 +430,20 @@ class Network:
 
     def choose_transit(self, table: str, number: int) -> Optional[TransitRoute]:
         found = [it for it in self.transit_tables[table] if it.block.holds(number)]
-        return max(found, key=lambda it: (it.block.length, not it.propagated), default=None)
+
+        def rank(it: TransitRoute) -> tuple[int, bool]:
+            return it.block.length, not it.propagated
+
+        return max(found, key=rank) if found else None
 
     def decide(self, acl: Acl, outward: bool, h: Header) -> Optional[AclRow]:
         """The row that decides; None where none matches."""
         far = h.dst if outward else h.src
         found = [
-            it
-            for it in acl.rows
-            if it.outward == outward
-            and it.proto in (None, h.proto)
-            and it.first <= h.q <= it.last
-            and it.block.holds(far)
+            it for it in acl.rows if it.outward == outward and it.proto in (None, h.proto)
+            and it.first <= h.q <= it.last and it.block.holds(far)
         ]
-        return min(found, key=lambda it: it.number, default=None)
+        return min(found, key=lambda it: it.number) if found else None
 
     def counts(self, group: str, reference: str) -> bool:
         """Whether a group's rule may name another group."""

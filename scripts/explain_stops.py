@@ -3,22 +3,14 @@
 from __future__ import annotations
 
 from collections.abc import Iterator
-from typing import Any, Optional
+from typing import Optional
 
 from scripts.bundles import harmless
 from scripts.explain_network import Interface, Route, Rule
 from scripts.explain_walk import MOST_PLACES, MOST_TRANSLATIONS, Stop, is_unroutable
 from scripts.explain_words import (
-    Teller,
-    appliance_words,
-    direction,
-    flow_words,
-    icmp_words,
-    list_words,
-    packet_words,
-    ports_words,
-    some,
-    way_words,
+    Teller, appliance_words, direction, flow_words, icmp_words, list_words, packet_words,
+    ports_words, some, way_words,
 )
 from scripts.headers import Header, dotted
 
@@ -29,15 +21,15 @@ ANOTHER = "or be deleted, so that another one is chosen"
 # stops that aren't here have a method there.
 SENTENCES = {
     "Detached": (
-        "{s.it} is attached to nothing (its status is available), so no packet leaves it or comes to "
-        "it.",
+        "{s.it} is attached to nothing (its status is available), so no packet leaves it or comes "
+        "to it.",
         "{s.it} would have to be attached to an instance.",
     ),
     "SourceCheck": (
         "{s.its_source} is none of the private addresses of {s.it} ({s.addresses}), and its "
         "source/destination check is on.",
-        "the packet would have to come from one of these addresses, or the source/destination check "
-        "of {s.it} to be off.",
+        "the packet would have to come from one of these addresses, or the source/destination "
+        "check of {s.it} to be off.",
     ),
     "DestCheck": (
         "{s.its_destination} is none of the private addresses of {s.it} ({s.addresses}), and its "
@@ -47,8 +39,8 @@ SENTENCES = {
     ),
     "ApplianceDrop": (
         "the appliance at {s.it} forwards {s.forwarded}, and not {s.packet}.",
-        "what is told of it in Appliances would have to forward {s.packet}, or a route to lead around "
-        "it.",
+        "what is told of it in Appliances would have to forward {s.packet}, or a route to lead "
+        "around it.",
     ),
     "NoRoute": (
         "{s.table} has no route for {s.destination}.",
@@ -56,11 +48,13 @@ SENTENCES = {
     ),
     "Blackhole": (
         "{s.it}: {s.chosen_route} is a blackhole, since its target is gone.",
-        f"the route {{s.rule}} of {{s.it}} would have to lead to a target that is there, {ANOTHER}.",
+        f"the route {{s.rule}} of {{s.it}} would have to lead to a target that is there, "
+        f"{ANOTHER}.",
     ),
     "NoHost": (
         "no interface of VPC {s.it} has the address {s.destination}.",
-        "an interface of {s.it} would have to have {s.destination}, or a route to send it elsewhere.",
+        "an interface of {s.it} would have to have {s.destination}, or a route to send it "
+        "elsewhere.",
     ),
     "NoGateway": (
         "{s.public_address} in VPC {s.it}, and no internet gateway is attached to that VPC.",
@@ -98,12 +92,11 @@ SENTENCES = {
     ),
     "NatUnsolicited": (
         "{s.unsolicited} NAT gateway {s.it} lets in only the answers to what it sent out.",
-        "the connection would have to be opened from inside, or the packet to go to a public address "
-        "that is the host's own.",
+        "the connection would have to be opened from inside, or the packet to go to a public "
+        "address that is the host's own.",
     ),
     "PeerNotActive": (
-        "the status of peering {s.it} is {s.peering_code}.",
-        "{s.it} would have to be active.",
+        "the status of peering {s.it} is {s.peering_code}.", "{s.it} would have to be active.",
     ),
     "TgwNoAttachment": (
         "transit gateway {s.it} has no attachment to {s.vpc} that is available.",
@@ -128,8 +121,8 @@ SENTENCES = {
     ),
     "Unmodelled": (
         "not known: {s.beyond}. The packet is neither let through nor refused here.",
-        "nothing that is known. To learn more, ask on from behind {s.it}, or about the part before it "
-        "(docs/LIMITS.md).",
+        "nothing that is known. To learn more, ask on from behind {s.it}, or about the part "
+        "before it (docs/LIMITS.md).",
     ),
     "Loop": (
         "the packet would come to {s.it} a second time: routes lead it in a circle.",
@@ -153,7 +146,9 @@ ENDINGS = {
         "come to {}, from where on it is not known what becomes of them (Unmodelled)",
     ),
     "WrongPlace": ("arrives elsewhere, at {} (WrongPlace)", "arrive elsewhere, at {} (WrongPlace)"),
-    "WrongReturn": ("arrives elsewhere, at {} (WrongReturn)", "arrive elsewhere, at {} (WrongReturn)"),
+    "WrongReturn": (
+        "arrives elsewhere, at {} (WrongReturn)", "arrive elsewhere, at {} (WrongReturn)"
+    ),
     "NoReply": ("ends at {} (NoReply)", "end at {} (NoReply)"),
 }
 
@@ -177,7 +172,8 @@ def ended(teller: Teller, stop: Stop, are_many: bool) -> str:
 
 
 class Why:
-    """The words of a stop. The header is None where the packet isn't told, as in what replay prints."""
+    """The words of a stop. The header is None where the packet isn't told, as in what replay
+    prints."""
 
     def __init__(self, teller: Teller, stop: Stop) -> None:
         self.teller, self.network, self.stop, self.facts = teller, teller.network, stop, stop.facts
@@ -251,7 +247,8 @@ class Why:
     def tables_on_the_way(self) -> str:
         """Those of which a route led the packet."""
         notes = [it for hop in self.facts.get("hops", []) for it in hop.notes]
-        tables = [it[1].id if it[0] == "route" else it[1] for it in notes if it[0] in ("route", "transit")]
+        routes = [it[1:] for it in notes if it[0] in ("route", "transit")]
+        tables = [table if isinstance(table, str) else table.id for table, _ in routes]
         return f": those of {some(map(self.teller.named, tables))}" if tables else ""
 
     # -- components
@@ -310,7 +307,8 @@ class Why:
         subnet = self.facts.get("subnet")
         if not subnet:
             return "the zone of the subnet that sends"
-        return f"zone {harmless(self.network.subnets[subnet].zone)}, that of {self.teller.named(subnet)}"
+        zone = harmless(self.network.subnets[subnet].zone)
+        return f"zone {zone}, that of {self.teller.named(subnet)}"
 
     @property
     def transit_table(self) -> str:
@@ -384,9 +382,7 @@ class Why:
         """Groups that hold the address, and whose naming doesn't count."""
         network, named = self.network, self.teller.named
         found = [
-            (group, it)
-            for group, rule in rules
-            for it in rule.groups
+            (group, it) for group, rule in rules for it in rule.groups
             if network.allows_flow(rule, h) and far in network.members.get(it, {})
         ]
         for group, it in found:
@@ -442,7 +438,8 @@ class Why:
             which = [f"its {word} {dotted(it)}" for word, it in both if is_unroutable(it)]
         are = "are" if len(which) > 1 else "is"
         public = "public addresses" if len(which) > 1 else "a public address"
-        routes = "routes to keep the packet off the internet, as those to a peering or a transit gateway do"
+        inner = "as those to a peering or a transit gateway do"
+        routes = f"routes to keep the packet off the internet, {inner}"
         why = f"the packet is on the internet, where {list_words(which)} {are} non-routable."
         return why, f"{list_words(which)} would have to be {public}, or {routes}."
 
@@ -482,8 +479,9 @@ class Why:
         if not goal:
             change = "the packet would have to go elsewhere."
         elif goal == "internet":
-            change = "the packet would have to go to an address that is none of the bundle's public "
-            change += "ones, and routes to lead it to the internet."
+            where = "an address that is none of the bundle's public ones"
+            routes = "routes to lead it to the internet"
+            change = f"the packet would have to go to {where}, and {routes}."
         else:
             where = f"an address of {named(goal)}"
             change = f"the packet would have to go to {where}, or routes to lead it there."

@@ -7,16 +7,7 @@ from typing import Any, Optional
 
 from scripts.bundles import harmless
 from scripts.explain_network import (
-    Acl,
-    AclRow,
-    Appliance,
-    Attachment,
-    Interface,
-    Network,
-    Route,
-    RouteTable,
-    Rule,
-    TransitRoute,
+    Acl, AclRow, Appliance, Attachment, Interface, Network, Route, RouteTable, Rule, TransitRoute,
 )
 from scripts.explain_walk import Hop, Note, is_unroutable
 from scripts.headers import Block, Box, Header, dotted
@@ -186,7 +177,8 @@ class Teller:
 
     def route_words(self, route: Route) -> str:
         reach = str(route.block) if route.block else f"prefix list {self.named(route.list or '')}"
-        return f"{reach} (local)" if route.kind == "local" else f"{reach} to {self.named(route.target)}"
+        goal = "(local)" if route.kind == "local" else f"to {self.named(route.target)}"
+        return f"{reach} {goal}"
 
     # -- hops
 

@@ -1,4 +1,5 @@
-"""The forms that lines of vpc's texts have, each once: what a line tells, and the line that tells it."""
+"""The forms that lines of vpc's texts have, each once: what a line tells, and the line that tells
+it."""
 
 from __future__ import annotations
 
@@ -147,59 +148,34 @@ FARES = ["word=through|same", *CHANGES, "word=reached end:ID", "PHASE STOP", "en
 FORMS = {
     "trace": WALK,
     "ask": [
-        *(f"(phase) {it}" for it in WALK),
-        "reachable",
-        "packet HEADER",
-        "request",
-        "reply",
-        "vpc-report VERSION",
-        "more~boxes",
-        "query from from:ID to to:ID",
-        "box BOX",
-        "row N PHASE STOP BOX",
-        "end N",
-        "next HEADER",
-        "cells CELLS",
+        *(f"(phase) {it}" for it in WALK), "reachable", "packet HEADER", "request", "reply",
+        "vpc-report VERSION", "more~boxes", "query from from:ID to to:ID", "box BOX",
+        "row N PHASE STOP BOX", "end N", "next HEADER", "cells CELLS",
     ],
     "check": [
-        "yes",
-        "no why=overlap i:NUMBER j:NUMBER",
-        "no why=uncovered HEADER",
+        "yes", "no why=overlap i:NUMBER j:NUMBER", "no why=uncovered HEADER",
         *(f"no why=untrue i:NUMBER HEADER {it}" for it in FARES),
         *(f"no why=unlisted start:ID HEADER {it}" for it in FARES),
     ],
     "replay": ["event N outcome=arrived ID HEADER", "event N outcome=stopped STOP"],
     "make": [
-        "make N",
-        "pair from:ID to:ID answer=reachable HEADER",
-        "pair from:ID to:ID answer=blocked",
+        "make N", "pair from:ID to:ID answer=reachable HEADER", "pair from:ID to:ID answer=blocked",
     ],
     "matrix": [
-        "matrix",
-        "pair from:ID to:ID answer=blocked|no-address",
+        "matrix", "pair from:ID to:ID answer=blocked|no-address",
         "pair from:ID to:ID answer=open ports:RANGES",
     ],
     "reach": [
-        "vpc-reach VERSION",
-        "more~reach",
-        "query PAIRS",
-        "row N start:ID end:ID BOX",
-        "end N",
+        "vpc-reach VERSION", "more~reach", "query PAIRS", "row N start:ID end:ID BOX", "end N",
         "next start:ID HEADER",
     ],
     "diff": [
-        "vpc-diff VERSION",
-        "more~changes",
-        "query PAIRS",
-        *(f"row N start:ID {it} BOX" for it in CHANGES),
-        "end N",
-        "next start:ID HEADER",
+        "vpc-diff VERSION", "more~changes", "query PAIRS",
+        *(f"row N start:ID {it} BOX" for it in CHANGES), "end N", "next start:ID HEADER",
     ],
     "expect": [
-        "line N answer=blocked",
-        "line N answer=reachable HEADER",
-        "line N (answer=stopped) PHASE STOP HEADER",
-        "ok ok:NUMBER fail fail:NUMBER",
+        "line N answer=blocked", "line N answer=reachable HEADER",
+        "line N (answer=stopped) PHASE STOP HEADER", "ok ok:NUMBER fail fail:NUMBER",
     ],
     "flows": [
         "line N action=ACCEPT STOP",
@@ -209,40 +185,33 @@ FORMS = {
         "unknown unknown:NUMBER skipped skipped:NUMBER",
     ],
     "unused": [
-        "rules N",
-        "rule ID DIRECTION RULE answer=needed HEADER",
+        "rules N", "rule ID DIRECTION RULE answer=needed HEADER",
         "rule ID DIRECTION RULE answer=unused",
     ],
     "refusal": [
         "refused of=words|events|report|reach|diff|rules|log|number N",
         "refused of=events|report|reach|diff|rules|log why=TooBig",
         "refused of=report|reach|diff why=TooManyBoxes N",
-        "refused of=matrix|reach|diff why=TooManyInterfaces",
-        "refused of=unused why=TooManyRules",
+        "refused of=matrix|reach|diff why=TooManyInterfaces", "refused of=unused why=TooManyRules",
         "refused of=packet|query why=BadWord|UnknownId N",
-        "refused of=packet|query why=NotAnEnd ID",
-        "refused of=query why=EmptyRange N",
-        "refused of=query why=NoAddress ID",
-        "refused of=query why=BothInternet|MaxOutOfRange",
-        "refused BUNDLE why=TooBig|NotJson",
-        "refused BUNDLE why=WrongShape|BadText PATH",
+        "refused of=packet|query why=NotAnEnd ID", "refused of=query why=EmptyRange N",
+        "refused of=query why=NoAddress ID", "refused of=query why=BothInternet|MaxOutOfRange",
+        "refused BUNDLE why=TooBig|NotJson", "refused BUNDLE why=WrongShape|BadText PATH",
         "refused BUNDLE why=DuplicateId|TwoTables ID",
         "refused BUNDLE why=MissingReference from:ID to:ID",
         "refused BUNDLE why=DuplicateAddress vpc:ID ADDRESS",
         "refused BUNDLE why=DuplicatePublic ADDRESS",
         "refused BUNDLE why=NoRouteTable|NoAcl|TwoAcls subnet:ID",
-        "refused BUNDLE why=TwoInternetGateways vpc:ID",
-        "refused BUNDLE why=TooManyRows LIST",
-        "read~fault N",
-        "want~of~memory",
+        "refused BUNDLE why=TwoInternetGateways vpc:ID", "refused BUNDLE why=TooManyRows LIST",
+        "read~fault N", "want~of~memory",
     ],
 }
 
 
 class Part:
-    """A word of a form, or two. `before` is what stands there as it is, and `field` what is told, if
-    anything; `kind` is None where it isn't printed, and `value` then what it is, unless that is told
-    by what stands around."""
+    """A word of a form, or two. `before` is what stands there as it is, and `field` what is told,
+    if anything; `kind` is None where it isn't printed, and `value` then what it is, unless that is
+    told by what stands around."""
 
     def __init__(self, words: str) -> None:
         self.before, self.field, self.needed = "", "", True
@@ -287,28 +256,32 @@ class Form:
         fields = {it.field: it.value for it in self.parts if it.field}
         self.told: Members = {"text": text, "line": self.tag, **fields}
         self.printed = [(it.field, it.kind) for it in self.parts if it.kind]
-        self.readers = [(field, kind.read) for field, kind in self.printed]
-        self.needed = self.told.keys() - {it.field for it in self.parts if it.kind and not it.needed}
+        self.fields = [field for field, _ in self.printed]
+        self.readers = [(field, kind.read) for field, kind in self.printed if kind.read]
+        self.spare = {it.field for it in self.parts if it.kind and not it.needed}
+        self.needed = self.told.keys() - self.spare
 
     @functools.cached_property
     def pattern(self) -> re.Pattern[str]:
         return re.compile("".join(it.pattern() for it in self.parts)[1:])
 
     def read(self, line: str, around: Mapping[str, Any]) -> Optional[Members]:
-        """What a line tells, beside what is told by what stands around it; None where it hasn't this
-        form."""
+        """What a line tells, beside what is told by what stands around it; None where it hasn't
+        this form."""
         found = self.pattern.fullmatch(line)
         if not found:
             return None
         told = {**self.told, **around}
+        told.update(zip(self.fields, found.groups()))
         try:
-            for (field, read), word in zip(self.readers, found.groups()):
-                if word is None:
-                    del told[field]
-                else:
-                    told[field] = read(word) if read else word
+            for field, read in self.readers:
+                if told[field] is not None:
+                    told[field] = read(told[field])
         except NoForm:
             return None
+        for field in self.spare:
+            if found[1 + self.fields.index(field)] is None:
+                del told[field]
         return told
 
     def has_fields(self, told: Members) -> bool:
@@ -332,7 +305,8 @@ class Form:
 
 @functools.lru_cache(None)
 def forms_of(name: str) -> dict[str, list[Form]]:
-    """The forms of the lines of a text, by how they begin. A text that isn't there is a KeyError."""
+    """The forms of the lines of a text, by how they begin. A text that isn't there is a
+    KeyError."""
     forms: dict[str, list[Form]] = {}
     for words in FORMS[name]:
         form = Form(name, words)

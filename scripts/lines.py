@@ -10,16 +10,15 @@ for byte.
      (in one line)
 
 `text` is the command that answered, or `refusal`, and `line` how the line begins. The other members
-are what README and docs/WALK.md name so, as it is printed, but for these: a range is an array of its
-first and its last; a rule that is `-` is null; `by` is `rule`, `tracked` or `none`, and left out
-where nothing let the packet pass; what belongs to a walk of `ask` has the `phase` above it; `cells`
-is a text, since it may have more digits than jq keeps.
+are what README and docs/WALK.md name so, as it is printed, but for these: a range is an array of
+its first and its last; a rule that is `-` is null; `by` is `rule`, `tracked` or `none`, and left
+out where nothing let the packet pass; what belongs to a walk of `ask` has the `phase` above it;
+`cells` is a text, since it may have more digits than jq keeps.
 
 Every text of every command is read, and every refusal, whole or not at all: of what is none, or a
-part of one, nothing is printed but a line on standard error, with status 2. So --back does with what
-is not the lines of a text. An empty text is that of a replay without events. Status 1: the output
-could not be written. It needs Python 3.9 or later alone.
-"""
+part of one, nothing is printed but a line on standard error, with status 2. So --back does with
+what is not the lines of a text. An empty text is that of a replay without events. Status 1: the
+output could not be written. It needs Python 3.9 or later alone. """
 
 from __future__ import annotations
 

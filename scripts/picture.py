@@ -12,11 +12,11 @@ TEXT or comes on standard input:
 
 A walk has its reply coming back beside it. A report is a plane of the two sides of its box that its
 rows cut into most pieces. A matrix is folded into classes of interfaces that reach and are reached
-alike, and so are the ends of reach and of diff; what opens stands in red. Whatever is too much to be
-drawn is counted. Each word of a picture stands in the text or in BUNDLE, but for those of OWN_WORDS
-in scripts/picture.py. The colours are ones that colour-blind readers can tell, with a word beside
-each; the reader's light or dark scheme decides the rest. Pictures prove nothing: what they show is
-what the text says.
+alike, and so are the ends of reach and of diff; what opens stands in red. Whatever is too much to
+be drawn is counted. Each word of a picture stands in the text or in BUNDLE, but for those of
+OWN_WORDS in scripts/picture.py. The colours are ones that colour-blind readers can tell, with a
+word beside each; the reader's light or dark scheme decides the rest. Pictures prove nothing: what
+they show is what the text says.
 
 Status 0; 2: TEXT is no text that can be drawn, or something can't be read, as one line on standard
 error says. It needs Python 3.9 or later alone.
@@ -41,9 +41,9 @@ from scripts.texts import NoText
 
 # The words of pictures that stand in no text, but for numbers.
 OWN_WORDS = (
-    "proto src dst sport port icmp tcp udp request reply rewritten row rows in no several one place "
-    "not known drawn and more of pieces matrix class classes interface interfaces pair pairs open "
-    "blocked reachable reached nothing changed from to packet hop box next cells"
+    "proto src dst sport port icmp tcp udp request reply rewritten row rows in no several one "
+    "place not known drawn and more of pieces matrix class classes interface interfaces pair "
+    "pairs open blocked reachable reached nothing changed from to packet hop box next cells"
 ).split()
 DRAWN = ("trace", "ask", "matrix", "reach", "diff")
 DRAWERS: dict[Any, Callable[[Any, Names, str], tuple[Drawing, str, str]]] = {
@@ -147,7 +147,8 @@ def picture(words: Sequence[str]) -> str:
     bundle, is_page, paths = told_words(words)
     names = read_names(bundle) if bundle else Names()
     if is_page:
-        return page([(it, read(it)) for it in paths or [None]], names)
+        meant: list[Optional[str]] = [*paths] or [None]
+        return page([(it, read(it)) for it in meant], names)
     path = paths[0] if paths else None
     drawing, title, told = draw(path, read(path), names, "")
     return drawing.svg(title, told)

@@ -7,7 +7,7 @@ import operator
 import random
 import re
 from collections.abc import Hashable, Iterable, Mapping, Sequence
-from typing import Generic, NamedTuple, Optional, TypeVar
+from typing import Generic, Optional, TypeVar
 
 from scripts.bundles import Names
 from scripts.picture_canvas import Drawing, Run, flowed, grouped, width_of_runs, wrapped
@@ -28,9 +28,10 @@ class Class(Generic[Key]):
 def fold(ids: Sequence[Key], cells: Cells[Key]) -> list[Class[Key]]:
     """Classes of ids that may change places with nothing changed.
 
-    Two ids are of one class where all others see them alike, and they see each other alike. With that
-    last number on the diagonal their rows are equal, and their columns, so ids are sorted by sums of
-    both, once for each number that may stand there; what falls together is then compared whole."""
+    Two ids are of one class where all others see them alike, and they see each other alike. With
+    that last number on the diagonal their rows are equal, and their columns, so ids are sorted by
+    sums of both, once for each number that may stand there; what falls together is then compared
+    whole."""
     columns: dict[Key, dict[Key, int]] = {it: {} for it in ids}
     for row, told in cells.items():
         for column, value in told.items():

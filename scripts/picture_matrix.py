@@ -102,7 +102,8 @@ def cell_lines(values: dict[int, Value], counts: Counts, most: int = 4) -> list[
 def draw_matrix(matrix: Matrix, names: Names, drawing_name: str) -> tuple[Drawing, str, str]:
     folded = Folded(matrix)
     count = len(folded.classes)
-    grid = Grid(folded, [Label(it.ids, names, 250, 4 if count > 12 else 6) for it in folded.classes])
+    most = 4 if count > 12 else 6
+    grid = Grid(folded, [Label(it.ids, names, 250, most) for it in folded.classes])
     width = 2 * MARGIN + LABELS + grid.size * count
     drawing = Drawing(max(width, 620), drawing_name)
     classes = counted_words(folded.exact, "class", "classes")

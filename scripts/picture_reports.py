@@ -11,19 +11,8 @@ from typing import Optional, TypeVar
 from scripts.bundles import Names
 from scripts.headers import Box, Range, dotted
 from scripts.picture_canvas import (
-    MARGIN,
-    PALETTE,
-    UNKNOWN,
-    Drawing,
-    Run,
-    beside_or_below,
-    counted_words,
-    flowed,
-    grouped,
-    number,
-    width_of,
-    width_of_runs,
-    wrapped,
+    MARGIN, PALETTE, UNKNOWN, Drawing, Run, beside_or_below, counted_words, flowed, grouped, number,
+    width_of, width_of_runs, wrapped,
 )
 from scripts.picture_walks import draw_ends
 from scripts.texts import Report, ReportRow
@@ -42,10 +31,10 @@ Line = TypeVar("Line")
 
 def range_words(side: int, first: int, last: int) -> str:
     """A range of a side as a text tells it; a number alone where it is one."""
-    of = dotted if side in (1, 2) else str
+    low, high = (dotted(it) if side in (1, 2) else str(it) for it in (first, last))
     if first == last:
-        return f"{first} {PROTOCOLS[first]}" if side == 0 and first in PROTOCOLS else of(first)
-    return f"{of(first)}-{of(last)}"
+        return f"{first} {PROTOCOLS[first]}" if side == 0 and first in PROTOCOLS else low
+    return f"{low}-{high}"
 
 
 def box_words(box: Box) -> list[str]:
@@ -129,8 +118,8 @@ def axes_of(report: Report) -> tuple[Axis, Axis]:
 
 
 def alike_groups(lines: Sequence[Line], most: int) -> list[list[int]]:
-    """Which lines of cells are drawn as one: neighbours that are equal; where there are too many, all
-    that are."""
+    """Which lines of cells are drawn as one: neighbours that are equal; where there are too many,
+    all that are."""
     groups: list[list[int]] = []
     for k, it in enumerate(lines):
         if groups and lines[groups[-1][0]] == it:
@@ -148,8 +137,8 @@ def alike_groups(lines: Sequence[Line], most: int) -> list[list[int]]:
 def cells_of(
     report: Report, marks: Sequence[int], across: Axis, down: Axis
 ) -> list[list[Marks]]:
-    """The marks of each cell, line by line. Lines and columns that are alike are joined, and the axes
-    know."""
+    """The marks of each cell, line by line. Lines and columns that are alike are joined, and the
+    axes know."""
     bits_of: list[dict[int, int]] = [{} for _ in down.pieces]
     for row, mark in zip(report.rows, marks):
         left, right = map(across.at, row.box[across.side])
@@ -233,8 +222,7 @@ class Reasons:
         self.colors = {name: k for k, name in enumerate(names)}
         self.each = sum(map(len, self.components.values())) <= 24
         keys: list[tuple[Reason, Optional[Component]]] = [
-            (reason, it)
-            for reason in self.rows
+            (reason, it) for reason in self.rows
             for it in (self.components[reason] if self.each else [None])
         ]
         self.numbers = {it: k for k, it in enumerate(keys, 1)}

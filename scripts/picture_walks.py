@@ -4,21 +4,14 @@ from __future__ import annotations
 
 import itertools
 from collections.abc import Sequence
-from typing import Optional, Union
+from typing import Optional
 
 from scripts.bundles import Names
 from scripts.headers import Header
 from scripts.picture_canvas import (
-    GAP,
-    MARGIN,
-    Drawing,
-    Run,
-    beside_or_below,
-    number,
-    width_of,
-    wrapped,
+    GAP, MARGIN, Drawing, Run, beside_or_below, number, width_of, wrapped,
 )
-from scripts.texts import Arrived, Hop, Reachable, Stopped, Walk
+from scripts.texts import Arrived, End, Hop, Reachable, Stopped, Walk
 from scripts.words import SIDES
 
 ICONS = {
@@ -49,7 +42,6 @@ KINDS = {
 LANE = 424
 STEP = 18
 ROUND = ' stroke-linecap="round" stroke-linejoin="round"'
-End = Union[Arrived, Stopped]
 
 
 def side_words(header: Header) -> list[str]:
@@ -101,8 +93,8 @@ class Card:
         if self.more_id and names.of(hop.id):
             self.below = wrapped(names.of(hop.id) or "", room, 12)
         # (source and its port stand side by side)
-        words, old = hop.header.words(), before.words() if before else None
-        self.header = [(words[it], bool(old) and words[it] != old[it]) for it in (0, 1, 3, 2, 4)]
+        words, old = hop.header.words(), (before or hop.header).words()
+        self.header = [(words[it], words[it] != old[it]) for it in (0, 1, 3, 2, 4)]
         self.is_first = before is None
         self.lay_by(names, room)
         self.height = 33 + 17 * len(self.more_id) + 16 * len(self.below) + 19
@@ -177,8 +169,8 @@ def cards_of(walk: Walk, names: Names, width: float = LANE) -> list[Card]:
 def beside_each_other(
     request: list[Card], reply: list[Card]
 ) -> list[tuple[Optional[Card], Optional[Card]]]:
-    """The two walks as rows, the reply from its end to its start: hops of one component stand in one
-    row where that can be."""
+    """The two walks as rows, the reply from its end to its start: hops of one component stand in
+    one row where that can be."""
     back = reply[::-1]
 
     def worth(i: int, j: int) -> int:
@@ -269,10 +261,9 @@ def draw_both(drawing: Drawing, request: Walk, reply: Walk, names: Names) -> Non
     for x, word in ((left, "request"), (right, "reply")):
         drawing.text(x + 2, drawing.bottom + 12, word, 12, "soft", False, True)
     top = drawing.bottom + 20
-    returned = draw_end(drawing, right, top, reply.end, names)
     # (where each lane was drawn to)
-    bottoms = {left: 0.0, right: returned}
-    top = returned + STEP
+    bottoms = {left: 0.0, right: draw_end(drawing, right, top, reply.end, names)}
+    top = bottoms[right] + STEP
     for row in beside_each_other(cards_of(request, names), cards_of(reply, names)):
         for x, card in zip((left, right), row):
             if card:
@@ -283,7 +274,7 @@ def draw_both(drawing: Drawing, request: Walk, reply: Walk, names: Names) -> Non
         top += max(it.height for it in row if it) + STEP
     arrow(drawing, left + 26, bottoms[left], top)
     drawing.bottom = draw_end(drawing, left, top, request.end, names)
-    draw_turn(drawing, right + 26, top + end_height(request.end, names) / 2, returned)
+    draw_turn(drawing, right + 26, top + end_height(request.end, names) / 2, bottoms[right])
 
 
 def draw_turn(drawing: Drawing, x: float, turn: float, top: float) -> None:

@@ -9,16 +9,7 @@ from typing import NamedTuple, Optional, TypeVar, Union
 from scripts.bundles import Names
 from scripts.headers import LAST, Box, dotted
 from scripts.picture_canvas import (
-    GAP,
-    MARGIN,
-    Drawing,
-    counted_words,
-    first_of,
-    flowed,
-    grouped,
-    number,
-    width_of,
-    wrapped,
+    GAP, MARGIN, Drawing, counted_words, first_of, flowed, grouped, number, width_of, wrapped,
 )
 from scripts.picture_classes import MOST_IDS, Label, fold
 from scripts.picture_matrix import open_words
@@ -78,8 +69,7 @@ def own_words(box: Box, start: str, end: str) -> list[str]:
     """The addresses of a box that are an end's own."""
     _, src, dst, _, _ = box
     return [
-        f"{SIDES[side]} {dotted(low)}"
-        for side, (low, high), of in ((1, src, start), (2, dst, end))
+        f"{SIDES[side]} {dotted(low)}" for side, (low, high), of in ((1, src, start), (2, dst, end))
         if of != "internet" and low == high
     ]
 
@@ -122,7 +112,7 @@ def folds_of(
         # Ends that are alike in all, or alike as starts and as ends, or starts that reach the same
         # ends alike: what gives fewest.
         fewest = min((classes_of(of, False), classes_of(of, True), bundles_of(of)), key=len)
-        folds += [(word, *it) for it in fewest]
+        folds += [(word, starts, ends, told) for starts, ends, told in fewest]
     return folds
 
 
@@ -185,7 +175,8 @@ def path_of(word: str, starts: list[str], ends: list[str], rows: list[Told]) -> 
 
 
 class Way:
-    """A path as it is drawn: chips above its line, what is told beside them below it, and its end."""
+    """A path as it is drawn: chips above its line, what is told beside them below it, and its
+    end."""
 
     def __init__(self, path: Path, names: Names, middle: float) -> None:
         self.path, self.label = path, Label(path.end, names, NODE - 28, 5)

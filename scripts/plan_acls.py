@@ -8,21 +8,12 @@ from scripts.bundles import Row, member, rows
 from scripts.plan_applying import Applying
 from scripts.plan_changes import UNKNOWN, Change, Untold, has_true, items, shown
 from scripts.plan_rows import (
-    LAST_ROWS,
-    EntryKey,
-    entry_key,
-    entry_of,
-    entry_said,
-    every_row,
-    inner,
-    owner,
-    room,
-    tags_of,
+    LAST_ROWS, EntryKey, entry_key, entry_of, entry_said, every_row, inner, owner, room, tags_of,
 )
 
 OF_ACL_RULE = (
-    "rule_number egress protocol rule_action cidr_block ipv6_cidr_block from_port to_port icmp_type "
-    "icmp_code"
+    "rule_number egress protocol rule_action cidr_block ipv6_cidr_block from_port to_port "
+    "icmp_type icmp_code"
 ).split()
 Entries = dict[EntryKey, Row]
 
@@ -66,8 +57,8 @@ class AclChanges(Applying):
         return self.plan.all_of(change, "subnet_ids", "SubnetId", self.bundle.is_subnet)
 
     def fill_default_acl(self, change: Change) -> None:
-        """Terraform takes all rows away from a default ACL when it begins to manage it. Subnets never
-        leave it by that."""
+        """Terraform takes all rows away from a default ACL when it begins to manage it. Subnets
+        never leave it by that."""
         found = self.plan.one(change, "default_network_acl_id", "NetworkAclId")
         acl = self.bundle.row("NetworkAclId", found or change.after.get("id"))
         if change.does("create"):
@@ -94,8 +85,8 @@ class AclChanges(Applying):
         room(acl, "Associations").append({**old, "NetworkAclId": acl["NetworkAclId"]})
 
     def untie_acl(self, subnet: Any, acl: Row) -> None:
-        """A subnet that leaves an ACL goes back to the default one of its VPC. One that has another by
-        now stays."""
+        """A subnet that leaves an ACL goes back to the default one of its VPC. One that has another
+        by now stays."""
         if any(it.get("SubnetId") == subnet for it in inner(acl, "Associations")):
             self.tie_acl(subnet, self.bundle.default_acl(acl.get("VpcId")))
 
@@ -132,8 +123,8 @@ class AclChanges(Applying):
     def entries_of(
         self, change: Change, name: str, values: Row, unknown: Row, doubtful: set[EntryKey]
     ) -> Entries:
-        """The rows of an ACL's blocks by their keys. Those keys of which the rows aren't known become
-        doubtful."""
+        """The rows of an ACL's blocks by their keys. Those keys of which the rows aren't known
+        become doubtful."""
         found: Entries = {}
         for number, row in enumerate(rows(values, name)):
             try:

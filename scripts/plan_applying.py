@@ -65,7 +65,8 @@ class Applying:
         return self.plan.one(change, "vpc_id", "VpcId") or self.bundle.default_vpc()
 
     def untie(self, name: str, key: str, found: Any) -> Row:
-        """Takes a subnet's or a gateway's association away from the row that has it, and gives it."""
+        """Takes a subnet's or a gateway's association away from the row that has it, and gives
+        it."""
         for row in self.bundle.rows(name):
             for it in inner(row, "Associations"):
                 if it.get(key) == found:

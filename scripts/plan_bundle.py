@@ -9,10 +9,10 @@ has no id yet gets its address as its id:
     ./plan-bundle plan.json bundle.json > planned.json
     ./vpc diff bundle.json planned.json
 
-It applies VPCs, subnets, security groups and their rules, network ACLs and their rows, route tables,
-their routes and associations, network interfaces with their groups and addresses, and the interfaces
-of instances. What it can't apply, or not without a guess, is told on standard error, one line each,
-and at last how many changes that is about:
+It applies VPCs, subnets, security groups and their rules, network ACLs and their rows, route
+tables, their routes and associations, network interfaces with their groups and addresses, and the
+interfaces of instances. What it can't apply, or not without a guess, is told on standard error, one
+line each, and at last how many changes that is about:
 
     not applied: aws_lb.a: it makes, changes or takes away interfaces that a plan doesn't tell
     not applied: aws_instance.a: private_ip isn't known before the apply: 10.0.1.4 is taken for it
@@ -23,16 +23,16 @@ roles and DNS records.
 
 Where the plan doesn't know a value yet, it is looked for by the references of its expression. Of a
 list that is not known yet, literals beside references are in no plan's JSON:
-`[aws_security_group.new.id, "sg-0a1b"]` is taken for its first member, and `dynamic` blocks for each
-of what isn't known for none.
+`[aws_security_group.new.id, "sg-0a1b"]` is taken for its first member, and `dynamic` blocks for
+each of what isn't known for none.
 
-Status 0: all that matters was applied; 1: something was not, and the bundle is printed all the same;
-2: a file can't be read, is no plan or no bundle, as a line on standard error says, and nothing is
-printed. It needs Python 3.9 or later alone. Nothing of it is proved.
-"""
+Status 0: all that matters was applied; 1: something was not, and the bundle is printed all the
+same; 2: a file can't be read, is no plan or no bundle, as a line on standard error says, and
+nothing is printed. It needs Python 3.9 or later alone. Nothing of it is proved. """
 
 from __future__ import annotations
 
+import functools
 import json
 import sys
 from collections.abc import Callable, Sequence
@@ -65,14 +65,16 @@ class Apply(VpcChanges, InstanceChanges):
         return [*dict.fromkeys(self.lines), *[count] * bool(self.told)]
 
     def stage(self, acts: Acts, without: list[str], *actions: str) -> list[str]:
-        """Does what is done with each change's type, type by type; the addresses of those that failed."""
+        """Does what is done with each change's type, type by type; the addresses of those that
+        failed."""
         failed: list[str] = []
         for kind, act in acts.items():
             for change in self.plan.changes:
                 is_due = change.type == kind and change.does(*actions)
-                if is_due and change.address not in without:
-                    if not self.attempt(change, lambda it=change: act(self, it)):
-                        failed.append(change.address)
+                if not is_due or change.address in without:
+                    continue
+                if not self.attempt(change, functools.partial(act, self, change)):
+                    failed.append(change.address)
         return failed
 
     # -- what isn't applied

@@ -225,8 +225,7 @@ def own_interfaces(change: Change) -> list[tuple[str, int, Row]]:
     """The blocks by which an instance takes interfaces that are there already: the attribute, the
     block's number, and the block."""
     return [
-        (name, number, it)
-        for name in ("network_interface", "primary_network_interface")
+        (name, number, it) for name in ("network_interface", "primary_network_interface")
         for number, it in enumerate(rows(change.after, name))
     ]
 
@@ -293,8 +292,7 @@ class Plan:
                 self.instances.setdefault((it.path, it.type, it.name), {})[it.key] = it
         self.leaving = {it.id_before() for it in self.changes if it.does("delete")}
         stay = {
-            path
-            for (path, _, _), found in self.instances.items()
+            path for (path, _, _), found in self.instances.items()
             if any(not it.does("delete") or it.does("create") for it in found.values())
         }
         self.modules = {path[:depth] for path in stay for depth in range(1, len(path) + 1)}
@@ -450,8 +448,7 @@ class Plan:
         if isinstance(known, str) and known:
             return known
         if change.type in ADOPTED:
-            found: Any = self.one(change, ADOPTED[change.type], KINDS[change.type])
-            return found
+            return self.one(change, ADOPTED[change.type], KINDS[change.type]) or ""
         if change.type == "aws_default_security_group":
             vpc = self.one(change, "vpc_id", "VpcId")
             if isinstance(vpc, NewId):
@@ -511,8 +508,7 @@ class Plan:
         keys = [key] if key is not None else keys
         inner, scope = self.within(expression, rest[1:]), Scope(None, None, path)
         return [
-            value
-            for it in keys
+            value for it in keys
             for value in self.parts_of(inner, (*path, (name, it)), scope, rest[1:], depth)
         ]
 

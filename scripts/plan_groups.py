@@ -19,19 +19,22 @@ TARGETS = {
 }
 # The same of an aws_vpc_security_group_ingress_rule or .._egress_rule.
 TARGET = {"cidr_ipv4": "CidrIpv4", "cidr_ipv6": "CidrIpv6", "prefix_list_id": "PrefixListId"}
-OF_RULE = "type protocol from_port to_port cidr_blocks ipv6_cidr_blocks prefix_list_ids self".split()
+OF_RULE = ("type", "protocol", "from_port", "to_port", *list(TARGETS)[:3], "self")
 OF_VPC_RULE = "ip_protocol from_port to_port cidr_ipv4 cidr_ipv6 prefix_list_id".split()
 
 # Rules with their descriptions.
 Described = dict[Rule, Any]
 Traffic = tuple[str, Any, Any]
-# Protocol and ports, and the kind of target, of which some rules aren't known; None where nothing is.
+# Whether it is outward, protocol and ports, and the kind of target.
+Head = tuple[bool, str, Any, Any, str]
+# Protocol and ports, and the kind of target, of which some rules aren't known; None where nothing
+# is.
 Doubtful = set[Optional[tuple[Traffic, str]]]
 
 
 class Block(NamedTuple):
-    """A block of a group's rules: the group, `ingress` or `egress`, its values, and what of them isn't
-    known."""
+    """A block of a group's rules: the group, `ingress` or `egress`, its values, and what of them
+    isn't known."""
 
     group: Row
     name: str
@@ -84,8 +87,7 @@ class GroupChanges(Applying):
                 change, group, name, change.after, change.unknown
             )
             kept = {
-                it: text
-                for it, text in before.items()
+                it: text for it, text in before.items()
                 if (it.traffic, it.kind) in doubtful or None in doubtful
             }
             wanted = {**kept, **after}
@@ -147,7 +149,7 @@ class GroupChanges(Applying):
         return [self.plan.one_among(change, name, kind, self.bundle.is_group)]
 
     def put_targets(
-        self, rules: Described, head: tuple[Any, ...], found: list[Any], description: Any
+        self, rules: Described, head: Head, found: list[Any], description: Any
     ) -> None:
         for it in found:
             rules[Rule(*head, self.target_of(head[-1], it))] = description

@@ -8,27 +8,9 @@ from typing import Any, Optional
 from scripts.bundles import Row, member, rows
 from scripts.plan_applying import Applying
 from scripts.plan_changes import (
-    UNKNOWN,
-    Change,
-    NewId,
-    Plan,
-    Untold,
-    first_interface,
-    has_true,
-    items,
-    own_interfaces,
-    shown,
+    UNKNOWN, Change, NewId, Plan, Untold, first_interface, has_true, items, own_interfaces, shown,
 )
-from scripts.plan_rows import (
-    Bundle,
-    address_of,
-    block_of,
-    has_group,
-    inner,
-    owner,
-    room,
-    tags_of,
-)
+from scripts.plan_rows import (Bundle, address_of, block_of, has_group, inner, owner, room, tags_of)
 
 # What of an instance does, beside its groups, and that it has its source checked.
 OF_INSTANCE = (
@@ -138,10 +120,8 @@ class InterfaceChanges(Applying):
             return
         row = self.bundle.row("NetworkInterfaceId", change.after.get("id"))
         self.attempt_each(
-            change,
-            lambda: self.change_groups(change, "security_groups", row),
-            lambda: self.change_addresses(change, row),
-            lambda: self.change_manner(change, row),
+            change, lambda: self.change_groups(change, "security_groups", row),
+            lambda: self.change_addresses(change, row), lambda: self.change_manner(change, row),
         )
 
     def change_groups(self, change: Change, name: str, row: Row) -> None:
@@ -155,8 +135,7 @@ class InterfaceChanges(Applying):
     def change_addresses(self, change: Change, row: Row) -> None:
         before, after, listed = change.before, change.after, "private_ip_list"
         names = [
-            it
-            for it in ("private_ips", listed)
+            it for it in ("private_ips", listed)
             if before.get(it) != after.get(it) or change.is_unknown(it)
         ]
         for name in names:
@@ -172,8 +151,7 @@ class InterfaceChanges(Applying):
         before = items(change.before.get(name))
         after = [address_of(it) for it in items(change.after.get(name))]
         found = [
-            it
-            for it in inner(row, "PrivateIpAddresses")
+            it for it in inner(row, "PrivateIpAddresses")
             if it.get("PrivateIpAddress") not in before or it.get("PrivateIpAddress") in after
         ]
         primary = row.get("PrivateIpAddress")
@@ -269,9 +247,7 @@ class InterfaceChanges(Applying):
         found, first = self.bundle.interfaces_of(change.id_before()), self.primary(change.before)
         if first is not None and not any(it is first for it in found):
             found.append(first)
-        return [
-            it for it in found if member(it, "Attachment", "DeleteOnTermination") is not False
-        ]
+        return [it for it in found if member(it, "Attachment", "DeleteOnTermination") is not False]
 
     def primary(self, values: Row) -> Optional[Row]:
         """The interface that a plan names as an instance's primary one, where the bundle has it."""
@@ -338,8 +314,8 @@ class InstanceChanges(InterfaceChanges):
         return self.groups_of_new(change, GROUPS_OF_INSTANCE, vpc)
 
     def addresses_of_instance(self, change: Change, place: Row) -> list[str]:
-        """The private addresses of a new instance. Where the first one isn't known, a free one stands
-        for it."""
+        """The private addresses of a new instance. Where the first one isn't known, a free one
+        stands for it."""
         name, first = "secondary_private_ips", change.after.get("private_ip")
         more = [address_of(it) for it in items(change.after.get(name)) if it is not None]
         if change.is_unknown(name) and self.plan.is_told(change, name):
@@ -381,19 +357,16 @@ class InstanceChanges(InterfaceChanges):
         return found
 
     def first_of(self, change: Change) -> Row:
-        """The interface of an instance by which it is known: the one that the plan names, or that at
-        its device 0."""
+        """The interface of an instance by which it is known: the one that the plan names, or that
+        at its device 0."""
         for values in (change.after, change.before):
             row = self.primary(values)
             if row is not None:
                 return row
         found = self.bundle.interfaces_of(change.id_before())
         first = [
-            it
-            for it in found
-            if member(it, "Attachment", "DeviceIndex") == 0
-            or it.get("Attachment") is None
-            and len(found) == 1
+            it for it in found if member(it, "Attachment", "DeviceIndex") == 0
+            or it.get("Attachment") is None and len(found) == 1
         ]
         if len(first) != 1:
             name = shown(change.id_before())
@@ -412,8 +385,7 @@ class InstanceChanges(InterfaceChanges):
             return
         row = self.first_of(change)
         self.attempt_each(
-            change,
-            lambda: self.change_groups_of_instance(change, row),
+            change, lambda: self.change_groups_of_instance(change, row),
             lambda: self.change_manner_of_instance(change, row),
         )
         for it in kept:

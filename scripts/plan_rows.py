@@ -15,12 +15,7 @@ from scripts.plan_changes import Change, Untold, json_of, shown
 LIST_OF = {
     LISTS[name]: name
     for name in (
-        "Vpcs",
-        "Subnets",
-        "NetworkInterfaces",
-        "RouteTables",
-        "NetworkAcls",
-        "SecurityGroups",
+        "Vpcs", "Subnets", "NetworkInterfaces", "RouteTables", "NetworkAcls", "SecurityGroups",
     )
 }
 # Protocols as Terraform may name them in rows of ACLs.
@@ -147,26 +142,20 @@ class Bundle:
         if instance is None:
             return []
         told = [
-            eni.get("NetworkInterfaceId")
-            for part in self.objects
-            for it in rows(part, "Reservations")
-            for row in rows(it, "Instances")
-            if row.get("InstanceId") == instance
-            for eni in rows(row, "NetworkInterfaces")
+            eni.get("NetworkInterfaceId") for part in self.objects
+            for it in rows(part, "Reservations") for row in rows(it, "Instances")
+            if row.get("InstanceId") == instance for eni in rows(row, "NetworkInterfaces")
         ]
         return [
-            it
-            for it in self.rows("NetworkInterfaces")
-            if member(it, "Attachment", "InstanceId") == instance
-            or it.get("Attachment") is None
+            it for it in self.rows("NetworkInterfaces")
+            if member(it, "Attachment", "InstanceId") == instance or it.get("Attachment") is None
             and it["NetworkInterfaceId"] in told
         ]
 
     def addresses(self, name: str) -> set[str]:
         """The private or the public addresses that interfaces have."""
         found = [
-            that
-            for it in self.rows("NetworkInterfaces")
+            that for it in self.rows("NetworkInterfaces")
             for that in (it, *rows(it, "PrivateIpAddresses"))
         ]
         path = (name,) if name == "PrivateIpAddress" else ("Association", name)

@@ -148,8 +148,8 @@ class Rules:
         return place
 
     def forget_permissions(self, group: Row) -> None:
-        """Where the list has no rule of a group any more, its permissions count: of them none may be
-        left that didn't count before."""
+        """Where the list has no rule of a group any more, its permissions count: of them none may
+        be left that didn't count before."""
         for name in PERMISSIONS:
             for permission in inner(group, name):
                 permission.update((it, []) for it in OF_IPV4 if permission.get(it))

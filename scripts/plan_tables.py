@@ -7,16 +7,7 @@ from typing import Any, Optional
 from scripts.bundles import Row, member, rows
 from scripts.plan_applying import Applying
 from scripts.plan_changes import KINDS, UNKNOWN, Change, NewId, Untold, has_true, id_text, shown
-from scripts.plan_rows import (
-    LIST_OF,
-    block_if,
-    block_of,
-    inner,
-    is_main,
-    owner,
-    room,
-    tags_of,
-)
+from scripts.plan_rows import (LIST_OF, block_if, block_of, inner, is_main, owner, room, tags_of)
 
 # The attributes that may name a route's target, and EC2's members.
 TARGETS = {
@@ -163,8 +154,7 @@ class TableChanges(Applying):
             return TARGETS[name], value
         open_names = [it for it in TARGETS if not known and has_true(member(unknown, it))]
         found = [
-            (TARGETS[name], self.target_to_come(change, name, block))
-            for name in open_names
+            (TARGETS[name], self.target_to_come(change, name, block)) for name in open_names
             if block or self.plan.is_told(change, name)
         ]
         if len(found) != 1:

@@ -1,5 +1,5 @@
-"""Which resources of Terraform put interfaces into subnets, which touch no network, and which aren't
-applied."""
+"""Which resources of Terraform put interfaces into subnets, which touch no network, and which
+aren't applied."""
 
 from __future__ import annotations
 
@@ -28,8 +28,8 @@ def types(words: str) -> re.Pattern[str]:
     return re.compile(f"aws(cc)?_({'|'.join(names)})")
 
 
-# Those that touch a network by these members and by nothing else: where they stay as they are, so do
-# the interfaces.
+# Those that touch a network by these members and by nothing else: where they stay as they are, so
+# do the interfaces.
 PLACED = types(
     """
     alb apprunner_vpc_connector cloudwatch_event_target codebuild_project db_instance
@@ -107,15 +107,14 @@ def is_quiet(kind: str) -> bool:
 
 
 def placing(value: object) -> object:
-    """The parts of a value by which a resource puts interfaces into subnets and gives them groups."""
+    """The parts of a value by which a resource puts interfaces into subnets and gives them
+    groups."""
     if isinstance(value, list):
         return [it for it in map(placing, value) if it]
     if not isinstance(value, dict):
         return None
     found = {
-        name: it
-        if name in PLACING and not isinstance(it, (dict, bool))
-        else placing(it) or (it is True and name in PLACING)
-        for name, it in value.items()
+        name: it if name in PLACING and not isinstance(it, (dict, bool))
+        else placing(it) or (it is True and name in PLACING) for name, it in value.items()
     }
     return {name: it for name, it in found.items() if it}

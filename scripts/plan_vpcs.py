@@ -9,13 +9,7 @@ from scripts.plan_acls import AclChanges
 from scripts.plan_changes import UNKNOWN, Change, NewId, Untold, of_vpc
 from scripts.plan_groups import GroupChanges
 from scripts.plan_rows import (
-    USED_BY_VPC,
-    block_of,
-    came_with_vpc,
-    every_row,
-    owner,
-    room,
-    tags_of,
+    USED_BY_VPC, block_of, came_with_vpc, every_row, owner, room, tags_of,
 )
 from scripts.plan_rules import Rule
 from scripts.plan_tables import ASSOCIATED, TableChanges
@@ -23,7 +17,8 @@ from scripts.plan_tables import ASSOCIATED, TableChanges
 
 class VpcChanges(GroupChanges, AclChanges, TableChanges):
     def home(self) -> Row:
-        """The object of an account to which new VPCs belong: the one whose rows the plan is about."""
+        """The object of an account to which new VPCs belong: the one whose rows the plan is
+        about."""
         if len(self.bundle.objects) == 1:
             return self.bundle.objects[0]
         known = {it.id_before() for it in self.plan.changes}
@@ -31,9 +26,7 @@ class VpcChanges(GroupChanges, AclChanges, TableChanges):
             part
             for part in self.bundle.objects
             if any(
-                row.get(key) in known
-                for name, key in LISTS.items()
-                for row in part.get(name) or []
+                row.get(key) in known for name, key in LISTS.items() for row in part.get(name) or []
                 if isinstance(row.get(key), str)
             )
         ]
@@ -71,7 +64,7 @@ class VpcChanges(GroupChanges, AclChanges, TableChanges):
         allowed = [every_row(100, egress, "allow") for egress in (True, False)]
         self.add_acl(part, acl, vpc, [], whose, True)["Entries"][:0] = allowed
         group = of_vpc(vpc, "default_security_group_id")
-        row = {**whose, "GroupId": group, "GroupName": "default"}
+        row: Row = {**whose, "GroupId": group, "GroupName": "default"}
         row.update(Description="default VPC security group", Tags=[], VpcId=vpc)
         self.add_group(part, row)
         own = self.bundle.row("GroupId", group)
@@ -88,9 +81,7 @@ class VpcChanges(GroupChanges, AclChanges, TableChanges):
         vpc = change.before.get("id")
         row = self.bundle.row("VpcId", vpc)
         used = [
-            it[LISTS[name]]
-            for name in ("Subnets", *USED_BY_VPC)
-            for it in self.bundle.rows(name)
+            it[LISTS[name]] for name in ("Subnets", *USED_BY_VPC) for it in self.bundle.rows(name)
             if it.get("VpcId") == vpc and not came_with_vpc(it)
         ]
         for it in self.bundle.rows("InternetGateways"):

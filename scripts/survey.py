@@ -1,17 +1,17 @@
 """Tells what a bundle has that vpc doesn't follow: survey [--all] BUNDLE
 
-Each kind of finding is one line on standard output: what it is, and what it means for answers. Where
-there are several of a kind the line counts them, and names the first; --all tells each with its ids.
+Each kind of finding is one line on standard output: what it is, and what it means for answers.
+Where there are several of a kind the line counts them, and names the first; --all tells each with
+its ids.
 
     not followed: route rtb-1 10.9.0.0/16 to vgw-1: packets stop there as Unmodelled
     not followed: 12 route tables with routes of IPv6, as rtb-2: every answer is about IPv4 alone
 
-docs/LIMITS.md says more of each, and what AWS does that no bundle tells. A bundle without interfaces,
-as of a region that nobody uses, is told by a line that begins with `no interfaces`. Whether vpc takes
-the bundle is not asked here.
-Status 0: there is nothing; 1: there is something; 2: BUNDLE can't be read or is no bundle, as a line
-on standard error says. It needs Python 3.9 or later alone.
-"""
+docs/LIMITS.md says more of each, and what AWS does that no bundle tells. A bundle without
+interfaces, as of a region that nobody uses, is told by a line that begins with `no interfaces`.
+Whether vpc takes the bundle is not asked here. Status 0: there is nothing; 1: there is something;
+2: BUNDLE can't be read or is no bundle, as a line on standard error says. It needs Python 3.9 or
+later alone. """
 
 from __future__ import annotations
 
@@ -20,25 +20,15 @@ from collections.abc import Iterable, Iterator, Sequence
 from typing import Any, NamedTuple, Optional
 
 from scripts.bundles import (
-    BESIDE,
-    LISTS,
-    TARGETS,
-    NoBundle,
-    Row,
-    harmless,
-    harmless_ids,
-    has_lists,
-    json_in,
-    member,
-    objects_of,
-    rows,
+    BESIDE, LISTS, TARGETS, NoBundle, Row, harmless, harmless_ids, has_lists, json_in, member,
+    objects_of, rows,
 )
 
 FOLLOWED = ("NatGatewayId", "TransitGatewayId", "VpcPeeringConnectionId", "NetworkInterfaceId")
 USABLE = ("available", "modifying")
 EMPTY = (
-    "no interfaces: there is no end but the internet to ask about; another region or account may be "
-    "meant"
+    "no interfaces: there is no end but the internet to ask about; another region or account may "
+    "be meant"
 )
 
 UNMODELLED = "packets stop there as Unmodelled"
@@ -303,8 +293,7 @@ def ipv6_acl_rows(bundle: Bundle) -> Findings:
     for acl in bundle["NetworkAcls"]:
         own = [it for it in rows(acl, "Entries") if it.get("Ipv6CidrBlock") is not None]
         found = (
-            f"{'out' if it.get('Egress') else 'in'} {harmless(it.get('RuleNumber'))}"
-            for it in own
+            f"{'out' if it.get('Egress') else 'in'} {harmless(it.get('RuleNumber'))}" for it in own
             if it.get("CidrBlock") is None
         )
         yield from of_ipv6(IPV6_ACLS, "rows", acl.get("NetworkAclId"), found)
@@ -477,7 +466,8 @@ def why_not_left(bundle: Bundle, route: Row) -> Optional[str]:
     it, kind = harmless(first.get("TransitGatewayAttachmentId")), first.get("ResourceType")
     if it not in bundle.attachments:
         is_vpc = kind in (None, "vpc")
-        return f" to {it}, " + ("which isn't described" if is_vpc else f"whose kind is {harmless(kind)}")
+        why = "which isn't described" if is_vpc else f"whose kind is {harmless(kind)}"
+        return f" to {it}, {why}"
     vpc = harmless(bundle.attachments[it].get("VpcId"))
     if vpc not in bundle.vpcs:
         return f" to {it}, whose VPC {vpc} isn't described"
@@ -547,8 +537,7 @@ def references(bundle: Bundle) -> Iterator[tuple[str, str, bool, str]]:
 def gateways_of(bundle: Bundle, vpc: str) -> set[str]:
     """The transit gateways to which a VPC is attached so that groups may be named over them."""
     return {
-        harmless(it.get("TransitGatewayId"))
-        for it in bundle.attachments.values()
+        harmless(it.get("TransitGatewayId")) for it in bundle.attachments.values()
         if harmless(it.get("VpcId")) == vpc
         and member(it, "Options", "SecurityGroupReferencingSupport") != "disable"
     }

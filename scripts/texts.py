@@ -2,9 +2,10 @@
 
 from __future__ import annotations
 
-import dataclasses
+import itertools
 from collections.abc import Callable, Iterator
-from typing import Any, NoReturn, Optional, Union
+from dataclasses import dataclass
+from typing import NoReturn, Optional, Union
 
 from scripts.grammar import Members, forms_of, is_id
 from scripts.headers import Box, Header, Range, address, is_within, reply_of
@@ -12,7 +13,8 @@ from scripts.words import PROTOCOL_NUMBERS
 
 
 class NoText(Exception):
-    """Why there is no text of vpc: the number of the line that no text has there, or words alone."""
+    """Why there is no text of vpc: the number of the line that no text has there, or words
+    alone."""
 
     def __init__(self, why: str, number: Optional[int] = None) -> None:
         super().__init__(why)
@@ -21,10 +23,7 @@ class NoText(Exception):
 
 # ---- records
 
-record = dataclasses.dataclass(frozen=True)
-
-
-@record
+@dataclass
 class Hop:
     """`by` is what let the packet pass, in the words behind `by`."""
 
@@ -34,7 +33,7 @@ class Hop:
     by: Optional[str]
 
 
-@record
+@dataclass
 class Arrived:
     id: str
 
@@ -42,7 +41,7 @@ class Arrived:
         return f"arrived {self.id}"
 
 
-@record
+@dataclass
 class Stopped:
     name: str
     id: str
@@ -52,31 +51,34 @@ class Stopped:
         return f"stopped {self.name} {self.id} {self.rule}"
 
 
-@record
+End = Union[Arrived, Stopped]
+
+
+@dataclass
 class Walk:
     """Hops and an end; `first` is the number of the first line, and `lines` are those of it."""
 
     hops: list[Hop]
-    end: Union[Arrived, Stopped]
+    end: End
     first: int
     lines: list[str]
 
 
-@record
+@dataclass
 class Reachable:
     packet: Header
     request: Walk
     reply: Walk
 
 
-@record
+@dataclass
 class ReportRow:
     phase: str
     stop: Stopped
     box: Box
 
 
-@record
+@dataclass
 class Report:
     """`next` and `cells` are None where the rows hold all."""
 
@@ -88,7 +90,7 @@ class Report:
     cells: Optional[str]
 
 
-@record
+@dataclass
 class Matrix:
     """Of each pair the number of what is said of it: a large matrix has few of those."""
 
@@ -97,17 +99,18 @@ class Matrix:
     values: dict[int, Union[str, list[Range]]]
 
 
-@record
+@dataclass
 class ReachRow:
     start: str
     end: str
     box: Box
 
 
-@record
+@dataclass
 class Fare:
     """What becomes of a packet, or changes for it. `word` is through, same, reached, at, stopped,
-    opened, closed or moved; `after` is another end where it is moved, and `stop` is what stops it."""
+    opened, closed or moved; `after` is another end where it is moved, and `stop` is what stops
+    it."""
 
     word: str
     end: str = ""
@@ -116,7 +119,7 @@ class Fare:
     stop: Optional[Stopped] = None
 
 
-@record
+@dataclass
 class DiffRow:
     start: str
     fare: Fare
@@ -131,7 +134,7 @@ class DiffRow:
         return self.fare.end
 
 
-@record
+@dataclass
 class Reach:
     """`next` is the start and header of the first packet that the rows leave out."""
 
@@ -140,14 +143,14 @@ class Reach:
     next: Optional[tuple[str, Header]]
 
 
-@record
+@dataclass
 class Diff:
     query: str
     rows: list[DiffRow]
     next: Optional[tuple[str, Header]]
 
 
-@record
+@dataclass
 class Verdict:
     """What check says: `why` is yes, overlap, uncovered, untrue or unlisted."""
 
@@ -158,20 +161,21 @@ class Verdict:
     fare: Optional[Fare]
 
 
-@record
+@dataclass
 class Event:
-    end: Union[Arrived, Stopped]
+    end: End
     header: Optional[Header]
 
 
-@record
+@dataclass
 class Events:
     events: list[Event]
 
 
-@record
+@dataclass
 class Table:
-    """A text of which no picture and no sentence is made: make, expect, flows, unused, a refusal."""
+    """A text of which no picture and no sentence is made: make, expect, flows, unused, a
+    refusal."""
 
     name: str
     lines: list[Members]
@@ -215,8 +219,8 @@ def hop_of(told: Members) -> Hop:
 
 
 class Text:
-    """A text whose lines are taken one after another. Where it is read as a whole, what each tells is
-    kept, and what lines say of each other is asked too."""
+    """A text whose lines are taken one after another. Where it is read as a whole, what each tells
+    is kept, and what lines say of each other is asked too."""
 
     def __init__(self, name: str, lines: list[str], is_whole: bool) -> None:
         self.name, self.lines, self.is_whole = name, lines, is_whole
@@ -235,7 +239,10 @@ class Text:
     def take(self, *tags: str, **around: str) -> Members:
         """What the next line tells, which begins in one of these ways."""
         line = self.lines[self.at] if self.at < len(self.lines) else ""
-        for form in (form for tag in tags for form in self.forms[tag]):
+        forms = self.forms[tags[0]]
+        for tag in tags[1:]:
+            forms = forms + self.forms[tag]
+        for form in forms:
             told = form.read(line, around)
             if told and (not self.is_whole or form.write(told) == line):
                 self.at += 1
@@ -271,7 +278,7 @@ def read_walk(text: Text, **around: str) -> Walk:
     first = text.at
     hops = [hop_of(it) for it in text.numbered("hop", **around)]
     told = text.take("arrived", "stopped", **around)
-    end = Arrived(told["id"]) if told["line"] == "arrived" else stop_of(told)
+    end: End = Arrived(told["id"]) if told["line"] == "arrived" else stop_of(told)
     text.must(hops, "it has a walk without hops")
     text.agrees(len(hops) <= 64 and hops[0].place in ("out", "internet"))
     judged = [it for it in hops if it.place in ("out", "in")]
@@ -318,8 +325,9 @@ def read_report(text: Text) -> Report:
         return Report(query["from"], query["to"], whole, rows, None, None)
     following = header_of(text.take("next"))
     text.must(all(low <= it <= high for it, (low, high) in zip(following, whole)))
+    text.agrees(rows)
     cells = text.take("cells")["cells"]
-    text.agrees(0 < len(rows) < int(cells))
+    text.agrees(len(rows) < int(cells))
     return Report(query["from"], query["to"], whole, rows, following, cells)
 
 
@@ -368,12 +376,13 @@ def read_matrix(text: Text) -> Matrix:
     text.must(is_all, "it hasn't a line for each two interfaces, both ways")
     if text.is_whole:
         listed = [(it["from"], it["to"]) for it in text.told[1:]]
-        text.must(listed == [(it, other) for it in sorted(ids) for other in sorted(ids) if it != other])
+        text.must(listed == list(itertools.permutations(sorted(ids), 2)))
     return Matrix(list(pairs), pairs, values)
 
 
 def take_known(text: Text, pairs: dict[str, dict[str, int]], numbers: dict[str, int]) -> None:
-    """Takes the next lines that say of a pair what was said before: a large matrix has few others."""
+    """Takes the next lines that say of a pair what was said before: a large matrix has few
+    others."""
     for at in range(text.at, len(text.lines)):
         words = text.lines[at].split(" ", 3)
         if len(words) != 4 or words[0] != "pair" or words[3] not in numbers:
@@ -491,8 +500,8 @@ def read_lines(name: str, lines: list[str], is_whole: bool) -> tuple[Record, lis
 
 
 def read_record(data: bytes, names: tuple[str, ...], what: str, meant: str, more: str) -> Record:
-    """The record of a text that is one of these. Where it is none, that is told of `what` was `meant`,
-    with `more` behind the beginning of a long line."""
+    """The record of a text that is one of these. Where it is none, that is told of `what` was
+    `meant`, with `more` behind the beginning of a long line."""
     try:
         text = data.decode("ascii")
     except UnicodeDecodeError:

@@ -1,11 +1,13 @@
-"""The words of vpc's texts, each list once. tests/words.py compares them with the sources of the program."""
+"""The words of vpc's texts, each list once. tests/words.py compares them with the sources of the
+program."""
 
 # What may stop a packet.
 STOPS = (
     "Detached SourceCheck DestCheck GroupsOut GroupsIn NotAHost ApplianceDrop NoRoute Blackhole "
-    "AclOut AclIn NoHost NoGateway GatewayDetached NoPublic PrivateAddress NatNotAvailable NatAnswer "
-    "NatProtocol NatFull NatUnsolicited PeerNotActive PeerSource PeerDestination TgwNoAttachment "
-    "TgwNoZone TgwNoTable TgwNoRoute TgwBlackhole Unmodelled Loop TooFar WrongPlace WrongReturn NoReply"
+    "AclOut AclIn NoHost NoGateway GatewayDetached NoPublic PrivateAddress NatNotAvailable "
+    "NatAnswer NatProtocol NatFull NatUnsolicited PeerNotActive PeerSource PeerDestination "
+    "TgwNoAttachment TgwNoZone TgwNoTable TgwNoRoute TgwBlackhole Unmodelled Loop TooFar "
+    "WrongPlace WrongReturn NoReply"
 ).split()
 # Where a packet may be.
 PLACES = "out router enter in igw-out internet igw-in nat-out nat-in peer tgw tgw-leave".split()
