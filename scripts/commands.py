@@ -6,6 +6,7 @@ from __future__ import annotations
 import gc
 import importlib
 import io
+import os
 import signal
 import sys
 from typing import Optional
@@ -19,6 +20,7 @@ COMMANDS = {
     "plan-bundle": "scripts.plan_bundle",
     "survey": "scripts.survey",
 }
+USAGE = f"one of these is meant: {', '.join(COMMANDS)}; NAME --help says more of each"
 
 
 class Refused(Exception):
@@ -36,6 +38,18 @@ def start(name: str) -> None:
         sys.stdout.reconfigure(encoding="utf-8")
     main = importlib.import_module(COMMANDS[name]).main
     sys.exit(main(sys.argv[1:]))
+
+
+def start_named() -> None:
+    """Runs the command that the process is called by, or that its first word names."""
+    name, words = os.path.basename(sys.argv[0]), sys.argv[1:]
+    if name not in COMMANDS:
+        name = sys.argv.pop(1) if words and words[0] in COMMANDS else ""
+    if not name:
+        is_help = words in (["--help"], ["-h"])
+        print(USAGE, file=sys.stdout if is_help else sys.stderr)
+        sys.exit(0 if is_help else 2)
+    start(name)
 
 
 def read(path: Optional[str]) -> bytes:
