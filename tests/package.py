@@ -33,7 +33,7 @@ CALLS = {
     "explain": ([SHOP], "The packet is tcp from 10.0.1.99 port 1 to 10.0.3.10 port 5432."),
     "lines": ([], '{"text":"trace","line":"hop","n":1,'),
     "picture": ([], "<svg xmlns="),
-    "plan-bundle": ([os.path.join(TOP, "examples", "plan.json"), SHOP], '{"PrefixLists":'),
+    "plan-bundle": ([os.path.join(TOP, "examples", "plan.json"), SHOP], '{"PrefixList'),
     "survey": ([SHOP], "not followed: "),
 }
 
