@@ -18,7 +18,8 @@ out where nothing let the packet pass; what belongs to a walk of `ask` has the `
 Every text of every command is read, and every refusal, whole or not at all: of what is none, or a
 part of one, nothing is printed but a line on standard error, with status 2. So --back does with
 what is not the lines of a text. An empty text is that of a replay without events. Status 1: the
-output could not be written. It needs Python 3.9 or later alone. """
+output could not be written. It needs Python 3.9 or later alone.
+"""
 
 from __future__ import annotations
 

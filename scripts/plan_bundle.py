@@ -28,7 +28,8 @@ each of what isn't known for none.
 
 Status 0: all that matters was applied; 1: something was not, and the bundle is printed all the
 same; 2: a file can't be read, is no plan or no bundle, as a line on standard error says, and
-nothing is printed. It needs Python 3.9 or later alone. Nothing of it is proved. """
+nothing is printed. It needs Python 3.9 or later alone. Nothing of it is proved.
+"""
 
 from __future__ import annotations
 

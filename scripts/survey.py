@@ -9,9 +9,11 @@ its ids.
 
 docs/LIMITS.md says more of each, and what AWS does that no bundle tells. A bundle without
 interfaces, as of a region that nobody uses, is told by a line that begins with `no interfaces`.
-Whether vpc takes the bundle is not asked here. Status 0: there is nothing; 1: there is something;
-2: BUNDLE can't be read or is no bundle, as a line on standard error says. It needs Python 3.9 or
-later alone. """
+Whether vpc takes the bundle is not asked here.
+
+Status 0: there is nothing; 1: there is something; 2: BUNDLE can't be read or is no bundle, as a
+line on standard error says. It needs Python 3.9 or later alone.
+"""
 
 from __future__ import annotations
 
