@@ -175,7 +175,8 @@ FORMS = {
     ],
     "expect": [
         "line N answer=blocked", "line N answer=reachable HEADER",
-        "line N (answer=stopped) PHASE STOP HEADER", "ok ok:NUMBER fail fail:NUMBER",
+        "line N (answer=stopped) PHASE STOP HEADER", "line N answer=unknown PHASE STOP HEADER",
+        "ok ok:NUMBER fail fail:NUMBER unknown unknown:NUMBER",
     ],
     "flows": [
         "line N action=ACCEPT STOP",
@@ -285,8 +286,9 @@ class Form:
         return told
 
     def has_fields(self, told: Members) -> bool:
-        """Whether these are the fields of such a line."""
-        return self.needed <= told.keys() <= self.told.keys()
+        """Whether these are the fields of such a line, with the values of those that aren't printed."""
+        are_its = self.needed <= told.keys() <= self.told.keys()
+        return are_its and all(it in (None, told.get(field)) for field, it in self.told.items())
 
     @functools.cached_property
     def whole(self) -> str:

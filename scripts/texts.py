@@ -426,13 +426,14 @@ def read_make(text: Text) -> Table:
     return Table(text.name, text.told)
 
 
-def read_judged(text: Text, count: str) -> Table:
-    """Lines with ascending numbers, and how many they are."""
+def read_judged(text: Text, *counts: str) -> Table:
+    """Lines with ascending numbers, and how many they are of each kind that has lines."""
     lines, last = 0, 0
     while text.begins("line"):
         lines, before, last = lines + 1, last, text.take("line")["n"]
         text.must(before < last)
-    text.must(text.take("ok")[count] == lines)
+    told = text.take("ok")
+    text.must(sum(told[it] for it in counts) == lines)
     return Table(text.name, text.told)
 
 
@@ -460,7 +461,7 @@ READERS: dict[str, Callable[[Text], Record]] = {
     "matrix": read_matrix,
     "reach": read_reach,
     "diff": read_diff,
-    "expect": lambda text: read_judged(text, "fail"),
+    "expect": lambda text: read_judged(text, "fail", "unknown"),
     "flows": lambda text: read_judged(text, "differ"),
     "unused": read_unused,
     "refusal": read_refusal,

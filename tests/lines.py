@@ -210,8 +210,10 @@ line 4 reachable tcp 10.0.1.10 10.0.2.20 0 443
 {"text":"expect","line":"line","n":4,"answer":"reachable","proto":"tcp","src":"10.0.1.10","dst":"10.0.2.20","p":0,"q":443}
 line 5 request GroupsIn eni-b - tcp 10.0.1.10 10.0.2.20 0 80
 {"text":"expect","line":"line","n":5,"answer":"stopped","phase":"request","name":"GroupsIn","id":"eni-b","rule":null,"proto":"tcp","src":"10.0.1.10","dst":"10.0.2.20","p":0,"q":80}
-ok 2 fail 3
-{"text":"expect","line":"ok","ok":2,"fail":3}
+line 6 unknown request Unmodelled vpce-s3 - tcp 10.0.1.10 52.216.0.0 0 443
+{"text":"expect","line":"line","n":6,"answer":"unknown","phase":"request","name":"Unmodelled","id":"vpce-s3","rule":null,"proto":"tcp","src":"10.0.1.10","dst":"52.216.0.0","p":0,"q":443}
+ok 2 fail 3 unknown 1
+{"text":"expect","line":"ok","ok":2,"fail":3,"unknown":1}
 
 line 3 ACCEPT GroupsIn eni-b -
 {"text":"flows","line":"line","n":3,"action":"ACCEPT","name":"GroupsIn","id":"eni-b","rule":null}
@@ -443,7 +445,7 @@ vpc-diff 1
 query
 end 0
 
-ok 0 fail 0
+ok 0 fail 0 unknown 0
 
 ok 0 differ 0 nodata 0 skipdata 0 unknown 0 skipped 0
 
@@ -559,8 +561,8 @@ NONE = [
     "more reach\nquery\nnext eni-a tcp 10.0.1.10 10.0.2.20 0 443\n", f"vpc-reach 1\nquery\nrow 1 eni-a opened eni-b request GroupsIn eni-b - {BOX}\nend 1\n",
     f"vpc-diff 1\nquery\nrow 1 eni-a eni-b {BOX}\nend 1\n", f"vpc-diff 1\nquery\nrow 1 eni-a closed eni-b reply Absent eni-a - {BOX}\nend 1\n",
     REPORT + f"row 1 request Absent eni-a - {BOX}\nend 1\n", f"more changes\nquery\nrow 1 eni-a moved eni-b eni-c {BOX}\nend 1\n", "more things\n",
-    "line 1 blocked\nok 0 fail 2\n", "line 2 blocked\nline 1 blocked\nok 0 fail 2\n", "line 1 blocked\nok 0 differ 1 nodata 0 skipdata 0 unknown 0 skipped 0\n",
-    "line 1 REJECT by none\nok 0 fail 1\n", "line 1 REJECT by tracked\nok 0 differ 1 nodata 0 skipdata 0 unknown 0 skipped 0\n", "line 1 blocked\n",
+    "line 1 blocked\nok 0 fail 2 unknown 0\n", "line 1 blocked\nok 0 fail 1\n", "line 1 blocked\nok 0 fail 1 unknown 1\n", "line 1 unknown\nok 0 fail 0 unknown 1\n", "line 2 blocked\nline 1 blocked\nok 0 fail 2 unknown 0\n", "line 1 blocked\nok 0 differ 1 nodata 0 skipdata 0 unknown 0 skipped 0\n",
+    "line 1 REJECT by none\nok 0 fail 1 unknown 0\n", "line 1 REJECT by tracked\nok 0 differ 1 nodata 0 skipdata 0 unknown 0 skipped 0\n", "line 1 blocked\n",
     "rules 1\n", "rules 0\nrule sg-a in 1 unused\n", "rules 1\nrule sg-a up 1 unused\n", "rules 999999999999999\n",
     "refused\n", "refused words\n", "refused words -1\n", "refused words 1 2\n", "refused query\n", "refused query BadWord\n", "refused packet EmptyRange 4\n", "refused description\n", "refused description Odd\n",
     "refused description WrongShape Vpcs[0].\n", "refused description WrongShape Vpcs[x]\n", "refused description TooManyRows Things\n", "refused description DuplicateAddress vpc-1 10.0.1\n",
@@ -612,7 +614,7 @@ def stop_texts():
         yield f"no untrue 1 tcp 10.0.1.10 10.0.2.20 0 80 request {it}\n"
         yield f"event 1 stopped {it}\n"
         yield f"vpc-diff 1\nquery\nrow 1 eni-a closed eni-b reply {it} {BOX}\nend 1\n"
-        yield f"line 7 request {it} tcp 10.0.1.10 10.0.2.20 0 80\nok 3 fail 1\n"
+        yield f"line 7 request {it} tcp 10.0.1.10 10.0.2.20 0 80\nok 3 fail 1 unknown 0\n"
         yield f"line 7 ACCEPT {it}\nok 3 differ 1 nodata 0 skipdata 0 unknown 0 skipped 0\n"
 
 
