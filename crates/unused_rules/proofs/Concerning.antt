@@ -87,10 +87,10 @@ matched-answered b f h k r held has reply matched =
       q = i.q;
     })
 
-pub kept_of : (d : Description) (rule : RuleName) (o : Option Filter) → o ≡ filter_of d rule → d.nats ≡ []
+pub kept_of : (d : Description) (rule : RuleName) (filter o : Option Filter) → filter ≡ filter_of d rule → IfSome o (λ f. filter ≡ Some f) → d.nats ≡ []
     → IfSome o (λ f. (filter_of d rule ≡ Some f) × (d.nats ≡ []))
-kept_of d rule None is none = tt
-kept_of d rule (Some f) is none = (sym is, none)
+kept_of d rule filter None is own none = tt
+kept_of d rule filter (Some f) is own none = (sym is ∙ own, none)
 
 -- ---- outside
 

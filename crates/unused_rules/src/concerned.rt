@@ -77,14 +77,39 @@ fn has_nats(d: &Description) -> bool
     }
 }
 
-/// What a rule matches, where packets keep their ports: no NAT gateway translates any. Nothing where there is no such rule.
-pub(crate) fn kept_filter(d: &Description, rule: &RuleName) -> Option<Filter>
+// Whether a rule may match all requests of some sides. No answer depends on it, but the time that a search takes.
+fn may_match_all(sides: &Box5, f: &Filter) -> bool {
+    let of_all = match f.proto {
+        None => true,
+        Some(n) => sides.proto == (n, n),
+    };
+    of_all && (f.from <= sides.q.0 && sides.q.1 <= f.to)
+}
+
+fn unless_all(sides: &Box5, filter: Option<Filter>) -> Option<Filter>
+    ensures { IfSome result (λ f. filter ≡ Some f) }
+{
+    match filter {
+        None => None,
+        Some(f) => {
+            if may_match_all(sides, &f) {
+                None
+            } else {
+                Some(f)
+            }
+        }
+    }
+}
+
+/// What a rule matches, where packets keep their ports: no NAT gateway translates any. Nothing where there is no such rule, or it
+/// may match all requests of the sides.
+pub(crate) fn kept_filter(d: &Description, sides: &Box5, rule: &RuleName) -> Option<Filter>
     ensures { IfSome result (λ f. (filter_of d.now rule.now ≡ Some f) × (d.now.nats ≡ [])) }
 {
     if has_nats(d) {
         None
     } else {
-        filter_of(d, rule)
+        unless_all(sides, filter_of(d, rule))
     }
 }
 

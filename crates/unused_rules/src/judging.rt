@@ -95,7 +95,7 @@ fn concerned(base: &Baseline, rule: &RuleName) -> Concerned
     ensures { DecidesWithin base.now.fabric.now rule.now base.now.query.now result }
 {
     let sides = base.query.sides;
-    match kept_filter(base.fabric.network().description(), rule) {
+    match kept_filter(base.fabric.network().description(), &sides, rule) {
         None => Concerned {
             asked: Some(sides),
             answered: None,
