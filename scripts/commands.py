@@ -11,7 +11,7 @@ import signal
 import sys
 from typing import Optional
 
-from scripts.bundles import harmless
+from scripts.bundles import NoBundle, Row, harmless, json_in, objects_of
 
 COMMANDS = {
     "explain": "scripts.explain",
@@ -20,6 +20,11 @@ COMMANDS = {
     "plan-bundle": "scripts.plan_bundle",
     "survey": "scripts.survey",
 }
+# What a file that isn't what it should be may end a reading with, or what is done with it.
+ODD = (
+    ArithmeticError, AssertionError, AttributeError, LookupError, MemoryError, RecursionError,
+    TypeError, ValueError,
+)
 USAGE = f"one of these is meant: {', '.join(COMMANDS)}; NAME --help says more of each"
 
 
@@ -61,6 +66,16 @@ def read(path: Optional[str]) -> bytes:
             return file.read()
     except OSError as error:
         raise Refused(f"{path} can't be read: {error.strerror}") from None
+
+
+def read_objects(path: str) -> list[Row]:
+    """The objects of a bundle."""
+    try:
+        return objects_of(json_in(path))
+    except OSError as error:
+        raise Refused(f"{path} can't be read: {error.strerror}") from None
+    except NoBundle as why:
+        raise Refused(f"{path} is no bundle: {why}") from None
 
 
 def refuse(name: str, why: object) -> int:

@@ -24,13 +24,14 @@ from collections.abc import Callable, Sequence
 from typing import Any, Optional, Union
 
 from scripts import texts
-from scripts.commands import Refused, read, refuse
-from scripts.explain_network import ODD, Network, read_network
+from scripts.commands import ODD, Refused, read, refuse
+from scripts.explain_network import Network, read_network
 from scripts.explain_stops import ended, stop_lines
 from scripts.explain_walk import Hop, Round, Stop, Walker, round_trip
-from scripts.explain_words import Teller, box_words, counted, packet_words
+from scripts.explain_words import Teller, box_words, packet_words
 from scripts.headers import Header, low_corner
 from scripts.texts import NoText
+from scripts.words import counted
 
 TOLD, MEANT = ("trace", "ask", "check", "replay"), "answer of trace, ask, check or replay"
 # The components of which a stop may be, where the packet isn't told.
@@ -153,7 +154,7 @@ class Answer:
             self.tell_rows(report, numbers)
         unknown = sum(it.stop.name == "Unmodelled" for it in report.rows)
         if unknown:
-            what = f"what becomes of the packets of {counted(unknown, 'row', 'rows')} is not known"
+            what = f"what becomes of the packets of {counted(unknown, 'row')} is not known"
             self.tell(f"So this is no 'no': {what}.")
         if report.next:
             left_out = f"{packet_words(report.next)} is the first packet that it leaves out"

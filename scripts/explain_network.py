@@ -6,9 +6,10 @@ import collections
 from collections.abc import Iterator
 from typing import Any, NamedTuple, Optional
 
-from scripts.bundles import TARGETS, Names, NoBundle, Row, json_in, member, objects_of, rows
-from scripts.commands import Refused
+from scripts.bundles import TARGETS, Names, Row, member, rows
+from scripts.commands import ODD, Refused, read_objects
 from scripts.headers import Block, Header, address, block_of
+from scripts.words import USABLE
 
 
 class Vpc(NamedTuple):
@@ -132,7 +133,6 @@ TARGET_KINDS = {
     "NetworkInterfaceId": "interface",
 }
 PROTOCOL_WORDS = {"-1": None, "tcp": 6, "udp": 17, "icmp": 1, "icmpv6": 58}
-LIVE = ("available", "modifying")
 
 
 def items(row: Row, name: str) -> Any:
@@ -380,7 +380,7 @@ class Network:
         self.associations: dict[str, str] = {}
         self.transit_tables: dict[str, list[TransitRoute]] = {}
         for row in lists["TransitGatewayVpcAttachments"]:
-            if row["State"] in LIVE:
+            if row["State"] in USABLE:
                 name, gateway = row["TransitGatewayAttachmentId"], row["TransitGatewayId"]
                 found = Attachment(name, gateway, row["VpcId"], list(items(row, "SubnetIds")))
                 self.attachments.setdefault(name, found)
@@ -493,26 +493,8 @@ class Network:
         return peering.pair[1] if peering.pair[0] == vpc else peering.pair[0]
 
 
-# What a bundle that vpc refuses may end a reading or a walk with.
-ODD = (
-    ArithmeticError,
-    AssertionError,
-    AttributeError,
-    LookupError,
-    MemoryError,
-    RecursionError,
-    TypeError,
-    ValueError,
-)
-
-
 def read_network(path: str) -> Network:
-    try:
-        objects = objects_of(json_in(path))
-    except OSError as error:
-        raise Refused(f"{path} can't be read: {error.strerror}") from None
-    except NoBundle as why:
-        raise Refused(f"{path} is no bundle: {why}") from None
+    objects = read_objects(path)
     try:
         return Network(objects)
     except ODD:

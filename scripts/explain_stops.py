@@ -376,9 +376,7 @@ class Why:
             found = f"{they.capitalize()} {words} alone."
         return " ".join([found, *self.lost_references(rules, h, far)])
 
-    def lost_references(
-        self, rules: list[tuple[str, Rule]], h: Header, far: int
-    ) -> Iterator[str]:
+    def lost_references(self, rules: list[tuple[str, Rule]], h: Header, far: int) -> Iterator[str]:
         """Groups that hold the address, and whose naming doesn't count."""
         network, named = self.network, self.teller.named
         found = [

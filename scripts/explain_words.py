@@ -29,10 +29,6 @@ def some(parts: Iterable[str], most: int = 4) -> str:
     return f"{', '.join(found[:most])} and {len(found) - most} more"
 
 
-def counted(count: int, one: str, many: str) -> str:
-    return f"{count:,} {one if count == 1 else many}"
-
-
 def icmp_words(q: int) -> str:
     return f"icmp type {q // 256} code {q % 256}"
 

@@ -30,8 +30,8 @@ from collections.abc import Sequence
 from typing import Any, Callable, Optional
 
 from scripts import texts
-from scripts.bundles import Names, NoBundle, json_in, objects_of
-from scripts.commands import Refused, read, refuse
+from scripts.bundles import Names
+from scripts.commands import Refused, read, read_objects, refuse
 from scripts.picture_canvas import STYLE, Drawing, escaped, grouped
 from scripts.picture_matrix import draw_matrix
 from scripts.picture_reports import draw_report
@@ -47,12 +47,8 @@ OWN_WORDS = (
 ).split()
 DRAWN = ("trace", "ask", "matrix", "reach", "diff")
 DRAWERS: dict[Any, Callable[[Any, Names, str], tuple[Drawing, str, str]]] = {
-    texts.Walk: draw_trace,
-    texts.Reachable: draw_reachable,
-    texts.Report: draw_report,
-    texts.Matrix: draw_matrix,
-    texts.Reach: draw_reach,
-    texts.Diff: draw_diff,
+    texts.Walk: draw_trace, texts.Reachable: draw_reachable, texts.Report: draw_report,
+    texts.Matrix: draw_matrix, texts.Reach: draw_reach, texts.Diff: draw_diff,
 }
 
 
@@ -69,15 +65,6 @@ def draw(path: Optional[str], data: bytes, names: Names, name: str) -> tuple[Dra
     except NoText as why:
         raise Refused(f"{path or 'the text'} can't be drawn: {why}") from None
     return DRAWERS[type(found)](found, names, name)
-
-
-def read_names(path: str) -> Names:
-    try:
-        return Names(objects_of(json_in(path)))
-    except OSError as error:
-        raise Refused(f"{path} can't be read: {error.strerror}") from None
-    except NoBundle as why:
-        raise Refused(f"{path} is no bundle: {why}") from None
 
 
 # ---- pages
@@ -145,7 +132,7 @@ def told_words(words: Sequence[str]) -> tuple[Optional[str], bool, list[str]]:
 def picture(words: Sequence[str]) -> str:
     """What is printed."""
     bundle, is_page, paths = told_words(words)
-    names = read_names(bundle) if bundle else Names()
+    names = Names(read_objects(bundle)) if bundle else Names()
     if is_page:
         meant: list[Optional[str]] = [*paths] or [None]
         return page([(it, read(it)) for it in meant], names)

@@ -107,10 +107,6 @@ def grouped(count: int) -> str:
     return f"{count:,}"
 
 
-def counted_words(count: int, one: str, many: str) -> str:
-    return f"{grouped(count)} {one if count == 1 else many}"
-
-
 def first_of(words: Sequence[str], most: int) -> list[str]:
     """The first of several words, and how many more there are."""
     return [*words[:most], *[f"and {len(words) - most} more"] * (len(words) > most)]
@@ -210,13 +206,7 @@ class Drawing:
         self.patterns: dict[tuple[str, ...], tuple[str, str]] = {}
 
     def rect(
-        self,
-        x: float,
-        y: float,
-        width: float,
-        height: float,
-        style: str,
-        corner: float = 0,
+        self, x: float, y: float, width: float, height: float, style: str, corner: float = 0,
         more: str = "",
     ) -> None:
         corners = f' rx="{number(corner)}"' if corner else ""
@@ -227,16 +217,8 @@ class Drawing:
         self.parts.append(f'<path class="{style}" d="{shape}"{more}/>')
 
     def text(
-        self,
-        x: float,
-        y: float,
-        told: str,
-        size: float,
-        style: str = "ink",
-        fixed: bool = False,
-        bold: bool = False,
-        anchor: str = "",
-        turned: bool = False,
+        self, x: float, y: float, told: str, size: float, style: str = "ink", fixed: bool = False,
+        bold: bool = False, anchor: str = "", turned: bool = False,
     ) -> None:
         """A line of text by its base line. Its width is as measured, whatever the letters of the
         reader's machine are."""
@@ -261,15 +243,8 @@ class Drawing:
         self.parts.append(f"<text {place(x, y)}>{''.join(spans)}</text>")
 
     def lines(
-        self,
-        x: float,
-        y: float,
-        told: Iterable[str],
-        size: float,
-        style: str = "ink",
-        fixed: bool = False,
-        bold: bool = False,
-        leading: float = 1.35,
+        self, x: float, y: float, told: Iterable[str], size: float, style: str = "ink",
+        fixed: bool = False, bold: bool = False, leading: float = 1.35,
     ) -> float:
         """Lines below each other from a top; where they end."""
         for it in told:
@@ -278,12 +253,7 @@ class Drawing:
         return y
 
     def chip(
-        self,
-        x: float,
-        y: float,
-        told: str,
-        style: str = "grey-tint",
-        ink: str = "ink",
+        self, x: float, y: float, told: str, style: str = "grey-tint", ink: str = "ink",
         size: float = 11,
     ) -> float:
         """A text in a rounded box; how wide it is."""
@@ -293,11 +263,7 @@ class Drawing:
         return width
 
     def chips(
-        self,
-        told: Iterable[str],
-        x: float,
-        width: float,
-        style: str = "grey-tint",
+        self, told: Iterable[str], x: float, width: float, style: str = "grey-tint",
         ink: str = "ink",
     ) -> None:
         """Chips beside and below each other."""

@@ -76,9 +76,7 @@ def root(lead_of: Mapping[Key, Key], it: Key) -> Key:
     return it
 
 
-def alike(
-    one: Mapping[Key, int], other: Mapping[Key, int], lead: Key, it: Key, value: int
-) -> bool:
+def alike(one: Mapping[Key, int], other: Mapping[Key, int], lead: Key, it: Key, value: int) -> bool:
     """Whether two rows are equal with a number on the diagonal."""
     one, other = {**one, lead: value}, {**other, it: value}
     if value:

@@ -10,9 +10,10 @@ from typing import Union
 
 from scripts.bundles import Names
 from scripts.headers import Range
-from scripts.picture_canvas import MARGIN, Drawing, Run, counted_words, grouped, number, width_of
+from scripts.picture_canvas import MARGIN, Drawing, Run, grouped, number, width_of
 from scripts.picture_classes import Class, Label, fold
 from scripts.texts import Matrix
+from scripts.words import counted
 
 MOST_CLASSES = 30
 # How far the names of classes reach.
@@ -106,8 +107,8 @@ def draw_matrix(matrix: Matrix, names: Names, drawing_name: str) -> tuple[Drawin
     grid = Grid(folded, [Label(it.ids, names, 250, most) for it in folded.classes])
     width = 2 * MARGIN + LABELS + grid.size * count
     drawing = Drawing(max(width, 620), drawing_name)
-    classes = counted_words(folded.exact, "class", "classes")
-    summary = f"{counted_words(len(matrix.ids), 'interface', 'interfaces')} in {classes}"
+    classes = counted(folded.exact, "class", "classes")
+    summary = f"{counted(len(matrix.ids), 'interface')} in {classes}"
     summary += f", {count} drawn" * (count != folded.exact)
     title = [Run("matrix", 18, "ink", False, True), Run(summary, 13, "soft")]
     drawing.runs(MARGIN, drawing.bottom + 16, title)
@@ -130,7 +131,7 @@ def draw_shades(drawing: Drawing, totals: dict[str, int]) -> None:
         else:
             drawing.rect(x, top, 36, 16, "panel" if word == "blocked" else "grey")
             drawing.rect(x, top, 36, 16, "edge")
-        told = f"{word} {counted_words(count, 'pair', 'pairs')}"
+        told = f"{word} {counted(count, 'pair')}"
         drawing.text(x + 44, top + 12.5, told, 12, "ink")
         x += 44 + width_of(told, 12) + 22
     drawing.bottom = top + 16
@@ -203,7 +204,7 @@ class Grid:
 
 def matrix_words(grid: Grid, totals: dict[str, int]) -> str:
     """The classes, and what is open between them."""
-    told = [f"{counted_words(it, 'pair', 'pairs')} {word}" for word, it in totals.items() if it]
+    told = [f"{counted(it, 'pair')} {word}" for word, it in totals.items() if it]
     told += [f"class {k}: {it.told()}" for k, it in enumerate(grid.labels, 1)]
     for row, columns in enumerate(grid.words, 1):
         opened = [f"{column} {' '.join(it)}" for column, it in enumerate(columns, 1) if it]

@@ -11,12 +11,12 @@ from typing import Optional, TypeVar
 from scripts.bundles import Names
 from scripts.headers import Box, Range, dotted
 from scripts.picture_canvas import (
-    MARGIN, PALETTE, UNKNOWN, Drawing, Run, beside_or_below, counted_words, flowed, grouped, number,
+    MARGIN, PALETTE, UNKNOWN, Drawing, Run, beside_or_below, flowed, grouped, number,
     width_of, width_of_runs, wrapped,
 )
 from scripts.picture_walks import draw_ends
 from scripts.texts import Report, ReportRow
-from scripts.words import PROTOCOLS, SIDES
+from scripts.words import PROTOCOLS, SIDES, counted
 
 # How many pieces of a side stand in their order, how many are drawn at all, and how many are told
 # apart before.
@@ -134,9 +134,7 @@ def alike_groups(lines: Sequence[Line], most: int) -> list[list[int]]:
     return list(at.values())
 
 
-def cells_of(
-    report: Report, marks: Sequence[int], across: Axis, down: Axis
-) -> list[list[Marks]]:
+def cells_of(report: Report, marks: Sequence[int], across: Axis, down: Axis) -> list[list[Marks]]:
     """The marks of each cell, line by line. Lines and columns that are alike are joined, and the
     axes know."""
     bits_of: list[dict[int, int]] = [{} for _ in down.pieces]
@@ -246,12 +244,12 @@ def reason_words(reasons: Reasons) -> str:
     told = []
     for (phase, name), of in reasons.components.items():
         shown = [
-            f"{it} {rule}: {counted_words(count, 'row', 'rows')}"
+            f"{it} {rule}: {counted(count, 'row')}"
             for (it, rule), count in list(of.items())[:MOST_COMPONENTS]
         ]
         left_out = len(of) - MOST_COMPONENTS
         shown += [f"and {grouped(left_out)} more"] * (left_out > 0)
-        rows = counted_words(reasons.rows[phase, name], "row", "rows")
+        rows = counted(reasons.rows[phase, name], "row")
         told.append(f"{phase} {name}, {rows} ({', '.join(shown)})")
     return "; ".join(told)
 
@@ -395,7 +393,7 @@ class Legend:
         runs = [Run(name, 13, "ink", False, True), Run(phase, 12, "soft")]
         runs += [Run("not known", 12, "soft")] * (name == "Unmodelled")
         drawing.runs(left, top + 12.5, runs)
-        rows = counted_words(reasons.rows[reason], "row", "rows")
+        rows = counted(reasons.rows[reason], "row")
         drawing.text(x + self.width, top + 12.5, rows, 12, "soft", anchor="end")
         draw = self.draw_each if reasons.each else self.draw_together
         return draw(reason, x, top + 22)
@@ -431,7 +429,7 @@ class Legend:
         if len(of) > len(most):
             rows = sum(of.values()) - sum(of[it] for it in most)
             more = f"and {grouped(len(of) - len(most))} more"
-            told.append(f"{more}, {counted_words(rows, 'row', 'rows')}")
+            told.append(f"{more}, {counted(rows, 'row')}")
         lines = flowed(told, self.width - 26, 10.5, ",")
         return self.drawing.lines(x + 26, top, lines, 10.5, "ink", True, leading=1.4)
 
@@ -450,7 +448,7 @@ def draw_report(report: Report, names: Names, drawing_name: str) -> tuple[Drawin
     plane = Plane(drawing, report, reasons, width)
     plane.draw()
     Legend(drawing, reasons, names, width).draw(report, plane)
-    rows = counted_words(len(report.rows), "row", "rows")
+    rows = counted(len(report.rows), "row")
     title = f"{first}: from {report.start} to {report.goal}, {rows}"
     more = f" next {report.next}, cells {report.cells}." if report.next else ""
     told = f"box {', '.join(box_words(report.box))}. {reason_words(reasons)}.{more}"

@@ -49,11 +49,7 @@ def side_words(header: Header) -> list[str]:
 
 
 def draw_ends(
-    drawing: Drawing,
-    ends: Sequence[str],
-    names: Names,
-    verdict: str,
-    style: str,
+    drawing: Drawing, ends: Sequence[str], names: Names, verdict: str, style: str,
 ) -> None:
     """The ends and how it went, over the whole width."""
     badge = width_of(verdict, 13) + 26

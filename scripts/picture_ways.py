@@ -9,13 +9,13 @@ from typing import NamedTuple, Optional, TypeVar, Union
 from scripts.bundles import Names
 from scripts.headers import LAST, Box, dotted
 from scripts.picture_canvas import (
-    GAP, MARGIN, Drawing, counted_words, first_of, flowed, grouped, number, width_of, wrapped,
+    GAP, MARGIN, Drawing, first_of, flowed, grouped, number, width_of, wrapped,
 )
 from scripts.picture_classes import MOST_IDS, Label, fold
 from scripts.picture_matrix import open_words
 from scripts.picture_reports import range_words
 from scripts.texts import Diff, DiffRow, Reach, ReachRow
-from scripts.words import PROTOCOLS, SIDES
+from scripts.words import PROTOCOLS, SIDES, counted
 
 # How a way is drawn: its color, the dashes of its line, and its chips.
 WAYS = {
@@ -96,8 +96,7 @@ def note_words(note: Note, start: str, end: str) -> str:
 
 
 def folds_of(
-    rows: Sequence[JourneyRow],
-    word_of: Callable[[JourneyRow], str],
+    rows: Sequence[JourneyRow], word_of: Callable[[JourneyRow], str],
     note: Callable[[JourneyRow], Optional[Note]],
 ) -> list[Fold]:
     """Rows by word, start and end, those of alike ends as one: the word, the starts, the ends, and
@@ -248,9 +247,9 @@ def draw_paths(drawing: Drawing, paths: list[Path], names: Names) -> None:
 
 
 def more_words(folds: list[Fold]) -> str:
-    rows = counted_words(sum(len(it[3]) for it in folds), "row", "rows")
+    rows = counted(sum(len(it[3]) for it in folds), "row")
     ids = {it for _, starts, ends, _ in folds for it in starts + ends}
-    interfaces = counted_words(len(ids), "interface", "interfaces")
+    interfaces = counted(len(ids), "interface")
     return f"and {grouped(len(folds))} more, not drawn: {rows} of {interfaces}"
 
 
@@ -268,7 +267,7 @@ def draw_words(drawing: Drawing, folds: list[Fold], x: float) -> None:
             more = f' stroke-width="3"{dashed(dashes)}'
             line = f"M{number(x)} {number(drawing.bottom + 11)}h26"
             drawing.path(line, f"{color}-line", more)
-            told = f"{word} " * (word != "reached") + counted_words(rows, "row", "rows")
+            told = f"{word} " * (word != "reached") + counted(rows, "row")
             drawing.text(x + 34, drawing.bottom + 16, told, 13, ink, False, True)
             x += 34 + width_of(told, 13) + 22
 
@@ -307,7 +306,7 @@ def draw_journeys(
         drawing.bottom = drawing.lines(MARGIN, drawing.bottom, lines, 13, "ink") + 18
     drawing.bottom -= 18
     words = [path_words(it) for it in paths] + [more_words(left_out)] * bool(left_out)
-    rows = counted_words(len(found.rows), "row", "rows")
+    rows = counted(len(found.rows), "row")
     return drawing, f"{first}: {found.query}, {rows}", "; ".join(words or [nothing]) + "."
 
 

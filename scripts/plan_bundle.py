@@ -39,7 +39,7 @@ import sys
 from collections.abc import Callable, Sequence
 
 from scripts.bundles import harmless
-from scripts.commands import Refused
+from scripts.commands import ODD, Refused
 from scripts.plan_changes import Change, Plan, has_true, shown
 from scripts.plan_interfaces import InstanceChanges
 from scripts.plan_rows import Bundle
@@ -169,16 +169,6 @@ DROPPED: Acts = {
     "aws_default_network_acl": Apply.nothing,
     "aws_default_route_table": Apply.nothing,
 }
-# What a plan or a bundle that is otherwise than they are may end the applying with.
-ODD = (
-    ArithmeticError,
-    AttributeError,
-    LookupError,
-    MemoryError,
-    RecursionError,
-    TypeError,
-    ValueError,
-)
 
 
 def refused(why: object) -> int:

@@ -366,9 +366,7 @@ class Plan:
             parts = list(expression.values())
         return [value for it in parts for value in self.evaluated(it, path, scope, depth + 1)]
 
-    def of_heads(
-        self, found: list[Parts], path: ModulePath, scope: Scope, depth: int
-    ) -> list[Any]:
+    def of_heads(self, found: list[Parts], path: ModulePath, scope: Scope, depth: int) -> list[Any]:
         # (one that chooses among the instances of a resource is no value of its own)
         chosen = [it for it in found if it not in CHOOSING]
         own = len(chosen) < len(found)

@@ -148,9 +148,7 @@ class GroupChanges(Applying):
             raise Untold(UNKNOWN)
         return [self.plan.one_among(change, name, kind, self.bundle.is_group)]
 
-    def put_targets(
-        self, rules: Described, head: Head, found: list[Any], description: Any
-    ) -> None:
+    def put_targets(self, rules: Described, head: Head, found: list[Any], description: Any) -> None:
         for it in found:
             rules[Rule(*head, self.target_of(head[-1], it))] = description
 

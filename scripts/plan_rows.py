@@ -106,9 +106,7 @@ class Bundle:
 
     # -- what a VPC has
 
-    def one_of_vpc(
-        self, name: str, vpc: Any, is_it: Callable[[Row], bool], what: str
-    ) -> Row:
+    def one_of_vpc(self, name: str, vpc: Any, is_it: Callable[[Row], bool], what: str) -> Row:
         found = [it for it in self.rows(name) if it.get("VpcId") == vpc and is_it(it)]
         if len(found) != 1:
             raise Untold(f"the bundle doesn't tell the {what} of {shown(vpc)}")

@@ -25,9 +25,9 @@ from scripts.bundles import (
     BESIDE, LISTS, TARGETS, NoBundle, Row, harmless, harmless_ids, has_lists, json_in, member,
     objects_of, rows,
 )
+from scripts.words import USABLE
 
 FOLLOWED = ("NatGatewayId", "TransitGatewayId", "VpcPeeringConnectionId", "NetworkInterfaceId")
-USABLE = ("available", "modifying")
 EMPTY = (
     "no interfaces: there is no end but the internet to ask about; another region or account may "
     "be meant"
@@ -598,29 +598,11 @@ def zone_names(bundle: Bundle) -> Findings:
 
 
 FINDERS = (
-    unmodelled_routes,
-    networks_behind,
-    route_states,
-    gateway_tables,
-    unlisted_groups,
-    ipv6_routes,
-    ipv6_rules,
-    ipv6_acl_rows,
-    ipv6_entries,
-    delegated_prefixes,
-    public_addresses,
-    load_balancers,
-    idle_instances,
-    secondary_addresses,
-    blocked_public_access,
-    public_access_options,
-    other_attachments,
-    missing_tables,
-    transit_routes,
-    attachment_options,
-    doubled_attachments,
-    transit_references,
-    zone_names,
+    unmodelled_routes, networks_behind, route_states, gateway_tables, unlisted_groups, ipv6_routes,
+    ipv6_rules, ipv6_acl_rows, ipv6_entries, delegated_prefixes, public_addresses, load_balancers,
+    idle_instances, secondary_addresses, blocked_public_access, public_access_options,
+    other_attachments, missing_tables, transit_routes, attachment_options, doubled_attachments,
+    transit_references, zone_names,
 )
 
 

@@ -20,5 +20,12 @@ COUNTED_LISTS = (
 # The protocols that have a name.
 PROTOCOLS = {1: "icmp", 6: "tcp", 17: "udp"}
 PROTOCOL_NUMBERS = {name: number for number, name in PROTOCOLS.items()}
+# The states of what a transit gateway may lead packets to.
+USABLE = ("available", "modifying")
 # The sides of a header and of a box, as queries name them.
 SIDES = ("proto", "src", "dst", "sport", "port")
+
+
+def counted(count: int, one: str, many: str = "") -> str:
+    """A count, with what is counted behind it."""
+    return f"{count:,} {one if count == 1 else many or one + 's'}"
