@@ -48,6 +48,7 @@ calls() {
 collect=$here/../collect-bundle
 
 # One account: one object, with all lists, whose rows are those of the answers.
+began=$(date +%s)
 collect "$collect"
 is 'one account: status' $status 0
 is 'one account: errors' "$(said)" ''
@@ -85,7 +86,7 @@ is 'the first call' "$(head -n 1 "$CALLS")" 'aws --output json ec2 describe-vpcs
 
 # How it was collected.
 is 'collected: account, region' "$(told '.Collected | [.Account, .Region]')" '["111122223333","us-east-1"]'
-is 'collected: the time' "$(told '.Collected.Time | strptime("%Y-%m-%dT%H:%M:%SZ") | mktime | . > now - 100 and . <= now')" true
+is 'collected: the time' "$(told '.Collected.Time | strptime("%Y-%m-%dT%H:%M:%SZ") | mktime'" | . >= $began and . <= now")" true
 is 'collected: the calls' "$(told '.Collected.Calls[]' | sed 's/^/aws /' | sort)" "$(calls)"
 is 'collected: the version' "$(told .Collected.Version)" "$(sha256sum <"$collect" | cut -d ' ' -f 1)"
 is 'collected: nothing else' "$(told '.Collected | keys_unsorted | join(" ")')" 'Account Region Time Calls Version'
