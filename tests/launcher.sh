@@ -545,7 +545,7 @@ while read -r how names; do
     case $how in
     runs) is "flows, $names" "$status $out $err" "0 one $PWD flows bundle.json log.txt " ;;
     *)
-        fits "flows, $names" "$status $out $err" '2  vpc: the first line of LOG names other fields *README.md*'
+        fits "flows, $names" "$status $out $err" '2  vpc: the first line of LOG names other fields *docs/FLOWS.md*'
         is "flows, $names: one line" "$(wc -l <err)" 1
         ;;
     esac

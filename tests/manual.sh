@@ -48,7 +48,7 @@ done
 
 # The variables that the launcher reads, each exit status, and files that are there.
 is 'environment' "$(section ENVIRONMENT | grep -o 'VPC_[A-Z]*' | sort -u)" "$(grep -o '[{]VPC_[A-Z]*' "$top/vpc" | tr -d '{' | sort -u)"
-is 'exit status' "$(sed -n '/^.Sh EXIT STATUS/,/^.El/s/^.It \([0-9]*\)$/\1/p' "$top/vpc.1" | tr '\n' ' ')" '0 1 2 3 4 5 6 7 8 125 '
+is 'exit status' "$(sed -n '/^.Sh EXIT STATUS/,/^.El/s/^.It \([0-9]*\)$/\1/p' "$top/vpc.1" | tr '\n' ' ')" '0 1 2 3 4 5 6 7 8 9 125 '
 while read -r it; do
     case $it in
     '' | out/* | prebuilt/) ;;
