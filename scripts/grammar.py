@@ -318,7 +318,7 @@ class Form:
         return told
 
     def has_fields(self, told: Members) -> bool:
-        """Whether these are the fields of such a line, with the values of those that aren't printed."""
+        """Whether these are the fields of such a line, with the values that aren't printed."""
         are_its = self.needed <= told.keys() <= self.told.keys()
         return are_its and all(it in (None, told.get(field)) for field, it in self.told.items())
 

@@ -10,8 +10,8 @@ for byte.
      (in one line)
 
 `text` is the command that answered, or `refusal`, and `line` how the line begins. The other members
-are what docs/JSON.md and docs/WALK.md name so, as it is printed, but for these: a range is an array of
-its first and its last; a rule that is `-` is null; `by` is `rule`, `tracked` or `none`, and left
+are what docs/JSON.md and docs/WALK.md name so, as it is printed, but for these: a range is an array
+of its first and its last; a rule that is `-` is null; `by` is `rule`, `tracked` or `none`, and left
 out where nothing let the packet pass; what belongs to a walk of `ask` has the `phase` above it;
 `cells` is a text, since it may have more digits than jq keeps.
 
