@@ -76,7 +76,7 @@ def main():
     row(10_000, 200, "0-499")
     print("\n| rules of a group | rows of an ACL | unused | peak |")
     print("|---:|---:|---:|---:|")
-    for count in (100, 200, 1000):
+    for count in (100, 200, 995):
         both(count)
 
 

@@ -31,7 +31,7 @@ HERE = os.path.dirname(os.path.abspath(__file__))
 FOLDERS = ("completion", "examples", "scripts")
 # What a reader has, beside the program; and Python, which the scripts name.
 AT_HAND = (
-    "jq sh bash awk cat chmod cmp cp cut date dirname env find getconf grep gzip head id ln ls mkdir mktemp mv nproc paste printf readlink rm sed "
+    "jq sh bash awk cat chmod cmp cp cut date dirname env find getconf grep gzip head id ln ls mkdir mkfifo mktemp mv nproc paste printf readlink rm sed "
     "seq sha256sum sleep sort stat tail timeout tr uname uniq wc xargs"
 ).split()
 # The pages that name the kit.
