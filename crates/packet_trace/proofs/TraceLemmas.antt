@@ -13,7 +13,7 @@ use Rattle.vpc_model.specs.Nat.{Translation}
 use Rattle.vpc_model.specs.Place.{start_of}
 use Rattle.vpc_model.specs.Sound.{is_sound}
 use Rattle.vpc_model.specs.Walk.{Walk, walk_of}
-use Rattle.packet_trace.specs.Traced.{IsWalked, status_of, traced_status, traced_text, walk_of_event}
+use Rattle.packet_trace.specs.Traced.{IsWalked, status_of, traced_text, walk_of_event}
 use Rattle.command_job.specs.declared.status.Answer.{Answer}
 
 -- a walk with the described appliances and nothing remembered is that of the packet
@@ -44,24 +44,28 @@ pub end_is_well : (d n : Description) (walk : Walk) (outcome : Outcome) → n �
 end_is_well d n walk outcome same ends told =
     subst (λ (x : Description). EndsWell x outcome) (sym same) (subst (λ (o : Outcome). EndsWell d o) (sym ends) told.1)
 
--- how its command ends, and what is printed of it
-status_of-event : (d : Description) (e : Event) (walk : Walk) (outcome : Outcome) → walk ≡ walk_of_event d e → outcome ≡ walk.outcome → status_of outcome ≡ traced_status d e
-status_of-event d e walk outcome is ends = ap status_of ends ∙ ap (λ (w : Walk). status_of w.outcome) is
+-- the same of the network that a fabric is of, and of the hops as a slice
+pub hops_in : (d n : Description) (hops slice : List Hop) → n ≡ d → slice ≡ hops → All (IsSoundHop d) hops → All (IsSoundHop n) slice
+hops_in d n hops slice same are sound =
+    subst (λ (x : Description). All (IsSoundHop x) slice) (sym same) (subst (λ (l : List Hop). All (IsSoundHop d) l) (sym are) sound)
 
-walk_text-event : (d n : Description) (e : Event) (walk : Walk) (hops : List Hop) (outcome : Outcome)
-    → walk ≡ walk_of_event d e → n ≡ d → hops ≡ walk.hops → outcome ≡ walk.outcome → walk_text n hops outcome ≡ traced_text d e
-walk_text-event d n e walk hops outcome is same are ends =
+pub ends_in : (d n : Description) (outcome : Outcome) → n ≡ d → EndsWell d outcome → EndsWell n outcome
+ends_in d n outcome same well = subst (λ (x : Description). EndsWell x outcome) (sym same) well
+
+-- how its command ends, and what is printed of it
+walk_text-event : (d n : Description) (e : Event) (hops : List Hop) (outcome : Outcome) → n ≡ d → (let walk = walk_of_event d e in hops ≡ walk.hops)
+    → (let walk = walk_of_event d e in outcome ≡ walk.outcome) → walk_text n hops outcome ≡ traced_text d e
+walk_text-event d n e hops outcome same are ends =
+    let walk = walk_of_event d e in
     ap (λ (x : Description). walk_text x hops outcome) same
-    ∙ (ap (λ (l : List Hop). walk_text d l outcome) are
-    ∙ (ap (λ (o : Outcome). walk_text d walk.hops o) ends
-    ∙ ap (λ (w : Walk). walk_text d w.hops w.outcome) is))
+    ∙ (ap (λ (l : List Hop). walk_text d l outcome) are ∙ ap (λ (o : Outcome). walk_text d walk.hops o) ends)
 
 -- what is answered to its packet
-pub answers_event : {E : Type 0} (r : Result Answer E) (d n : Description) (e : Event) (walk : Walk) (hops : List Hop) (outcome : Outcome)
-    → walk ≡ walk_of_event d e → n ≡ d → hops ≡ walk.hops → outcome ≡ walk.outcome
+pub answers_event : {E : Type 0} (r : Result Answer E) (d n : Description) (e : Event) (hops : List Hop) (outcome : Outcome) → n ≡ d → (let walk = walk_of_event d e in hops ≡ walk.hops)
+    → (let walk = walk_of_event d e in outcome ≡ walk.outcome)
     → IfOk r (λ a. a.status ≡ status_of outcome) → IfOk r (λ a. a.text.items ≡ walk_text n hops outcome) → IfOk r (λ a. IsWalked d e a.status a.text.items)
-answers_event (Ok a) d n e walk hops outcome is same are ends status_is text_is = record {
-  status_is = status_is ∙ status_of-event d e walk outcome is ends;
-  text_is = text_is ∙ walk_text-event d n e walk hops outcome is same are ends;
+answers_event (Ok a) d n e hops outcome same are ends status_is text_is = record {
+  status_is = status_is ∙ ap status_of ends;
+  text_is = text_is ∙ walk_text-event d n e hops outcome same are ends;
 }
-answers_event (Err x) d n e walk hops outcome is same are ends status_is text_is = tt
+answers_event (Err x) d n e hops outcome same are ends status_is text_is = tt

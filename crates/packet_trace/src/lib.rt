@@ -3,5 +3,8 @@
 
 mod command;
 mod traces;
+mod walks;
 
 pub use command::TraceCommand;
+pub use traces::refuse_packet;
+pub use walks::{status_of, walk_event};

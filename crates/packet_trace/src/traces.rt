@@ -8,29 +8,18 @@ ghost use Rattle.vpc_model.specs.Appliances.{appliances_of};
 ghost use Rattle.vpc_model.specs.Place.{start_of};
 ghost use Rattle.vpc_model.specs.Sound.{is_sound};
 
+use crate::walks::{status_of, walk_event};
 use appliances::Deciders;
 use block_report::{put, put_end, put_query_refusal, put_walk};
 use command_job::{Answer, Job, Status, answer_job};
-use conn_tracking::SmallConns;
 use fabric::Fabric;
-use nat_gateway::SmallNats;
-use packet_emulator::{Hops, walk};
+use packet_emulator::Hops;
 use query_words::{QueryRefusal, read_packet};
 use reference_check::Network;
 use std::alloc::Global;
 use std::mem;
 use vpc_base::NoMemory;
-use vpc_model::{Event, Hop, Outcome, start_place};
-
-// How a walk's command ends.
-fn status_of(outcome: &Outcome) -> Status
-    ensures { result ≡ status_of outcome.now }
-{
-    match outcome {
-        Outcome::Arrived(_, _) => Status::Yes,
-        Outcome::Stopped(_) => Status::No,
-    }
-}
+use vpc_model::{Event, Hop, Outcome};
 
 // The lines of a walk.
 fn answer_walk(
@@ -63,21 +52,8 @@ fn walk_with(
     requires appliances { deciders.now.appliances ≡ appliances_of fabric.now }
     ensures { IfOk result (λ a. IsWalked fabric.now e.now a.status a.text.items) }
 {
-    let mut conns = SmallConns::new();
-    let mut nats = SmallNats::new();
     let mut hops = Hops::new();
-    let outcome = walk(
-        fabric,
-        deciders,
-        start_place(&e.start),
-        e.label,
-        e.header,
-        &mut conns,
-        &mut nats,
-        &mut hops,
-    );
-    // That the network is accepted is a clause of this call.
-    let _ = fabric.network().description();
+    let outcome = walk_event(fabric, deciders, e, &mut hops);
     answer_walk(alloc, fabric.network(), hops.as_slice(), &outcome)
 }
 
@@ -104,7 +80,8 @@ impl<'a> Job for Walking<'a> {
     }
 }
 
-fn refuse_packet(alloc: Global, refusal: &QueryRefusal) -> Result<Answer, NoMemory>
+/// Refuses the words of a packet for the first cause against them.
+pub fn refuse_packet(alloc: Global, refusal: &QueryRefusal) -> Result<Answer, NoMemory>
     ensures line { IfOk result (λ a.
         (a.status ≡ Status.Query) × (a.text.items ≡ packet_refusal_line refusal.now)) }
     ensures cause { IfOk result (λ a. refusal.now ≢ refusals.Memory) }
