@@ -24,7 +24,11 @@ LIST = (
 MEMBER = r"[A-Z][A-Za-z0-9]*(?:\[[0-9]+\])?"
 PATH = rf"(?:\$|{MEMBER}(?:\.{MEMBER})*)"
 STOP = rf"{NAME} {ID} {ID}"
-HOPS = rf"(?:hop {COUNT} {PLACE} {ID} {HEADER}(?: by (?:none|tracked|{ID} (?:in|out) {ID}))?\n){{1,64}}"
+HOP = rf"hop {COUNT} {PLACE} {ID} {HEADER}(?: by (?:none|tracked|{ID} (?:in|out) {ID}))?\n"
+HOPS = rf"(?:{HOP}){{1,64}}"
+VERDICT = rf"acl {ID} (?:in|out) {NUMBER} (?:allow|deny)\n"
+REASONS = rf"(?:group {ID} (?:in|out) {ID}\n|(?:route {ID} {ID} {ID}\n)?(?:{VERDICT}){{0,2}})(?:becomes {HEADER}\n)?"
+EXPLAINED = rf"(?:{HOP}{REASONS}){{1,64}}"
 ROWS = rf"(?:row {COUNT} (?:request|reply) {STOP} {BOX}\n)*"
 QUERY = rf"query from {ID} to {ID}\nbox {BOX}\n{ROWS}"
 CAUSE = (
@@ -39,6 +43,7 @@ FOR_ALL = {2: rf"refused words {COUNT}\n", 6: r"read fault [12]\n", 8: r"(?:want
 WITH_FILE = {**FOR_ALL, 3: rf"refused description {CAUSE}\n"}
 TEXTS = {
     "trace": {**WITH_FILE, 0: rf"{HOPS}arrived {ID}\n", 1: rf"{HOPS}stopped {STOP}\n", 4: rf"refused packet {WORD})\n"},
+    "why": {**WITH_FILE, 0: rf"{EXPLAINED}arrived {ID}\n", 1: rf"{EXPLAINED}stopped {STOP}\n", 4: rf"refused packet {WORD})\n"},
     "ask": {
         **WITH_FILE,
         0: rf"reachable\npacket {HEADER}\nrequest\n{HOPS}arrived {ID}\nreply\n{HOPS}arrived {ID}\n",

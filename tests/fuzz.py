@@ -9,8 +9,8 @@ don't fit. Reports are also rewritten so that they stay true: rows in another or
 Of each case it wants: an end within 20 seconds, by no signal; nothing on standard error; a status of docs/ANSWERS.md, which is
 6 for a missing file alone and neither 7 nor 8; one of the texts of answers.py; and that the text is true as far as other runs tell.
 The word that is refused is the first wrong one. The rows of a report are disjoint and make up its box, and `replay` stops some
-packets of some rows where the rows say; it brings the packet of `reachable` there and back. `trace` and `replay` end alike. A yes
-of `check` is true in the same ways, and so is a no.
+packets of some rows where the rows say; it brings the packet of `reachable` there and back. `trace` and `replay` end alike, and
+`why` has the lines of `trace`. A yes of `check` is true in the same ways, and so is a no.
 
 --damage runs other cases: each byte of two reports removed, doubled or replaced by each of some others.
 
@@ -108,7 +108,7 @@ def base(seed, number):
     return text, networks.Ends(text)
 
 
-COMMANDS = (b"trace", b"ask", b"check", b"replay", b"make")
+COMMANDS = (b"trace", b"why", b"ask", b"check", b"replay", b"make")
 
 
 class Case:
@@ -118,7 +118,7 @@ class Case:
         rng = self.rng = random.Random(f"{seed} case {number}")
         self.second = None
         text, ends = base(seed, number // 10)
-        command = rng.choices(COMMANDS, (24, 24, 32, 18, 2))[0]
+        command = rng.choices(COMMANDS, (16, 8, 24, 32, 18, 2))[0]
         broken = 0.15 if command == b"check" else 0.4 if command == b"replay" else 0.65
         self.bundle = damage.json_text(rng, text) if rng.random() < broken else text
         self.words = getattr(self, command.decode())(machine, rng, text, ends)
@@ -127,6 +127,9 @@ class Case:
 
     def trace(self, _machine, rng, _text, ends):
         return [b"trace", b"b.json", *ends.packet(rng)]
+
+    def why(self, _machine, rng, _text, ends):
+        return [b"why", b"b.json", *ends.packet(rng)]
 
     def ask(self, _machine, rng, _text, ends):
         return [b"ask", b"b.json", *ends.query(rng)]
@@ -287,7 +290,7 @@ def want(holds, why):
         raise Untrue(why)
 
 
-LEAST_AND_MOST = {b"trace": (10, 10), b"ask": (6, 18), b"check": (3, 4), b"replay": (3, 3), b"make": (2, 2)}
+LEAST_AND_MOST = {b"trace": (10, 10), b"why": (10, 10), b"ask": (6, 18), b"check": (3, 4), b"replay": (3, 3), b"make": (2, 2)}
 
 
 def wrong_word(words):
@@ -368,6 +371,12 @@ def trace_is_true(machine, case, status, text):
         want(end[: len(last)] == last, f"`replay` ends otherwise: {end}")
 
 
+def why_is_true(machine, case, status, text):
+    if status in (0, 1):
+        kept = b"".join(line for line in text.splitlines(True) if line.split(b" ", 1)[0] in (b"hop", b"arrived", b"stopped"))
+        want(machine.run([b"trace", *case.words[1:]])[:2] == (status, kept), "`trace` has other lines")
+
+
 def asked_box(words):
     """The sides of the box that the words of a query tell: None where an address is left to the ends."""
     told = dict(zip(words[6::2], words[7::2]))
@@ -435,7 +444,7 @@ def make_is_true(_machine, case, status, text):
     want(status == 4 or text.count(b"\n") == 1 + int(case.words[1]), "another number of pairs")
 
 
-TRUE = {b"trace": trace_is_true, b"ask": ask_is_true, b"check": check_is_true, b"replay": replay_is_true, b"make": make_is_true}
+TRUE = {b"trace": trace_is_true, b"why": why_is_true, b"ask": ask_is_true, b"check": check_is_true, b"replay": replay_is_true, b"make": make_is_true}
 
 
 # ---- many cases

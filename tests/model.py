@@ -417,6 +417,7 @@ class Walk:
     def __init__(self, network, label, connections, translations):
         self.network, self.label, self.connections, self.translations = network, label, connections, translations
         self.hops, self.by, self.chosen = [], None, []
+        self.reasons = []  # of each hop the lines of `why` about its place
 
     def follow(self, place, header):
         """The end where the packet arrives, with its header there, or the stop."""
@@ -424,6 +425,7 @@ class Walk:
         while True:
             seen.add(place)
             self.by = None
+            self.reasons.append([])
             try:
                 following = getattr(self, place[0])(header, *place[1:])
             except Arrival as it:
@@ -448,6 +450,7 @@ class Walk:
         acl = self.network.acl_of[subnet]
         passes, number = acl_verdict(self.network, acl, way, header)
         self.chosen.append((acl, number))
+        self.reasons[-1].append(f"acl {acl} {way} {number} {'allow' if passes else 'deny'}")
         need(passes, "AclIn" if way == "in" else "AclOut", acl, number)
 
     def cross(self, subnet, other, header):
@@ -464,6 +467,7 @@ class Walk:
             return
         self.by = first_rule(self.network, interface, way, header)
         need(self.by, "GroupsIn" if way == "in" else "GroupsOut", interface)
+        self.reasons[-1].append(f"group {self.by}")
         if self.label == "open" and (interface, way, header) not in self.connections:
             self.connections.append((interface, way, header))
 
@@ -490,6 +494,7 @@ class Walk:
         self.chosen.append((table, place))
         need(place is not None, "NoRoute", table)
         route = self.network.tables[table][place]
+        self.reasons[-1].append(f"route {table} {route.block or route.list} {route.target}")
         need(not route.blackhole, "Blackhole", table, route.block or route.list, place)
         return getattr(self, f"to_{route.kind}")(header, subnet, route.target, (table, place)), header
 
@@ -610,6 +615,7 @@ class Walk:
         self.chosen.append((table, place))
         need(place is not None, "TgwNoRoute", table)
         route = self.network.transit_tables[table][place]
+        self.reasons[-1].append(f"route {table} {route.block} {route.attachment or '-'}")
         need(not route.blackhole, "TgwBlackhole", table, route.block, place)
         need(route.attachment is not None, "Unmodelled", table, beneath=("table", table))
         need(route.attachment in self.network.attachments, "Unmodelled", route.attachment, beneath=("far", table, place))
@@ -757,6 +763,16 @@ def traced(network, label, start, header):
     walk = Walk(network, label, [], [])
     end, _ = walk.follow(first_place(start), header)
     return told_walk(walk) + [f"stopped {end}" if isinstance(end, Stop) else f"arrived {name_of(end)}"]
+
+
+def explained(network, label, start, header):
+    """The lines of `why`: those of `trace`, and after each hop what decided there, and what the header then is, if the next hop has another."""
+    walk = Walk(network, label, [], [])
+    end, _ = walk.follow(first_place(start), header)
+    lines, headers = [], [it for _, it, _ in walk.hops]
+    for told, reasons, here, there in zip(told_walk(walk), walk.reasons, headers, [*headers[1:], headers[-1]]):
+        lines += [told, *reasons, *([f"becomes {there}"] if there != here else [])]
+    return lines + [f"stopped {end}" if isinstance(end, Stop) else f"arrived {name_of(end)}"]
 
 
 def told_box(box):

@@ -2,9 +2,9 @@
 """What the program tells of single packets, against an independent model: tests/walk_model.py PROGRAM [--seed S] [--cases N] [--packets N] [FILE ..]
 
 A case is a network made at random (networks.py), or each FILE. Of its packets, drawn at the edges of what its rows name, the texts must be
-those of model.py byte for byte: of `trace`, with its hops; of `ask` about the one header, with the hops of both walks or the report of one
-row; and of `replay` of all of them in turn, each with the answer to it from where it arrived. A FILE that is refused is passed over. The last
-line is 'N passed, M failed'.
+those of model.py byte for byte: of `trace`, with its hops; of `why`, with what decided at each; of `ask` about the one header, with the
+hops of both walks or the report of one row; and of `replay` of all of them in turn, each with the answer to it from where it arrived. A
+FILE that is refused is passed over. The last line is 'N passed, M failed'.
 """
 
 import argparse
@@ -91,7 +91,9 @@ def differences(program, path, events_path, packets, count):
     found, drawn = [], [packets.packet() for _ in range(count)]
     for start, goal, header in drawn:
         label = packets.rng.choice(("open", "answer"))
-        found += differs(["trace", path, label, "from", model.name_of(start), *str(header).split()], model.traced(packets.network, label, start, header))
+        packet = [path, label, "from", model.name_of(start), *str(header).split()]
+        found += differs(["trace", *packet], model.traced(packets.network, label, start, header))
+        found += differs(["why", *packet], model.explained(packets.network, label, start, header))
         if start is not model.INTERNET or goal is not model.INTERNET:
             words, lines = asked(packets.network, start, goal, header)
             found += differs(["ask", path, *words], lines)

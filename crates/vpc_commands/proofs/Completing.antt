@@ -3,6 +3,7 @@ use Rattle.std.proofs.Common.{◌≡◌, ◌⊎◌, ℕ, List, Option, Ok}
 use Rattle.vpc_commands.specs.Terms.{AreToldBytes, InternetIsNoInterface, IsComplete, IsDiffListingDecided, IsDue, IsFault, IsTextDecided, IsToldNetwork, Status, command_of, file_name, second_fault, second_name, third_fault, third_name}
 use Rattle.vpc_laws.specs.Types.{Description}
 use Rattle.packet_trace.proofs.Decided.{trace_is_decided}
+use Rattle.walk_reasons.proofs.Decided.{why_is_decided}
 use Rattle.network_reach.proofs.Decided.{ask_is_decided}
 use Rattle.reach_check.proofs.Decided.{text_is_decided}
 use Rattle.diff_check.proofs.Decided.{diff_check_is_decided}
@@ -51,6 +52,9 @@ complete_if_due words told failed status text answer = record {
   trace = λ d named at.
       or_known (trace_is_decided d words status text)
       (or_either (known_in told failed (file_name words) _ d status text at) (known_of commands.Trace words told failed status text answer named));
+  why = λ d named at.
+      or_known (why_is_decided d words status text)
+      (or_either (known_in told failed (file_name words) _ d status text at) (known_of commands.Why words told failed status text answer named));
   ask = λ d named at.
       or_known (ask_is_decided d words status text)
       (or_either (known_in told failed (file_name words) _ d status text at) (known_of commands.Ask words told failed status text answer named));

@@ -5,6 +5,7 @@ use Rattle.vpc_commands.specs.Terms.{Command, IsAnswered, IsDue, IsOfDevice, Rea
 use Rattle.command_job.specs.declared.status.Status.TheVariants as ends
 use Rattle.command_job.proofs.Devices.{memory_is_none, no_device, words_are_none}
 use Rattle.packet_trace.proofs.Decided.{trace_is_none}
+use Rattle.walk_reasons.proofs.Decided.{why_is_none}
 use Rattle.network_reach.proofs.Decided.{ask_is_none}
 use Rattle.reach_check.proofs.Decided.{text_is_none}
 use Rattle.diff_check.proofs.Decided.{diff_check_is_none}
@@ -29,6 +30,9 @@ answer_is_read : (command : Command) (words : List (List ℕ)) (told : List ℕ 
 answer_is_read commands.Trace words told failed status text is answer h =
     in_is_read told failed (file_name words) _ (ReadFailed words failed) status text (failed_at words failed commands.Trace 2 is refl)
     (λ d so device. absurd (trace_is_none d words status text so device)) answer h
+answer_is_read commands.Why words told failed status text is answer h =
+    in_is_read told failed (file_name words) _ (ReadFailed words failed) status text (failed_at words failed commands.Why 2 is refl)
+    (λ d so device. absurd (why_is_none d words status text so device)) answer h
 answer_is_read commands.Ask words told failed status text is answer h =
     in_is_read told failed (file_name words) _ (ReadFailed words failed) status text (failed_at words failed commands.Ask 2 is refl)
     (λ d so device. absurd (ask_is_none d words status text so device)) answer h

@@ -24,6 +24,7 @@ due_if_put words told failed status text old new rose end answer (due.cut_short 
 complete_if_fault : (words : List (List ℕ)) (told : List ℕ → Option (List ℕ)) (status : Status) → IsFault status → IsComplete words told status
 complete_if_fault words told status fault = record {
   trace = λ d named at. inl fault;
+  why = λ d named at. inl fault;
   ask = λ d named at. inl fault;
   check = λ d bytes named at there. inl fault;
   check_diff = λ before after bytes named one other there. inl fault;

@@ -37,6 +37,8 @@ InternetIsNoInterface d = has_interface d (codes "internet") ≡ false
 pub record IsComplete (words : List (List ℕ)) (told : List ℕ → Option (List ℕ)) (status : Status) : Type 0 where
   pub trace : (d : Description) → command_of words ≡ Ok commands.Trace → IsToldNetwork told (file_name words) d
       → IsFault status ⊎ IsTraceDecided d words status
+  pub why : (d : Description) → command_of words ≡ Ok commands.Why → IsToldNetwork told (file_name words) d
+      → IsFault status ⊎ IsTraceDecided d words status
   pub ask : (d : Description) → command_of words ≡ Ok commands.Ask → IsToldNetwork told (file_name words) d
       → IsFault status ⊎ IsAskDecided d words status
   pub check : (d : Description) (text : List ℕ) → command_of words ≡ Ok commands.Check → IsToldNetwork told (file_name words) d

@@ -6,6 +6,7 @@ use Rattle.command_job.specs.Lines.{line}
 use Rattle.command_job.specs.declared.status.Status.{Status}
 use Rattle.command_job.specs.declared.status.Status.TheVariants as ends
 use Rattle.packet_trace.specs.Traced.{IsTraced}
+use Rattle.walk_reasons.specs.Explained.{IsWhyAnswered}
 use Rattle.network_reach.specs.Asked.{IsAsked}
 use Rattle.report_check.specs.Certified.{report_refusal_line}
 use Rattle.diff_check.specs.Diffs.{IsDiffChecked}
@@ -37,6 +38,7 @@ memory_text = line (codes "want of memory")
 -- what a command answers to its words, by what the shelf tells of files and which of them failed in this call
 abbrev pub IsAnswered : Command → List (List ℕ) → (List ℕ → Option (List ℕ)) → (List ℕ → Type 0) → Status → List ℕ → Type 0
 IsAnswered commands.Trace words told failed = IsAnsweredIn told failed (file_name words) (λ d. IsTraced d words)
+IsAnswered commands.Why words told failed = IsAnsweredIn told failed (file_name words) (λ d. IsWhyAnswered d words)
 IsAnswered commands.Ask words told failed = IsAnsweredIn told failed (file_name words) (λ d. IsAsked d words)
 IsAnswered commands.Check words told failed =
     IsAnsweredIn told failed (file_name words) (λ d. IsAnsweredTo second_fault told failed (second_name words) report_refusal_line (IsTextChecked d))

@@ -23,6 +23,7 @@ bad_word words = option_map (λ k. k + 1) (position is_bad_word words)
 abbrev pub command_named : List ℕ → Option Command
 command_named name =
     if bytes_eq name (codes "trace") then Some commands.Trace
+    else (if bytes_eq name (codes "why") then Some commands.Why
     else (if bytes_eq name (codes "ask") then Some commands.Ask
     else (if bytes_eq name (codes "check") then Some commands.Check
     else (if bytes_eq name (codes "replay") then Some commands.Replay
@@ -32,7 +33,7 @@ command_named name =
     else (if bytes_eq name (codes "matrix") then Some commands.Matrix
     else (if bytes_eq name (codes "reach") then Some commands.Reach
     else (if bytes_eq name (codes "diff") then Some commands.Diff
-    else (if bytes_eq name (codes "unused") then Some commands.Unused else None))))))))))
+    else (if bytes_eq name (codes "unused") then Some commands.Unused else None)))))))))))
 
 -- `check` with a third file is about a change
 abbrev pub with_files : ℕ → Command → Command
@@ -47,6 +48,7 @@ first_named (w ∷ words) = option_map (with_files (length words + 1)) (command_
 -- how many words a command has, its own name included
 abbrev pub count_of : Command → Count
 count_of commands.Trace = record { least = 10; most = 10; pairs = false }
+count_of commands.Why = record { least = 10; most = 10; pairs = false }
 count_of commands.Ask = record { least = 6; most = 18; pairs = true }
 count_of commands.Check = record { least = 3; most = 3; pairs = false }
 count_of commands.CheckDiff = record { least = 4; most = 4; pairs = false }
@@ -62,6 +64,7 @@ count_of commands.Unused = record { least = 6; most = 16; pairs = true }
 -- the numbers of the words that name its files
 abbrev pub files_of : Command → List ℕ
 files_of commands.Trace = 2 ∷ []
+files_of commands.Why = 2 ∷ []
 files_of commands.Ask = 2 ∷ []
 files_of commands.Check = 2 ∷ 3 ∷ []
 files_of commands.CheckDiff = 2 ∷ 3 ∷ 4 ∷ []

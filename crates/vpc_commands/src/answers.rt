@@ -22,6 +22,7 @@ use std::alloc::Global;
 use unused_rules::UnusedCommand;
 use vpc_base::NoMemory;
 use vpc_io::Shelf;
+use walk_reasons::WhyCommand;
 
 // What the command answers.
 fn answer_command<S: Shelf>(
@@ -36,6 +37,7 @@ fn answer_command<S: Shelf>(
 {
     match command {
         Command::Trace => answer_file(alloc, &TraceCommand, words, shelf),
+        Command::Why => answer_file(alloc, &WhyCommand, words, shelf),
         Command::Ask => answer_file(alloc, &AskCommand, words, shelf),
         Command::Check => answer_files(alloc, &CheckCommand, words, shelf),
         Command::CheckDiff => answer_change(alloc, words, shelf),

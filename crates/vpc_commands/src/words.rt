@@ -8,6 +8,8 @@ ghost use Rattle.vpc_commands.specs.Words.{count_of, counted, first_named, is_ba
 pub enum Command {
     /// `trace`: the walk of one packet.
     Trace,
+    /// `why`: that walk with what decided at each of its places.
+    Why,
     /// `ask`: what is known of all requests of a query.
     Ask,
     /// `check` with one description: whether a report about a query is true, or what `reach` printed.
@@ -76,6 +78,8 @@ fn command_named(name: &str) -> Option<Command>
 {
     if name == "trace" {
         Some(Command::Trace)
+    } else if name == "why" {
+        Some(Command::Why)
     } else if name == "ask" {
         Some(Command::Ask)
     } else if name == "check" {
@@ -114,6 +118,7 @@ fn with_files(n: usize, command: Command) -> Command
             }
         }
         Command::Trace => Command::Trace,
+        Command::Why => Command::Why,
         Command::Ask => Command::Ask,
         Command::CheckDiff => Command::CheckDiff,
         Command::Replay => Command::Replay,
@@ -143,6 +148,7 @@ fn count_of(command: Command) -> Count
 {
     let (least, most, pairs) = match command {
         Command::Trace => (10, 10, false),
+        Command::Why => (10, 10, false),
         Command::Ask => (6, 18, true),
         Command::Check => (3, 3, false),
         Command::CheckDiff => (4, 4, false),

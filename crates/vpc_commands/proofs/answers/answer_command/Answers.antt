@@ -3,6 +3,9 @@ use Rattle.vpc_commands.proofs.answers.answer_command.Goals as goal
 pub returns-in-Trace : goal.returns-in-Trace
 returns-in-Trace g c = rw c.in-Trace.is c.answer_file.ensures
 
+pub returns-in-Why : goal.returns-in-Why
+returns-in-Why g c = rw c.in-Why.is c.answer_file-in-Why.ensures
+
 pub returns-in-Ask : goal.returns-in-Ask
 returns-in-Ask g c = rw c.in-Ask.is c.answer_file-in-Ask.ensures
 
