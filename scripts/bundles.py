@@ -6,7 +6,7 @@ from __future__ import annotations
 import json
 import unicodedata
 from collections.abc import Callable, Iterable, Iterator
-from typing import Any, Optional
+from typing import Any, NamedTuple, Optional
 
 # An object of JSON: of a bundle a row of one of its lists.
 Row = dict[str, Any]
@@ -141,20 +141,43 @@ def printable(text: str) -> str:
     return harmless(text, "name")
 
 
-class Names:
-    """The names of components, and what interfaces have in common."""
+def word_of(row: Row, name: str) -> str:
+    """A member that is a text, as it can be printed; empty where there is none."""
+    value = row.get(name)
+    return printable(value) if isinstance(value, str) else ""
 
-    def __init__(self, objects: Iterable[Row] = ()) -> None:
+
+# What is described so tells nothing of its own.
+DEFAULT_DESCRIPTIONS = ("", "Primary network interface", "RDSNetworkInterface")
+
+
+class Home(NamedTuple):
+    """Where an interface is, and what it is described as, empty where that tells nothing."""
+
+    description: str
+    groups: tuple[str, ...]
+    subnet: str
+    vpc: str
+
+
+class Names:
+    """The names of components, and where interfaces are; `by` is what they are folded by, if that
+    was asked for."""
+
+    def __init__(self, objects: Iterable[Row] = (), by: str = "") -> None:
+        self.by = by
         self.names: dict[str, str] = {}
-        self.shared: dict[str, list[str]] = {}
+        self.homes: dict[str, Home] = {}
         objects = list(objects)
         instances = dict(instance_names(objects))
         for it in objects:
             for name in NAMED:
                 for row in rows(it, name):
                     self.name_row(name, row)
+        subnets = (row for it in objects for row in rows(it, "Subnets"))
+        vpcs = {word_of(it, "SubnetId"): word_of(it, "VpcId") for it in subnets}
         for row in (row for it in objects for row in rows(it, "NetworkInterfaces")):
-            self.name_interface(row, instances)
+            self.name_interface(row, instances, vpcs)
 
     def name_row(self, list_name: str, row: Row) -> None:
         """By its tag, and a group or a prefix list by its own name."""
@@ -163,7 +186,9 @@ class Names:
         if isinstance(row_id, str) and isinstance(name, str) and printable(name):
             self.names.setdefault(row_id, printable(name))
 
-    def name_interface(self, row: Row, instances: dict[str, str]) -> None:
+    def name_interface(
+        self, row: Row, instances: dict[str, str], vpcs: dict[str, str]
+    ) -> None:
         """By the name of its instance, where it has none of its own."""
         own = row.get("NetworkInterfaceId")
         if not isinstance(own, str):
@@ -171,15 +196,21 @@ class Names:
         name = instances.get(own) or instances.get(str(member(row, "Attachment", "InstanceId")))
         if name:
             self.names.setdefault(own, name)
-        groups = [it.get("GroupId") for it in rows(row, "Groups")]
-        found = [row.get("Description"), *groups, row.get("SubnetId"), row.get("VpcId")]
-        told = [printable(it) for it in found if isinstance(it, str) and printable(it)]
-        self.shared.setdefault(own, told)
+        groups = {word_of(it, "GroupId") for it in rows(row, "Groups")} - {""}
+        description, subnet = word_of(row, "Description"), word_of(row, "SubnetId")
+        if description in DEFAULT_DESCRIPTIONS:
+            description = ""
+        vpc = vpcs.get(subnet) or word_of(row, "VpcId")
+        self.homes.setdefault(own, Home(description, tuple(sorted(groups)), subnet, vpc))
 
     def of(self, component: str) -> Optional[str]:
         """The name of a component, where it has one that its id doesn't end with."""
         name = self.names.get(component)
         return None if not name or f"-{component}".endswith(f"-{name}") else name
+
+    def called(self, component: str) -> str:
+        """Its name, or its id."""
+        return self.of(component) or component
 
 
 def instance_names(objects: list[Row]) -> Iterator[tuple[str, str]]:

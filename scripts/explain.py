@@ -296,8 +296,8 @@ def tell(network: Network, data: bytes) -> str:
     return "\n".join(answer.out) + "\n"
 
 
-def explained(bundle: str, path: Optional[str]) -> str:
-    network, data = read_network(bundle), read(path)
+def explained(bundle: str, path: Optional[str], text: Optional[bytes] = None) -> str:
+    network, data = read_network(bundle), read(path) if text is None else text
     try:
         return tell(network, data)
     except NoText as why:

@@ -1,4 +1,4 @@
-"""Draws a text of vpc: picture [--names BUNDLE] [TEXT], picture --html [--names BUNDLE] TEXT..
+"""Draws a text of vpc: picture [WORD..] [TEXT], picture --html [WORD..] TEXT..
 
 One SVG on standard output, of a text of trace, ask, matrix, reach or diff that stands in the file
 TEXT or comes on standard input:
@@ -6,17 +6,23 @@ TEXT or comes on standard input:
     ./vpc ask shop.json from eni-web to eni-db port 5432-5432 | ./picture > answer.svg
 
   --names BUNDLE   labels components by their Name tags, an interface also by that of its instance,
-                   a group by its name
+                   a group by its name; folds what is large by groups, subnets or VPCs
+  --by PART        folds the ends of matrix, reach and diff by group, subnet or vpc of BUNDLE; with
+                   host only those that are alike are one
+  --title WORDS    a title above the picture, or above the page
   --html           one page of several texts, each with what it was drawn from; it needs no script
-                   and no other file
+                   and no other file. With BUNDLE it has its checksum, when and of which account it
+                   was collected, where it tells that, and what explain tells of each text
 
 A walk has its reply coming back beside it. A report is a plane of the two sides of its box that its
 rows cut into most pieces. A matrix is folded into classes of interfaces that reach and are reached
-alike, and so are the ends of reach and of diff; what opens stands in red. Whatever is too much to
-be drawn is counted. Each word of a picture stands in the text or in BUNDLE, but for those of
-OWN_WORDS in scripts/picture.py. The colours are ones that colour-blind readers can tell, with a
-word beside each; the reader's light or dark scheme decides the rest. Pictures prove nothing: what
-they show is what the text says.
+alike, and so are the ends of reach and of diff; where that is more than is seen at once, by groups,
+else by subnets, else by VPCs, with how many pairs of hosts have each. Ports have one chip with
+however many ranges of addresses share them. What opens stands in red, what isn't known in grey.
+Whatever is too much to be drawn is counted. Each word of a picture stands in the text or in BUNDLE,
+but for those of OWN_WORDS in scripts/picture.py. The colours are ones that colour-blind readers can
+tell, with a word beside each; the reader's light or dark scheme decides the rest. Pictures prove
+nothing: what they show is what the text says.
 
 Status 0; 2: TEXT is no text that can be drawn, or something can't be read, as one line on standard
 error says. It needs Python 3.9 or later alone.
@@ -24,16 +30,17 @@ error says. It needs Python 3.9 or later alone.
 
 from __future__ import annotations
 
-import html
 import sys
 from collections.abc import Sequence
-from typing import Any, Callable, Optional
+from typing import Any, Callable, NamedTuple, Optional
 
 from scripts import texts
 from scripts.bundles import Names
 from scripts.commands import Refused, read, read_objects, refuse
-from scripts.picture_canvas import STYLE, Drawing, escaped, grouped
+from scripts.picture_canvas import Drawing
+from scripts.picture_classes import BY
 from scripts.picture_matrix import draw_matrix
+from scripts.picture_page import Bundle, Picture, page
 from scripts.picture_reports import draw_report
 from scripts.picture_walks import draw_reachable, draw_trace
 from scripts.picture_ways import draw_diff, draw_reach
@@ -41,9 +48,12 @@ from scripts.texts import NoText
 
 # The words of pictures that stand in no text, but for numbers.
 OWN_WORDS = (
-    "proto src dst sport port icmp tcp udp request reply rewritten row rows in no several one "
-    "place not known drawn and more of pieces matrix class classes interface interfaces pair "
-    "pairs open blocked reachable reached nothing changed from to packet hop box next cells"
+    "proto src dst sport port ports icmp tcp udp ping all other but protocol protocols request "
+    "reply rewritten row rows range ranges source destination address addresses in no several one "
+    "place part not told known any more is isn't drawn and of by pieces class classes group groups "
+    "subnet subnets VPC VPCs interface interfaces pair pairs open blocked opened closed moved "
+    "reachable reached before now from to packet hop box next cells What Who reaches whom Nothing "
+    "gets get through opens closes moves or"
 ).split()
 DRAWN = ("trace", "ask", "matrix", "reach", "diff")
 DRAWERS: dict[Any, Callable[[Any, Names, str], tuple[Drawing, str, str]]] = {
@@ -58,87 +68,60 @@ def read_text(data: bytes) -> texts.Record:
     return texts.read_record(data, DRAWN, "text", meant, "..")
 
 
-def draw(path: Optional[str], data: bytes, names: Names, name: str) -> tuple[Drawing, str, str]:
+def draw(path: Optional[str], data: bytes, names: Names, name: str) -> Picture:
     """The drawing of what a text says, its title, and its words."""
     try:
         found = read_text(data)
     except NoText as why:
         raise Refused(f"{path or 'the text'} can't be drawn: {why}") from None
-    return DRAWERS[type(found)](found, names, name)
-
-
-# ---- pages
-
-# (a line that ends with \ goes on in the next)
-PAGE_STYLE = """
-:root{color-scheme:light dark}
-body{margin:2rem auto;max-width:72rem;padding:0 1rem;font-family:system-ui,-apple-system,\
-"Segoe UI",Roboto,"Helvetica Neue",Arial,sans-serif;line-height:1.45;background:#fff;color:#1f2328}
-figure{margin:0 0 3rem}\
-figcaption{font-size:1.1rem;font-weight:600;margin-bottom:.6rem;overflow-wrap:anywhere}
-.picture{overflow-x:auto}.picture svg{max-width:100%;height:auto}
-pre{overflow-x:auto;background:#f6f8fa;padding:.8rem;border-radius:8px;font-size:.8rem}\
-summary{cursor:pointer;color:#59636e}a{color:#0969da}
-@media (prefers-color-scheme:dark){body{background:#0d1117;color:#f0f6fc}pre{background:#161c24}\
-summary{color:#9da7b3}a{color:#4493f8}}
-@media print{details{display:none}}
-"""
-MOST_TEXT = 400
-
-
-def figure(count: int, path: Optional[str], data: bytes, names: Names) -> str:
-    """A picture with its text."""
-    drawing, title, words = draw(path, data, names, f"-{count}")
-    lines = data.decode("ascii").splitlines()
-    more = f"\nand {grouped(len(lines) - MOST_TEXT)} more lines" * (len(lines) > MOST_TEXT)
-    shown = html.escape("\n".join(lines[:MOST_TEXT]) + more)
-    svg = drawing.svg(title, words, "")
-    return (
-        f'<figure id="picture-{count}"><figcaption>{escaped(title)}</figcaption>'
-        f'<div class="picture">{svg}</div>'
-        f"<details><summary>text</summary><pre>{shown}</pre></details></figure>\n"
-    )
-
-
-def page(found: Sequence[tuple[Optional[str], bytes]], names: Names) -> str:
-    """One page of several pictures, each with its text."""
-    figures = "".join(figure(count, *it, names) for count, it in enumerate(found, 1))
-    view = '<meta name="viewport" content="width=device-width, initial-scale=1">'
-    head = f'<meta charset="utf-8">{view}<title>{grouped(len(found))} pictures</title>'
-    head += f"<style>{PAGE_STYLE}{STYLE}</style>"
-    body = f"<body><main>\n{figures}</main></body>"
-    return f'<!doctype html>\n<html lang="en"><head>{head}</head>\n{body}</html>\n'
+    return Picture(*DRAWERS[type(found)](found, names, name), path, data)
 
 
 # ---- words
 
 
-def told_words(words: Sequence[str]) -> tuple[Optional[str], bool, list[str]]:
-    """The bundle of names, whether a page is meant, and the texts."""
-    bundle, is_page, found, left = None, False, list[str](), list(words)
+class Words(NamedTuple):
+    """What was asked for: one page or one picture, of these texts."""
+
+    is_page: bool
+    names: Optional[str]
+    by: str
+    title: str
+    paths: list[str]
+
+
+def told_words(words: Sequence[str]) -> Words:
+    """What words ask for."""
+    is_page, options, paths, left = False, dict[str, str](), list[str](), list(words)
     while left:
         word = left.pop(0)
         if word == "--html" and not is_page:
             is_page = True
-        elif word == "--names" and left and bundle is None:
-            bundle = left.pop(0)
-        elif word.startswith("-") or (found and not is_page and "--html" not in left):
+        elif word in ("--names", "--by", "--title") and left and word not in options:
+            options[word] = left.pop(0)
+        elif word.startswith("-") or (paths and not is_page and "--html" not in left):
             raise Refused(f"{word} is not one of its words; --help says more")
         else:
-            found.append(word)
-    return bundle, is_page, found
+            paths.append(word)
+    names, by = options.get("--names"), options.get("--by", "")
+    if by and by not in BY:
+        raise Refused(f"--by takes {', '.join(BY[:-1])} or {BY[-1]}")
+    if by not in ("", BY[0]) and not names:
+        raise Refused(f"--by {by} takes --names BUNDLE, which tells the {by} of each interface")
+    return Words(is_page, names, by, options.get("--title", ""), paths)
 
 
 def picture(words: Sequence[str]) -> str:
     """What is printed."""
-    bundle, is_page, paths = told_words(words)
-    names = Names(read_objects(bundle)) if bundle else Names()
-    if is_page:
-        meant: list[Optional[str]] = [*paths] or [None]
-        return page([(it, read(it)) for it in meant], names)
-    path = paths[0] if paths else None
-    drawing, title, told = draw(path, read(path), names, "")
-    return drawing.svg(title, told)
+    asked = told_words(words)
+    bundle = Bundle(asked.names, read_objects(asked.names)) if asked.names else None
+    names = Names(bundle.objects if bundle else (), asked.by)
+    paths: list[Optional[str]] = [*asked.paths] or [None]
+    if asked.is_page:
+        found = [draw(it, read(it), names, f"-{count}") for count, it in enumerate(paths, 1)]
+        return page(asked.title, found, bundle)
+    drawn = draw(paths[0], read(paths[0]), names, "")
+    return drawn.drawing.svg(drawn.title, drawn.words, heading=asked.title)
 
 
 def main(words: Sequence[str]) -> int:

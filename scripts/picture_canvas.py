@@ -99,6 +99,15 @@ def flowed(words: Sequence[str], width: float, size: float, sign: str = "") -> l
     return lines + [line]
 
 
+def shortened(text: str, width: float, size: float, fixed: bool = False) -> str:
+    """As much of a text as is no wider, with a sign where there is more."""
+    if width_of(text, size, fixed) <= width:
+        return text
+    room, fits = width - 1.05 * size, range(len(text), 0, -1)
+    kept = next((it for it in fits if width_of(text[:it], size, fixed) <= room), 1)
+    return text[:kept].rstrip() + "\u2026"
+
+
 def number(value: float) -> str:
     return f"{value:.1f}".removesuffix(".0")
 
@@ -110,6 +119,10 @@ def grouped(count: int) -> str:
 def first_of(words: Sequence[str], most: int) -> list[str]:
     """The first of several words, and how many more there are."""
     return [*words[:most], *[f"and {len(words) - most} more"] * (len(words) > most)]
+
+
+def chip_height(lines: Sequence[str]) -> float:
+    return 20 + 14 * (len(lines) - 1)
 
 
 def kind_of(fixed: bool, bold: bool) -> str:
@@ -156,7 +169,7 @@ STYLE = """
 .purple-ink{fill:#8f3f6c}.blue-ink{fill:#005b8e}
 .green-line{fill:none;stroke:#009e73}.red-line{fill:none;stroke:#d55e00}\
 .orange-line{fill:none;stroke:#e69f00}.purple-line{fill:none;stroke:#cc79a7}
-.blue-line{fill:none;stroke:#0072b2}.gap{fill:none;stroke:#ffffff}
+.blue-line{fill:none;stroke:#0072b2}.grey-line{fill:none;stroke:#8b949e}.gap{fill:none;stroke:#ffffff}
 .green-tint{fill:#d9f1e9}.red-tint{fill:#fae3d3}.orange-tint{fill:#fdf0d2}\
 .purple-tint{fill:#f7e6ef}.blue-tint{fill:#d9eaf5}.grey-tint{fill:#eaeef2}
 .s{font-family:system-ui,-apple-system,"Segoe UI",Roboto,"Helvetica Neue",Arial,"DejaVu Sans",\
@@ -253,28 +266,28 @@ class Drawing:
         return y
 
     def chip(
-        self, x: float, y: float, told: str, style: str = "grey-tint", ink: str = "ink",
-        size: float = 11,
+        self, x: float, y: float, told: Sequence[str], style: str = "grey-tint", ink: str = "ink",
     ) -> float:
-        """A text in a rounded box; how wide it is."""
-        width = width_of(told, size, True) + size * 1.3
-        self.rect(x, y, width, size + 9, style, (size + 9) / 2)
-        self.text(x + size * 0.65, y + size + 3, told, size, ink, True)
+        """A text in a rounded box, of several lines where it doesn't fit in one; how wide it is."""
+        width = max(width_of(it, 11, True) for it in told) + 14.3
+        self.rect(x, y, width, chip_height(told), style, 10)
+        self.lines(x + 7.15, y + 3, told, 11, ink, True, leading=14 / 11)
         return width
 
     def chips(
         self, told: Iterable[str], x: float, width: float, style: str = "grey-tint",
         ink: str = "ink",
     ) -> None:
-        """Chips beside and below each other."""
-        at, top = x, self.bottom
+        """Chips beside and below each other; none is broken in two."""
+        at, top, below = x, self.bottom, self.bottom
         for word in told:
-            for line in wrapped(word, width - 16, 11, True):
-                needed = width_of(line, 11, True) + 11 * 1.3
-                if at > x and at + needed > x + width:
-                    at, top = x, top + 25
-                at += self.chip(at, top, line, style, ink) + 6
-        self.bottom = top + 20
+            lines = wrapped(word, width - 16, 11, True)
+            needed = max(width_of(it, 11, True) for it in lines) + 14.3
+            if at > x and at + needed > x + width:
+                at, top = x, below + 5
+            at += self.chip(at, top, lines, style, ink) + 6
+            below = max(below, top + chip_height(lines))
+        self.bottom = max(below, top + 20)
 
     def key(self, x: float, y: float, told: str, size: float = 10) -> float:
         """A number on whatever is below it, around a point."""
@@ -310,18 +323,23 @@ class Drawing:
         )
         return self.defined(("", *fills), size, bands, ' patternTransform="rotate(45)"')
 
-    def svg(self, title: str, told: str, style: str = STYLE) -> str:
-        """The picture, whose words tell it to those who don't see it."""
-        width, height = number(self.width), number(self.bottom + MARGIN)
+    def svg(self, title: str, told: str, style: str = STYLE, heading: str = "") -> str:
+        """The picture, whose words tell it to those who don't see it, below a heading."""
+        lines = wrapped(printable(heading), self.width - 2 * MARGIN, 20) if heading else []
+        above = 27 * len(lines) + 8 * bool(lines)
+        self.lines(MARGIN, MARGIN - 6 - above, lines, 20, "ink", False, True)
+        width, height = number(self.width), number(self.bottom + MARGIN + above)
         definitions = "".join(it for _, it in self.patterns.values())
         name, size = self.name, f'width="{width}" height="{height}"'
+        title = f"{printable(heading)}: {title}" if heading else title
         words = f'<title id="title{name}">{escaped(title)}</title>'
         words += f'<desc id="told{name}">{escaped(told)}</desc>'
         inner = f"<style>{style}</style>" if style else ""
         inner += f"<defs>{definitions}</defs>" if definitions else ""
         labels = f'role="img" aria-labelledby="title{name} told{name}"'
-        box = f'viewBox="0 0 {width} {height}" {size}'
+        box = f'viewBox="0 {-above or 0} {width} {height}" {size}'
+        top = f' y="{-above}"' if above else ""
         return (
             f'<svg xmlns="http://www.w3.org/2000/svg" {labels} {box}>{words}{inner}'
-            f'<rect class="paper" {size} rx="10"/>\n' + "\n".join(self.parts) + "\n</svg>\n"
+            f'<rect class="paper"{top} {size} rx="10"/>\n' + "\n".join(self.parts) + "\n</svg>\n"
         )

@@ -2,15 +2,15 @@
 
 from __future__ import annotations
 
-import itertools
 import operator
 import random
 import re
 from collections.abc import Hashable, Iterable, Mapping, Sequence
-from typing import Generic, Optional, TypeVar
+from typing import Generic, NamedTuple, Optional, TypeVar
 
 from scripts.bundles import Names
 from scripts.picture_canvas import Drawing, Run, flowed, grouped, width_of_runs, wrapped
+from scripts.words import counted
 
 Key = TypeVar("Key", bound=Hashable)
 # Numbers above 0, by row and then column.
@@ -87,73 +87,149 @@ def alike(one: Mapping[Key, int], other: Mapping[Key, int], lead: Key, it: Key, 
 # ---- names
 
 
-def words_in(text: str) -> list[str]:
+def tokens_of(text: str) -> list[str]:
     """The words of a name, and what stands between them."""
     return re.findall(r"[^\W_]+|[\W_]+", text)
 
 
-def common_start(texts: Iterable[str]) -> str:
-    """What names begin with alike, up to the end of a word."""
-    parts = zip(*map(words_in, texts))
-    common = [it[0] for it in itertools.takewhile(lambda it: len(set(it)) == 1, parts)]
-    while common and not common[-1][-1].isalnum():
-        common.pop()
-    # (each name goes on, and not within a word)
-    return "".join(common)
+# What is but a number or a zone at the end of a name, and an id that tells nothing.
+COUNTER = re.compile(r"[0-9]*[A-Za-z]?|[A-Za-z][0-9]+|az[0-9]")
+RANDOM_ID = re.compile(r"[a-z]+-[0-9a-f]{8,17}")
 
 
-def shared_name(ids: Sequence[str], names: Names) -> Optional[str]:
-    """What the interfaces of a class have in common, by their names, their ids, or what the bundle
-    tells of them."""
-    told = [names.of(it) for it in ids]
-    known = [it for it in told if it]
-    if len(known) == len(ids) and common_start(known):
-        return common_start(known)
-    start = common_start(ids)
-    if "-" in start:
-        return start
-    for it in names.shared.get(ids[0], ()):
-        if all(it in names.shared.get(other, ()) for other in ids):
-            return names.of(it) or it
-    return None
+def stem_of(text: str) -> str:
+    """What a name has in common with those of its kind: it without its numbers at the end; empty
+    where that is all of it."""
+    if RANDOM_ID.fullmatch(text):
+        return ""
+    tokens = tokens_of(text)
+    while len(tokens) > 1 and (COUNTER.fullmatch(tokens[-1]) or not tokens[-1][-1].isalnum()):
+        tokens.pop()
+    found = "".join(tokens).rstrip("0123456789")
+    return found if any(it.isalpha() for it in found) else ""
+
+
+def natural(text: str) -> list[tuple[int, str]]:
+    """How names are sorted: numbers in them by their size."""
+    parts = re.findall(r"[0-9]+|[^0-9]+", text)
+    return [(int(it), "") if it.isdecimal() and len(it) < 18 else (-1, it) for it in parts]
+
+
+def listed(words: Sequence[str], count: int) -> str:
+    """The first of several names, and how many more there are."""
+    if count > len(words):
+        return f"{', '.join(words)} and {grouped(count - len(words))} more"
+    *rest, last = words
+    return f"{', '.join(rest)} and {last}" if rest else last
+
+
+class Namer:
+    """What classes of the interfaces of a text are called."""
+
+    def __init__(self, names: Names, ids: Iterable[str]) -> None:
+        self.names = names
+        self.stems: dict[str, str] = {}
+        self.members: dict[tuple[str, str], set[str]] = {}
+        for it in ids:
+            self.stems[it] = stem_of(names.called(it))
+            for key in self.keys(it):
+                self.members.setdefault(key, set()).add(it)
+
+    def keys(self, it: str) -> list[tuple[str, str]]:
+        """What may name all of a class: what names begin with, or where those without a name
+        are."""
+        found = [("", self.stems[it])]
+        home = self.names.homes.get(it)
+        if home and not self.names.of(it):
+            found += [("", home.description), *(("group", group) for group in home.groups)]
+            found += [("subnet", home.subnet), ("VPC", home.vpc)]
+        return [key for key in found if key[1]]
+
+    def name(self, ids: Sequence[str]) -> Optional[str]:
+        """What all of these and no others of the text have in common; else two of them by name, of
+        two kinds where there are, and how many more there are."""
+        if len(ids) == 1:
+            return self.names.of(ids[0])
+        own = set(ids)
+        for kind, what in self.keys(ids[0]):
+            if self.members[kind, what] == own:
+                return f"{kind} {self.names.called(what)}".strip()
+        named = sorted((it for it in ids if self.names.of(it)), key=self.order)
+        if not named:
+            return None
+        firsts: dict[str, str] = {}
+        for it in named:
+            firsts.setdefault(self.stems[it], it)
+        kinds = list(firsts.values())[:3]
+        shown = [*kinds, *(it for it in named[:6] if it not in kinds)]
+        most = 3 if len(ids) == 3 else 2
+        return listed([self.names.called(it) for it in shown[:most]], len(ids))
+
+    def order(self, it: str) -> list[tuple[int, str]]:
+        return natural(self.names.called(it))
+
+
+# ---- parts of a network
+
+BY = ("host", "group", "subnet", "vpc")
+KINDS = {"group": ("group", "groups"), "subnet": ("subnet", "subnets"), "vpc": ("VPC", "VPCs")}
+
+
+def part_key(names: Names, by: str, it: str) -> str:
+    """The part of a network that an end is in; its id where that isn't known."""
+    home = names.homes.get(it)
+    if not home or by == "host":
+        return it
+    told = {"group": " + ".join(home.groups), "subnet": home.subnet, "vpc": home.vpc}
+    return told[by] or it
+
+
+class Unit(NamedTuple):
+    """An end, or the ends of a part of a network, as it is called."""
+
+    name: str
+    ids: tuple[str, ...]
+
+
+def units_of(names: Names, by: str, ids: Iterable[str]) -> list[Unit]:
+    """The ends of a text by the parts that they are in, in order."""
+    found: dict[str, list[str]] = {}
+    for it in ids:
+        found.setdefault(part_key(names, by, it), []).append(it)
+    units = [
+        Unit(" + ".join(map(names.called, key.split(" + "))), tuple(of))
+        for key, of in found.items()
+    ]
+    return sorted(units, key=lambda it: (it.name != "internet", natural(it.name)))
+
+
+# ---- labels
 
 
 class Label:
-    """A class as it is drawn: what its members share, how many there are, and their ids; those that
-    are too many are counted."""
+    """A class as it is drawn: what it is called, how many there are, and ids; those that are too
+    many are counted."""
 
-    def __init__(
-        self, ids: Sequence[str], names: Names, width: float, most: int = MOST_IDS
-    ) -> None:
-        shown = list(ids[:most] if len(ids) > most + 1 else ids)
-        self.name = names.of(ids[0]) if len(ids) == 1 else shared_name(ids, names)
-        self.count = f"{grouped(len(ids))} interfaces" if len(ids) > 1 else ""
-        left_out = len(ids) - len(shown)
-        self.words = shown + [f"and {grouped(left_out)} more"] * (left_out > 0)
-        runs = self.headings()
-        fits = not runs or width_of_runs(runs) <= width
-        self.runs = runs if fits else []
-        both = f"{self.name or ''} {self.count}".strip()
-        self.lines = [] if fits else wrapped(both, width, 12.5)
-        self.is_one = not runs
-        is_one = self.is_one
-        self.ids = wrapped(ids[0], width, 12, True) if is_one else flowed(self.words, width, 10.5)
-        heads = len(self.lines) + bool(self.runs)
-        self.height = 17 * heads + (16 if is_one else 14) * len(self.ids)
-
-    def headings(self) -> list[Run]:
-        """The name, and how many interfaces there are."""
-        found = [Run(self.name, 12.5, "ink", False, True)] if self.name else []
-        if self.count:
-            style = "soft" if self.name else "ink"
-            found.append(Run(self.count, 11, style, False, not self.name))
-        return found
+    def __init__(self, name: Optional[str], count: str, ids: Sequence[str], width: float) -> None:
+        self.name, self.count, self.words = name, count, list(ids)
+        self.is_one = not name and not count
+        self.runs: list[list[Run]] = [
+            [Run(it, 12.5, "ink", False, True)] for it in wrapped(name, width, 12.5)
+        ] if name else []
+        last = Run(count, 11, "soft" if name else "ink", False, not name)
+        if count and len(self.runs) == 1 and width_of_runs([*self.runs[0], last]) <= width:
+            self.runs[0].append(last)
+        elif count:
+            self.runs.append([last])
+        self.ids = flowed(self.words, width, 10.5) if self.words else []
+        if self.is_one:
+            self.ids = wrapped(self.words[0], width, 12, True)
+        self.height = 17 * len(self.runs) + (16 if self.is_one else 14) * len(self.ids)
 
     def draw(self, drawing: Drawing, x: float, top: float) -> None:
-        if self.runs:
-            drawing.runs(x, top + 12.5, self.runs)
+        for it in self.runs:
+            drawing.runs(x, top + 12.5, it)
             top += 17
-        top = drawing.lines(x, top, self.lines, 12.5, "ink", False, True, leading=17 / 12.5)
         if self.is_one:
             drawing.lines(x, top + 0.5, self.ids, 12, "ink", True, True, leading=16 / 12)
         else:
@@ -165,3 +241,23 @@ class Label:
     def short(self) -> str:
         """What it is called in one line."""
         return self.name or (self.words[0] if self.is_one else self.count)
+
+
+def label_of_ids(namer: Namer, ids: Sequence[str], width: float, most: int = MOST_IDS) -> Label:
+    """A class by what it has in common, with its first ids."""
+    name, count = namer.name(ids), counted(len(ids), "interface") * (len(ids) > 1)
+    most = most if name else max(most, 1)
+    shown = [*ids] if len(ids) <= most + 1 else [*ids[:most], f"and {len(ids) - most:,} more"]
+    return Label(name, count, shown if most or len(ids) == 1 else [], width)
+
+
+def label_of_units(by: str, units: Sequence[Unit], width: float) -> Label:
+    """Parts of a network by their names, with how many there are."""
+    count = sum(len(it.ids) for it in units)
+    interfaces = counted(count, "interface")
+    name = listed([it.name for it in units[: 3 if len(units) == 3 else 2]], len(units))
+    if units[0].name == "internet":
+        return Label(None, "", ["internet"], width)
+    if len(units) > 1:
+        interfaces = f"{counted(len(units), *KINDS[by])}, {interfaces}"
+    return Label(name, interfaces, [], width)

@@ -3,6 +3,7 @@
 from __future__ import annotations
 
 import collections
+import functools
 import itertools
 import math
 from collections.abc import Sequence
@@ -10,14 +11,20 @@ from typing import Union
 
 from scripts.bundles import Names
 from scripts.headers import Range
-from scripts.picture_canvas import MARGIN, Drawing, Run, grouped, number, width_of
-from scripts.picture_classes import Class, Label, fold
+from scripts.picture_canvas import (
+    MARGIN, Drawing, Run, flowed, grouped, number, shortened, width_of,
+)
+from scripts.picture_classes import (
+    BY, KINDS, Class, Label, Namer, Unit, fold, label_of_ids, label_of_units, natural, units_of,
+)
 from scripts.texts import Matrix
 from scripts.words import counted
 
-MOST_CLASSES = 30
+TITLE = "Who reaches whom"
+MOST_CLASSES, SEEN_AT_ONCE = 30, 20
 # How far the names of classes reach.
-LABELS = 34 + 250 + 20
+LABEL = 280
+LABELS = 34 + LABEL + 20
 Value = Union[str, list[Range]]
 Counts = collections.Counter[int]
 
@@ -35,13 +42,15 @@ def shade(value: Value) -> float:
 
 class Folded:
     """A matrix by classes: exact where these are few, else without its ports, and what is still too
-    much is one class of others."""
+    much is one class of others. By parts of the network each of these is a class."""
 
-    def __init__(self, matrix: Matrix) -> None:
+    def __init__(self, matrix: Matrix, parts: Sequence[Sequence[str]] = ()) -> None:
         self.matrix = matrix
-        self.classes = fold(matrix.ids, matrix.pairs)
+        self.classes = [Class(number, [*ids]) for number, ids in enumerate(parts, 1)]
+        if not parts:
+            self.classes = fold(matrix.ids, matrix.pairs)
         self.exact = len(self.classes)
-        if len(self.classes) > MOST_CLASSES:
+        if len(self.classes) > MOST_CLASSES and not parts:
             self.classes = fold(matrix.ids, self.without_ports())
         if len(self.classes) > MOST_CLASSES:
             most = sorted(self.classes, key=lambda it: -len(it.ids))[: MOST_CLASSES - 1]
@@ -49,7 +58,16 @@ class Folded:
             numbers = {it.number for it in kept}
             others = [it for of in self.classes if of.number not in numbers for it in of.ids]
             self.classes = [*kept, Class(None, others)]
-        self.cells = self.counts()
+
+    def order(self, namer: Namer) -> None:
+        """Orders the classes by what they are called, that of others last."""
+        self.classes.sort(key=lambda it: (
+            it.number is None, natural(namer.name(it.ids) or namer.names.called(it.ids[0]))
+        ))
+
+    @functools.cached_property
+    def cells(self) -> list[list[Counts]]:
+        return self.counts()
 
     def without_ports(self) -> dict[str, dict[str, int]]:
         """The pairs by whether anything is open."""
@@ -86,37 +104,61 @@ def opened(values: dict[int, Value], counts: Counts) -> int:
     return sum(count for it, count in counts.items() if isinstance(values[it], list))
 
 
-def cell_lines(values: dict[int, Value], counts: Counts, most: int = 4) -> list[str]:
-    """What a cell says: the ports that are open, or in how many of its pairs something is."""
-    if len(counts) == 1:
-        value = values[next(iter(counts))]
-        if isinstance(value, str):
-            return []
-        words = open_words(value)
-        if len(words) <= most:
-            return words
-        return [*words[: most - 1], f"and {len(words) - most + 1} more"]
-    count = opened(values, counts)
-    return [grouped(count), f"of {grouped(sum(counts.values()))}"] if count else []
+def cell_words(values: dict[int, Value], counts: Counts, most: int) -> list[str]:
+    """What a cell says: the ports that are open, and in how many of its pairs, where that isn't all
+    of them."""
+    told = [value for it in counts if isinstance(value := values[it], list)]
+    words = open_words(told[0]) if len(told) == 1 else []
+    if len(words) > most:
+        words = [*words[: most - 1], f"and {len(words) - most + 1} more"]
+    if len(counts) > 1 and told:
+        words += [f"{grouped(opened(values, counts))} of", grouped(sum(counts.values()))]
+    return words
+
+
+def parts_of(matrix: Matrix, names: Names) -> tuple[str, list[Unit]]:
+    """What the interfaces are folded by, and the parts: what was asked for, or whatever has few
+    parts where there are too many classes."""
+    if names.by:
+        return names.by, units_of(names, names.by, matrix.ids) if names.by != "host" else []
+    if not names.homes or len(fold(matrix.ids, matrix.pairs)) <= SEEN_AT_ONCE:
+        return "host", []
+    found = ((by, units_of(names, by, matrix.ids)) for by in BY[1:])
+    return next((it for it in found if len(it[1]) <= SEEN_AT_ONCE), ("host", []))
+
+
+def labels_of(folded: Folded, by: str, units: list[Unit], namer: Namer) -> list[Label]:
+    """How the classes are told: the more there are, the shorter."""
+    if units:
+        return [label_of_units(by, [it], LABEL) for it in units]
+    count = len(folded.classes)
+    most = 6 if count <= 6 else 2 if count <= 10 else 0
+    ordered = [sorted(it.ids, key=namer.order) for it in folded.classes]
+    return [label_of_ids(namer, it, LABEL, most) for it in ordered]
 
 
 def draw_matrix(matrix: Matrix, names: Names, drawing_name: str) -> tuple[Drawing, str, str]:
-    folded = Folded(matrix)
+    namer, (by, units) = Namer(names, matrix.ids), parts_of(matrix, names)
+    folded = Folded(matrix, [it.ids for it in units])
+    if not units:
+        folded.order(namer)
     count = len(folded.classes)
-    most = 4 if count > 12 else 6
-    grid = Grid(folded, [Label(it.ids, names, 250, most) for it in folded.classes])
+    grid = Grid(folded, labels_of(folded, by, units, namer))
     width = 2 * MARGIN + LABELS + grid.size * count
-    drawing = Drawing(max(width, 620), drawing_name)
-    classes = counted(folded.exact, "class", "classes")
-    summary = f"{counted(len(matrix.ids), 'interface')} in {classes}"
-    summary += f", {count} drawn" * (count != folded.exact)
-    title = [Run("matrix", 18, "ink", False, True), Run(summary, 13, "soft")]
+    drawing = Drawing(max(width, 700), drawing_name)
+    summary = counted(len(matrix.ids), "interface")
+    summary += f" in {counted(count, *KINDS[by])}" if units else in_classes(folded.exact, count)
+    title = [Run(TITLE, 18, "ink", False, True), Run(summary, 13, "soft")]
     drawing.runs(MARGIN, drawing.bottom + 16, title)
     drawing.bottom += 34
     totals = folded.totals()
     draw_shades(drawing, totals)
     grid.draw(drawing)
-    return drawing, f"matrix: {summary}", matrix_words(grid, totals)
+    return drawing, f"{TITLE}: {summary}", matrix_words(grid, totals)
+
+
+def in_classes(exact: int, drawn: int) -> str:
+    return f" in {counted(exact, 'class', 'classes')}" + f", {drawn} drawn" * (drawn != exact)
 
 
 def draw_shades(drawing: Drawing, totals: dict[str, int]) -> None:
@@ -148,25 +190,20 @@ class Grid:
 
     def __init__(self, folded: Folded, labels: list[Label]) -> None:
         self.values, self.cells, self.labels = folded.matrix.values, folded.cells, labels
-        self.words = [[cell_lines(self.values, it) for it in row] for row in self.cells]
-        widths = [width_of(it, 10, True) + 10 for row in self.words for of in row for it in of]
+        most = 4 if len(labels) <= 12 else 3
+        self.words = [[cell_words(self.values, it, most) for it in row] for row in self.cells]
+        widths = [width_of(it, 10, True) + 12 for row in self.words for of in row for it in of]
         self.size = max([34 if len(labels) > 18 else 48, *widths])
+        self.lines = [
+            [flowed(it, self.size - 6, 10) if it else [] for it in row] for row in self.words
+        ]
 
     def draw(self, drawing: Drawing) -> None:
         count, left, size = len(self.labels), MARGIN + LABELS, self.size
-        shorts = [it.short() for it in self.labels]
-        over = max([width_of(it, 11) for it in shorts], default=0)
-        over = over if over <= 190 else 0
-        top = drawing.bottom + 14 + over
-        for column, it in enumerate(shorts):
-            x = left + size * (column + 0.5)
-            if over:
-                drawing.text(x + 4, top, it, 11, "ink", turned=True)
-            drawing.key(x, top + 15, str(column + 1))
-        top += 30
+        top = self.draw_heads(drawing)
         line = f"H{number(left + size * count)}"
         for row, label in enumerate(self.labels):
-            lengths = [13 * len(it) + 12 for it in self.words[row]]
+            lengths = [13 * len(it) + 12 for it in self.lines[row]]
             height = max([label.height + 14, 30, *lengths])
             drawing.path(f"M{MARGIN} {number(top)}{line}", "edge")
             drawing.key(MARGIN + 12, top + 16, str(row + 1))
@@ -177,11 +214,22 @@ class Grid:
         drawing.path(f"M{MARGIN} {number(top)}{line}", "edge")
         drawing.bottom = top
 
+    def draw_heads(self, drawing: Drawing) -> float:
+        """What the columns are called, each with its number; their bottom."""
+        shorts = [shortened(it.short(), 165, 11) for it in self.labels]
+        over = max([width_of(it, 11) for it in shorts], default=0)
+        top = drawing.bottom + 14 + over
+        for column, it in enumerate(shorts):
+            x = MARGIN + LABELS + self.size * (column + 0.5)
+            drawing.text(x + 4, top, it, 11, "ink", turned=True)
+            drawing.key(x, top + 15, str(column + 1))
+        return top + 30
+
     def draw_cell(
         self, drawing: Drawing, at: tuple[int, int], x: float, top: float, height: float
     ) -> None:
         (row, column), values, width = at, self.values, self.size
-        counts, lines = self.cells[row][column], self.words[row][column]
+        counts, lines = self.cells[row][column], self.lines[row][column]
         if not counts:
             drawing.path(f"M{number(x + width / 2 - 5)} {number(top + height / 2)}h10", "mark")
             return

@@ -14,7 +14,7 @@ from scripts.picture_canvas import (
     MARGIN, PALETTE, UNKNOWN, Drawing, Run, beside_or_below, flowed, grouped, number,
     width_of, width_of_runs, wrapped,
 )
-from scripts.picture_walks import draw_ends
+from scripts.picture_walks import draw_ends, is_unknown
 from scripts.texts import Report, ReportRow
 from scripts.words import PROTOCOLS, SIDES, counted
 
@@ -216,7 +216,7 @@ class Reasons:
             self.rows[reason] = self.rows.get(reason, 0) + 1
             of = self.components.setdefault(reason, {})
             of[component] = of.get(component, 0) + 1
-        names = [it for it in dict.fromkeys(name for _, name in self.rows) if it != "Unmodelled"]
+        names = [it for it in dict.fromkeys(name for _, name in self.rows) if not is_unknown(it)]
         self.colors = {name: k for k, name in enumerate(names)}
         self.each = sum(map(len, self.components.values())) <= 24
         keys: list[tuple[Reason, Optional[Component]]] = [
@@ -232,7 +232,7 @@ class Reasons:
 
     def fill(self, drawing: Drawing, reason: Reason) -> str:
         phase, name = reason
-        if name == "Unmodelled":
+        if is_unknown(name):
             return drawing.pattern(UNKNOWN, "unknown")
         color = self.colors[name]
         plain = "plain" if color < len(PALETTE) else "dots"
@@ -250,7 +250,8 @@ def reason_words(reasons: Reasons) -> str:
         left_out = len(of) - MOST_COMPONENTS
         shown += [f"and {grouped(left_out)} more"] * (left_out > 0)
         rows = counted(reasons.rows[phase, name], "row")
-        told.append(f"{phase} {name}, {rows} ({', '.join(shown)})")
+        known = ", not known" * is_unknown(name)
+        told.append(f"{phase} {name}{known}, {rows} ({', '.join(shown)})")
     return "; ".join(told)
 
 
@@ -322,7 +323,8 @@ class Plane:
         drawing.rect(x, y, width, height, "gap", 0, f' style="fill:{fill}"')
         told = " ".join(map(str, marks[:3])) + " .." * (len(marks) > 3)
         name = reasons.reason_of[marks[0]][1]
-        runs = [Run(told, 10, "keyed", False, True), Run(name, 11, "keyed")]
+        shown = f"{name}, not known" if is_unknown(name) else name
+        runs = [Run(told, 10, "keyed", False, True), Run(shown, 11, "keyed")]
         if len(marks) == 1 and width_of_runs(runs) + 28 < width and height >= 24:
             full = width_of_runs(runs) + 16
             begin = x + (width - full) / 2
@@ -391,7 +393,7 @@ class Legend:
         if not reasons.each:
             left += drawing.key(left + 9, top + 8, str(reasons.numbers[reason, None])) + 6
         runs = [Run(name, 13, "ink", False, True), Run(phase, 12, "soft")]
-        runs += [Run("not known", 12, "soft")] * (name == "Unmodelled")
+        runs += [Run("not known", 12, "soft")] * is_unknown(name)
         drawing.runs(left, top + 12.5, runs)
         rows = counted(reasons.rows[reason], "row")
         drawing.text(x + self.width, top + 12.5, rows, 12, "soft", anchor="end")
@@ -434,13 +436,20 @@ class Legend:
         return self.drawing.lines(x + 26, top, lines, 10.5, "ink", True, leading=1.4)
 
 
+def verdict_of(report: Report) -> tuple[str, str]:
+    """What a report says, in words, and the color of these."""
+    unknown = sum(is_unknown(it.stop.name) for it in report.rows)
+    if unknown and unknown == len(report.rows) and not report.next:
+        return "not known", "grey"
+    told = " or ".join(["known"] * (unknown > 0) + ["told"] * bool(report.next))
+    return (f"blocked, in part not {told}", "grey") if told else ("blocked", "red")
+
+
 def draw_report(report: Report, names: Names, drawing_name: str) -> tuple[Drawing, str, str]:
     drawing = Drawing(900, drawing_name)
     width = drawing.width - 2 * MARGIN
-    first = "more boxes" if report.next else "vpc-report 1"
-    is_known = not report.next and all(it.stop.name != "Unmodelled" for it in report.rows)
-    ends = [report.start, report.goal]
-    draw_ends(drawing, ends, names, first, "red" if is_known else "orange")
+    verdict, style = verdict_of(report)
+    draw_ends(drawing, [report.start, report.goal], names, verdict, style)
     drawing.bottom += 12
     drawing.chips(box_words(report.box), MARGIN, width)
     drawing.bottom += 20
@@ -449,7 +458,7 @@ def draw_report(report: Report, names: Names, drawing_name: str) -> tuple[Drawin
     plane.draw()
     Legend(drawing, reasons, names, width).draw(report, plane)
     rows = counted(len(report.rows), "row")
-    title = f"{first}: from {report.start} to {report.goal}, {rows}"
+    title = f"{verdict}: from {report.start} to {report.goal}, {rows}"
     more = f" next {report.next}, cells {report.cells}." if report.next else ""
     told = f"box {', '.join(box_words(report.box))}. {reason_words(reasons)}.{more}"
     return drawing, title, told

@@ -9,7 +9,7 @@ from typing import Optional
 from scripts.bundles import Names
 from scripts.headers import Header
 from scripts.picture_canvas import (
-    GAP, MARGIN, Drawing, Run, beside_or_below, number, width_of, wrapped,
+    GAP, MARGIN, Drawing, Run, beside_or_below, chip_height, number, width_of, wrapped,
 )
 from scripts.texts import Arrived, End, Hop, Reachable, Stopped, Walk
 from scripts.words import SIDES
@@ -39,6 +39,7 @@ KINDS = {
     "tgw": ("transit", "purple"),
     "tgw-leave": ("transit", "purple"),
 }
+QUESTION = "a4 4 0 1 1 6 3.4c-1.4.8-2 1.6-2 3.2m0 3.8v.1"
 LANE = 424
 STEP = 18
 ROUND = ' stroke-linecap="round" stroke-linejoin="round"'
@@ -54,9 +55,12 @@ def draw_ends(
     """The ends and how it went, over the whole width."""
     badge = width_of(verdict, 13) + 26
     right, top, x = drawing.width - MARGIN - badge, drawing.bottom, float(MARGIN)
-    room = (right - MARGIN - 16 - 46 * (len(ends) - 1)) / len(ends)
+    room = right - MARGIN - 16 - 46 * (len(ends) - 1) - 12 * len(ends)
+    whole = [max(width_of(it, 17, True), width_of(names.of(it) or "", 13)) for it in ends]
+    if sum(whole) > room:
+        whole = [room / len(ends)] * len(ends)
     bottoms = [top + 28]
-    for it in ends:
+    for it, room in zip(ends, whole):
         if x > MARGIN:
             drawing.path(f"M{number(x)} {number(top + 12)}h24", "way")
             drawing.path(f"M{number(x + 24)} {number(top + 7)}l8 5l-8 5z", "tip")
@@ -76,9 +80,10 @@ class Card:
     """A hop as it is drawn, and how high it is."""
 
     def __init__(
-        self, hop: Hop, before: Optional[Header], names: Names, is_stop: bool, width: float
+        self, hop: Hop, before: Optional[Header], names: Names, stop: str, width: float
     ) -> None:
-        self.hop, self.is_stop, self.width = hop, is_stop, width
+        # (the color of what stopped it here)
+        self.hop, self.stop, self.width = hop, stop, width
         room = width - 60
         own = wrapped(hop.id, room - width_of(hop.place, 11) - GAP, 12.5, True)
         first = [Run(hop.place, 11, "soft"), Run(own[0], 12.5, "ink", True, True)]
@@ -93,8 +98,9 @@ class Card:
         self.header = [(words[it], words[it] != old[it]) for it in (0, 1, 3, 2, 4)]
         self.is_first = before is None
         self.lay_by(names, room)
-        self.height = 33 + 17 * len(self.more_id) + 16 * len(self.below) + 19
-        self.height += 24 * len(self.chips) + 15 * len(self.group_lines)
+        self.height: float = 33 + 17 * len(self.more_id) + 16 * len(self.below) + 19
+        self.height += (chip_height(self.chips) + 4) * bool(self.chips)
+        self.height += 15 * len(self.group_lines)
 
     def lay_by(self, names: Names, room: float) -> None:
         """The chip of what let the packet pass, and the name of its group beside or below it."""
@@ -118,19 +124,17 @@ class Card:
         top += 21
         is_rule = bool(self.hop.by and " " in self.hop.by)
         style, ink = ("green-tint", "green-ink") if is_rule else ("grey-tint", "soft")
-        width = 0.0
-        for it in self.chips:
-            width = drawing.chip(left, top, it, style, ink)
-            top += 24
-        if self.group:
-            drawing.text(left + width + GAP, top - 10, self.group, 11, "soft")
+        if self.chips:
+            width = drawing.chip(left, top, self.chips, style, ink)
+            top += chip_height(self.chips) + 4
+            drawing.text(left + width + GAP, top - 10, self.group or "", 11, "soft")
         drawing.lines(left, top, self.group_lines, 11, "soft", leading=15 / 11)
 
     def draw_frame(self, drawing: Drawing, x: float, y: float) -> None:
         """The card and what kind of place it is; where a packet was stopped it stands out."""
         icon, color = KINDS[self.hop.place]
         drawing.rect(x, y, self.width, self.height, "panel", 8)
-        style, more = ("red-line", ' stroke-width="1.6"') if self.is_stop else ("edge", "")
+        style, more = (f"{self.stop}-line", ' stroke-width="1.6"') if self.stop else ("edge", "")
         drawing.rect(x, y, self.width, self.height, style, 8, more)
         side = f"a8 8 0 0 0-8 8v{number(self.height - 16)}a8 8 0 0 0 8 8z"
         drawing.path(f"M{number(x + 8)} {number(y)}{side}", color)
@@ -159,7 +163,8 @@ def cards_of(walk: Walk, names: Names, width: float = LANE) -> list[Card]:
     befores = [None, *(it.header for it in walk.hops)]
     last = len(walk.hops) if isinstance(walk.end, Stopped) else 0
     pairs = enumerate(zip(walk.hops, befores), 1)
-    return [Card(it, before, names, k == last, width) for k, (it, before) in pairs]
+    stop = verdict_of(walk.end)[1]
+    return [Card(it, before, names, stop * (k == last), width) for k, (it, before) in pairs]
 
 
 def beside_each_other(
@@ -193,8 +198,22 @@ def beside_each_other(
 # ---- where a walk ends
 
 
+def is_unknown(stop: str) -> bool:
+    """Whether it isn't known what becomes of a packet that this stops."""
+    return stop == "Unmodelled"
+
+
+def verdict_of(end: End) -> tuple[str, str]:
+    """How a walk ends, in words, and the color of these."""
+    if isinstance(end, Arrived):
+        return "arrived", "green"
+    return ("not known", "grey") if is_unknown(end.name) else ("stopped", "red")
+
+
 def end_words(end: End) -> str:
-    return str(end).removesuffix(" -")
+    """The line of an end; of one that isn't known it says so."""
+    known = ", not known" * (isinstance(end, Stopped) and is_unknown(end.name))
+    return str(end).removesuffix(" -") + known
 
 
 def end_lines(end: End, names: Names, width: float) -> tuple[list[str], list[str]]:
@@ -213,7 +232,7 @@ def draw_end(
     drawing: Drawing, x: float, y: float, end: End, names: Names, width: float = LANE
 ) -> float:
     """Where a walk ended; its bottom."""
-    color = "green" if isinstance(end, Arrived) else "red"
+    verdict, color = verdict_of(end)
     height = end_height(end, names, width)
     lines, below = end_lines(end, names, width)
     drawing.rect(x, y, width, height, f"{color}-tint", 8)
@@ -221,10 +240,13 @@ def draw_end(
     middle = y + height / 2
     if isinstance(end, Arrived):
         mark = f"M{number(x + 17)} {number(middle)}l5 5l9-10"
+    elif verdict == "not known":
+        mark = f"M{number(x + 19)} {number(middle - 3)}{QUESTION}"
     else:
         mark = f"M{number(x + 19)} {number(middle - 5)}l10 10m0-10l-10 10"
     drawing.path(mark, f"{color}-line", f' stroke-width="2.4"{ROUND}')
-    bottom = drawing.lines(x + 46, y + 8, lines, 13, f"{color}-ink", True, True, leading=17 / 13)
+    ink = "ink" if color == "grey" else f"{color}-ink"
+    bottom = drawing.lines(x + 46, y + 8, lines, 13, ink, True, True, leading=17 / 13)
     drawing.lines(x + 46, bottom, below, 12, "soft", leading=16 / 12)
     return y + height
 
@@ -299,7 +321,7 @@ def draw_trace(walk: Walk, names: Names, drawing_name: str) -> tuple[Drawing, st
     start, arrived = walk.hops[0].id, isinstance(walk.end, Arrived)
     ends = [start, walk.end.id] if arrived else [start]
     drawing = Drawing(2 * MARGIN + 500, drawing_name)
-    verdict, style = ("arrived", "green") if arrived else ("stopped", "red")
+    verdict, style = verdict_of(walk.end)
     draw_ends(drawing, ends, names, verdict, style)
     drawing.bottom += 12
     drawing.chips(side_words(walk.hops[0].header), MARGIN, 500)

@@ -3,19 +3,21 @@
 from __future__ import annotations
 
 import itertools
-from collections.abc import Callable, Iterable, Sequence
-from typing import NamedTuple, Optional, TypeVar, Union
+from collections.abc import Hashable, Iterable, Mapping, Sequence
+from typing import NamedTuple, Optional, Union
 
 from scripts.bundles import Names
-from scripts.headers import LAST, Box, dotted
+from scripts.headers import Box, Range, dotted
 from scripts.picture_canvas import (
-    GAP, MARGIN, Drawing, first_of, flowed, grouped, number, width_of, wrapped,
+    GAP, MARGIN, Drawing, Run, first_of, grouped, number, shortened, width_of, wrapped,
 )
-from scripts.picture_classes import MOST_IDS, Label, fold
-from scripts.picture_matrix import open_words
-from scripts.picture_reports import range_words
+from scripts.picture_chips import SEPARATOR, Chip, Part, Teller, chip_order, merged
+from scripts.picture_classes import (
+    BY, KINDS, Label, Namer, Unit, fold, label_of_ids, label_of_units, natural, units_of,
+)
+from scripts.picture_walks import is_unknown
 from scripts.texts import Diff, DiffRow, Reach, ReachRow
-from scripts.words import PROTOCOLS, SIDES, counted
+from scripts.words import SIDES, counted
 
 # How a way is drawn: its color, the dashes of its line, and its chips.
 WAYS = {
@@ -23,46 +25,67 @@ WAYS = {
     "opened": ("red", "", "red-tint", "red-ink"),
     "moved": ("purple", "2 3", "purple-tint", "purple-ink"),
     "closed": ("green", "7 4", "green-tint", "green-ink"),
+    "not known": ("grey", "1 4", "grey-tint", "soft"),
 }
 MOST_PATHS = 60
 MOST_CHIPS = 9
-NODE = 286
-# What stops a packet in one of two networks, or where it comes in the other.
+WIDTH, NODE = 1120, 288
+# How high a picture is that is seen at once.
+SCREEN = 1040
+BETWEEN, APART = 8, 10
+# What stops a packet in one of two networks, or where it comes in the other; empty of reach.
 Note = tuple[str, ...]
-# What is told of a row: its chip, its note, and its box.
-Told = tuple[str, Optional[Note], Box]
-# Starts, ends, and what is told of the rows between them.
-Bundle = tuple[list[str], list[str], list[Told]]
-Fold = tuple[str, list[str], list[str], list[Told]]
-JourneyRow = TypeVar("JourneyRow", ReachRow, DiffRow)
+# What is told of two ends: chips with their notes.
+Sign = frozenset[tuple[Chip, Note]]
+# The ends that a way joins, by their numbers.
+Ends = tuple[list[int], list[int]]
+Signs = dict[int, dict[int, Hashable]]
 
 
 class Path(NamedTuple):
+    """A way: chips, each with words that tell how many pairs of its ends have it where that isn't
+    all, and `rows` how many rows it is."""
+
     word: str
-    start: list[str]
-    end: list[str]
-    chips: list[str]
-    own: list[str]
+    starts: list[Unit]
+    ends: list[Unit]
+    chips: list[tuple[Chip, str]]
     notes: list[str]
+    own: list[str]
+    rows: int
 
 
 # ---- rows
 
 
-def chip_of(box: Box, start: str, end: str) -> str:
-    """The protocol and the ports of a box, with the addresses that are not the ends' own."""
-    (first, last), src, dst, p, q = box
-    words = [f"{first}-{last}"]
-    if first == last:
-        words = [PROTOCOLS.get(first, str(first))]
-    if q != (0, 65535):
-        words += open_words([q])
-    if p != (0, 65535):
-        words += ["sport", *open_words([p])]
-    for side, (low, high), of in ((1, src, start), (2, dst, end)):
-        if (low, high) != (0, LAST[1]) and (of == "internet" or low != high):
-            words += [SIDES[side], range_words(side, low, high)]
-    return " ".join(words)
+def word_of(row: Union[ReachRow, DiffRow]) -> str:
+    """What is told of a row. What closes as it isn't followed any more is not known."""
+    if isinstance(row, ReachRow):
+        return "reached"
+    stop = row.fare.stop.name if row.fare.stop else ""
+    return "not known" if row.word == "closed" and is_unknown(stop) else row.word
+
+
+def note_of(row: Union[ReachRow, DiffRow]) -> Note:
+    """What stops it in one of the networks; where that is an end it is told so, since each has its
+    own."""
+    if isinstance(row, ReachRow):
+        return ()
+    fare = row.fare
+    if not fare.stop:
+        return ("to", fare.after)
+    at = {row.start: "\0start", row.end: "\0end"}.get(fare.stop.id, fare.stop.id)
+    when = "before" if fare.word == "opened" else "now"
+    return (when, fare.phase, fare.stop.name, at, fare.stop.rule)
+
+
+def note_words(note: Note, start: str, end: str) -> str:
+    if note[0] == "to":
+        return f"to {note[1]}"
+    when, phase, name, at, rule = note
+    of = {"\0end": end, "\0start": start}.get(at, at)
+    words = " ".join(filter(None, [phase, name, of, "" if rule == "-" else rule]))
+    return f"{when}: {words}{', not known' * is_unknown(name)}"
 
 
 def own_words(box: Box, start: str, end: str) -> list[str]:
@@ -74,122 +97,217 @@ def own_words(box: Box, start: str, end: str) -> list[str]:
     ]
 
 
-def note_of(row: DiffRow) -> Note:
-    """What stops it in one of the networks; where that is an end it is told so, since each has its
-    own."""
-    fare = row.fare
-    if not fare.stop:
-        return ("to", fare.after)
-    at = {row.start: "\0start", row.end: "\0end"}.get(fare.stop.id, fare.stop.id)
-    return (fare.phase, fare.stop.name, at, fare.stop.rule)
+class Pairs:
+    """What rows tell of each start and end, by their words."""
+
+    def __init__(self, found: Union[Reach, Diff]) -> None:
+        self.teller, self.is_cut = Teller(found.query), bool(found.next)
+        self.rows: dict[tuple[str, str, str], list[Union[ReachRow, DiffRow]]] = {}
+        for it in found.rows:
+            self.rows.setdefault((word_of(it), it.start, it.end), []).append(it)
+        self.ids = list(dict.fromkeys(it for _, *ends in self.rows for it in ends))
+        self.signs = {key: self.sign_of(rows) for key, rows in self.rows.items()}
+
+    def sign_of(self, rows: Sequence[Union[ReachRow, DiffRow]]) -> Sign:
+        """What two pairs of ends have to share to be alike."""
+        parts: dict[Note, set[Part]] = {}
+        for it in rows:
+            part = self.teller.part_of(it.box, it.start, it.end)
+            parts.setdefault(note_of(it), set()).add(part)
+        return frozenset(
+            (chip, note) for note, of in parts.items() for chip in self.teller.chips(frozenset(of))
+        )
+
+    def count(self, ends: Iterable[tuple[str, str, str]]) -> int:
+        return sum(len(self.rows[it]) for it in ends)
 
 
-def note_words(note: Note, start: str, end: str) -> str:
-    if note[0] == "to":
-        return f"to {note[1]}"
-    phase, name, at, rule = note
-    of = {"\0end": end, "\0start": start}.get(at, at)
-    return " ".join(filter(None, [phase, name, of, "" if rule == "-" else rule]))
+def pooled(signs: Iterable[Sign]) -> dict[tuple[Chip, Note], int]:
+    """What is told of several pairs of ends, each with how many of them it is told of: ports are
+    together that the same pairs have."""
+    of: dict[tuple[str, int, Note], dict[tuple[Range, ...], int]] = {}
+    for sign in signs:
+        for chip, note in sign:
+            counts = of.setdefault((chip.name, chip.region, note), {})
+            counts[chip.ports] = counts.get(chip.ports, 0) + 1
+    found: dict[tuple[Chip, Note], int] = {}
+    for (name, region, note), counts in of.items():
+        for ports, count in shared_ports(counts):
+            found[Chip(name, ports, region), note] = count
+    return found
+
+
+def shared_ports(counts: Mapping[tuple[Range, ...], int]) -> list[tuple[tuple[Range, ...], int]]:
+    """Ports by which of several lists of ports they are in, with the sum of the lists' counts."""
+    if len(counts) == 1 or () in counts:
+        return list(counts.items())
+    changes: dict[int, int] = {}
+    for k, ports in enumerate(counts):
+        for at in (it for first, last in ports for it in (first, last + 1)):
+            changes[at] = changes.get(at, 0) ^ 1 << k
+    parts: dict[int, list[Range]] = {}
+    lists, begun = 0, 0
+    for at in sorted(changes):
+        if lists:
+            parts.setdefault(lists, []).append((begun, at - 1))
+        lists, begun = lists ^ changes[at], at
+    sizes = list(counts.values())
+    return [
+        (merged(ranges), sum(it for k, it in enumerate(sizes) if lists >> k & 1))
+        for lists, ranges in parts.items()
+    ]
 
 
 # ---- what is alike
 
 
-def folds_of(
-    rows: Sequence[JourneyRow], word_of: Callable[[JourneyRow], str],
-    note: Callable[[JourneyRow], Optional[Note]],
-) -> list[Fold]:
-    """Rows by word, start and end, those of alike ends as one: the word, the starts, the ends, and
-    what is told of their rows."""
-    folds: list[Fold] = []
-    for word in WAYS:
-        of: dict[str, dict[str, list[Told]]] = {}
-        for it in rows:
-            if word_of(it) == word:
-                told = (chip_of(it.box, it.start, it.end), note(it), it.box)
-                of.setdefault(it.start, {}).setdefault(it.end, []).append(told)
-        # Ends that are alike in all, or alike as starts and as ends, or starts that reach the same
-        # ends alike: what gives fewest.
-        fewest = min((classes_of(of, False), classes_of(of, True), bundles_of(of)), key=len)
-        folds += [(word, starts, ends, told) for starts, ends, told in fewest]
-    return folds
+def transposed(of: Mapping[int, Mapping[int, Hashable]]) -> Signs:
+    found: Signs = {}
+    for start, ends in of.items():
+        for end, sign in ends.items():
+            found.setdefault(end, {})[start] = sign
+    return found
 
 
-def sign_of(rows: Iterable[Told]) -> tuple[tuple[str, Note], ...]:
-    """What two pairs of ends have to share to be alike."""
-    return tuple(sorted({(chip, note or ()) for chip, note, _ in rows}))
-
-
-def bundles_of(of: dict[str, dict[str, list[Told]]]) -> list[Bundle]:
+def bundles_of(of: Mapping[int, Mapping[int, Hashable]]) -> list[Ends]:
     """Each start with all ends that it reaches alike; starts that reach the same ends alike are
     one."""
-    found: dict[object, Bundle] = {}
+    found: dict[Hashable, Ends] = {}
     for start, ends in of.items():
-        alike_ends: dict[object, list[str]] = {}
-        for end, rows in ends.items():
-            alike_ends.setdefault(sign_of(rows), []).append(end)
+        alike_ends: dict[Hashable, list[int]] = {}
+        for end, sign in ends.items():
+            alike_ends.setdefault(sign, []).append(end)
         for sign, reached in alike_ends.items():
-            starts, _, told = found.setdefault((sign, tuple(reached)), ([], reached, []))
-            starts.append(start)
-            told += [it for end in reached for it in ends[end]]
+            found.setdefault((sign, tuple(sorted(reached))), ([], reached))[0].append(start)
     return list(found.values())
 
 
-def classes_of(of: dict[str, dict[str, list[Told]]], is_apart: bool) -> list[Bundle]:
+def classes_of(of: Mapping[int, Mapping[int, Hashable]], is_apart: bool) -> list[Ends]:
     """Classes of starts and of ends; an end is in one class alone, or as a start in another."""
-    numbers: dict[object, int] = {}
-    cells: dict[tuple[str, str], dict[tuple[str, str], int]] = {}
-    found: dict[object, tuple[list[tuple[str, str]], list[tuple[str, str]], list[Told]]] = {}
-    one, other = ("start", "end") if is_apart else ("", "")
+    numbers: dict[Hashable, int] = {}
+    cells: dict[tuple[bool, int], dict[tuple[bool, int], int]] = {}
     for start, ends in of.items():
-        signs = {(other, end): sign_of(rows) for end, rows in ends.items()}
-        cells[one, start] = {
-            end: numbers.setdefault(sign, len(numbers) + 1) for end, sign in signs.items()
+        cells[False, start] = {
+            (is_apart, end): numbers.setdefault(sign, len(numbers) + 1)
+            for end, sign in ends.items()
         }
     ids = list(dict.fromkeys(itertools.chain(cells, *cells.values())))
     at = {it: row for row in fold(ids, cells) for it in row.ids}
-    for start, ends in of.items():
-        row, told = at[one, start], cells[one, start]
-        for end, rows in ends.items():
-            column = at[other, end]
-            key = (row.number, column.number, told[other, end])
-            found.setdefault(key, (row.ids, column.ids, []))[2].extend(rows)
-    return [
-        ([it for _, it in starts], [it for _, it in ends], rows)
-        for starts, ends, rows in found.values()
-    ]
+    found: dict[Hashable, Ends] = {}
+    for one, told in cells.items():
+        row = at[one]
+        for other, value in told.items():
+            key = (row.number, at[other].number, value)
+            found.setdefault(key, ([k for _, k in row.ids], [k for _, k in at[other].ids]))
+    return list(found.values())
 
 
-def path_of(word: str, starts: list[str], ends: list[str], rows: list[Told]) -> Path:
-    chips = list(dict.fromkeys(chip for chip, _, _ in rows if chip))
-    notes = list(dict.fromkeys(note for _, note, _ in rows if note))
-    if len(starts) != 1 or len(ends) != 1:
-        return Path(word, starts, ends, chips, [], [note_words(it, "", "") for it in notes])
-    (start,), (end,) = starts, ends
-    own = list(dict.fromkeys(it for _, _, box in rows for it in own_words(box, start, end)))
-    return Path(word, starts, ends, chips, own, [note_words(it, start, end) for it in notes])
+class Folded:
+    """The ways of a text whose ends are folded by host, group, subnet or VPC."""
+
+    def __init__(self, pairs: Pairs, names: Names, by: str) -> None:
+        self.pairs, self.by = pairs, by
+        self.units = units_of(names, by, pairs.ids)
+        at = {it: k for k, unit in enumerate(self.units) for it in unit.ids}
+        self.between: dict[str, dict[int, dict[int, list[tuple[str, str, str]]]]] = {}
+        for key in pairs.rows:
+            word, start, end = key
+            of = self.between.setdefault(word, {}).setdefault(at[start], {})
+            of.setdefault(at[end], []).append(key)
+        self.paths = [
+            self.path_of(word, *it) for word in WAYS if word in self.between
+            for it in self.fewest(self.between[word])
+        ]
+
+    def fewest(self, between: Mapping[int, Mapping[int, list[tuple[str, str, str]]]]) -> list[Ends]:
+        """The ends of ways, by whatever gives fewest: starts that reach the same ends alike, ends
+        that the same starts reach alike, or, of hosts, classes of ends, or of starts and of
+        ends."""
+        of = {
+            start: {end: self.sign(start, end, keys) for end, keys in ends.items()}
+            for start, ends in between.items()
+        }
+        turned = [(starts, ends) for ends, starts in bundles_of(transposed(of))]
+        found = [bundles_of(of), turned]
+        if self.by == "host":
+            found = [classes_of(of, False), classes_of(of, True), *found]
+        return min(found, key=len)
+
+    def size(self, start: int, end: int) -> int:
+        """How many pairs of ends there are from one part to another."""
+        starts, ends = self.units[start].ids, self.units[end].ids
+        return max(1, len(starts) * len(ends) - len(starts) * (start == end))
+
+    def sign(self, start: int, end: int, keys: Sequence[tuple[str, str, str]]) -> Hashable:
+        """What two pairs of parts have to share to be alike."""
+        if self.by == "host":
+            return self.pairs.signs[keys[0]]
+        counts = pooled(self.pairs.signs[it] for it in keys)
+        if self.pairs.is_cut:
+            return frozenset(counts)
+        size = self.size(start, end)
+        return frozenset((it, count == size) for it, count in counts.items())
+
+    def path_of(self, word: str, starts: list[int], ends: list[int]) -> Path:
+        of = self.between[word]
+        joined = [
+            (start, end) for start in starts for end in ends if end in of.get(start, {})
+        ]
+        keys = [key for start, end in joined for key in of[start][end]]
+        counts = pooled(self.pairs.signs[it] for it in keys)
+        chips: dict[Chip, int] = {}
+        for chip, note in sorted(counts, key=lambda it: (chip_order(it[0]), it[1])):
+            chips[chip] = chips.get(chip, 0) + counts[chip, note]
+        size = sum(self.size(start, end) for start, end in joined)
+        _, start, end = keys[0] if len(keys) == 1 else ("", "", "")
+        notes = dict.fromkeys(
+            note_words(it, start, end) for it in sorted({it for _, it in counts}) if it
+        )
+        own: dict[str, None] = {}
+        if len(keys) == 1:
+            boxes = [it.box for it in self.pairs.rows[keys[0]]]
+            own = dict.fromkeys(it for box in boxes for it in own_words(box, start, end))
+        from_units, to_units = ([self.units[it] for it in sorted(of)] for of in (starts, ends))
+        told = [
+            (it, "" if count >= size else told_pairs(count, size * (not self.pairs.is_cut)))
+            for it, count in chips.items()
+        ]
+        rows = self.pairs.count(keys)
+        return Path(word, from_units, to_units, told, list(notes), list(own), rows)
+
+
+def told_pairs(count: int, size: int) -> str:
+    """How many pairs of ends have what a chip tells, of how many there are; 0 where that isn't
+    known."""
+    of = f"of {counted(size, 'pair')}" if size else "pair" + "s" * (count != 1)
+    return f"{SEPARATOR}{grouped(count)} {of}"
 
 
 # ---- drawing
 
 
 class Way:
-    """A path as it is drawn: chips above its line, what is told beside them below it, and its
-    end."""
+    """A path as it is drawn: chips on its line, what is told beside them below it, and its end."""
 
-    def __init__(self, path: Path, names: Names, middle: float) -> None:
-        self.path, self.label = path, Label(path.end, names, NODE - 28, 5)
-        self.chips = first_of(path.chips, MOST_CHIPS)
+    def __init__(self, path: Path, teller: Teller, label: Label, middle: float) -> None:
+        self.path, self.label = path, label
+        self.chips = [teller.words(*it, middle) for it in path.chips[:MOST_CHIPS]]
+        self.chips += [f"and {len(path.chips) - MOST_CHIPS} more"] * (len(path.chips) > MOST_CHIPS)
         room = middle - self.beside()
-        shown = first_of(path.notes, 4)
-        self.notes = [line for it in shown for line in wrapped(it, room, 10.5, True)]
-        self.own = flowed(first_of(path.own, 6), middle, 10) if path.own else []
+        told = first_of(path.notes, 4)
+        self.notes = [it for one in told for it in wrapped(one, room, 10.5, True)]
+        regions = dict.fromkeys(it.region for it, _ in path.chips)
+        details = [it for one in regions for it in teller.region(one).details()]
+        self.details = [detail_line(*it, middle) for it in details[:2]]
+        own = " ".join(first_of(path.own, 6))
+        self.details += wrapped(own, middle, 10, True) if own else []
         scratch = Drawing(0)
         scratch.bottom = 0
         scratch.chips(self.chips, 0, middle)
-        self.above = scratch.bottom + 8
-        below = 6 + 14 * max(len(self.notes), bool(self.beside())) + 13 * len(self.own)
-        box = (self.label.height + 14) / 2
+        self.above = scratch.bottom / 2
+        below = self.above + 14 * max(len(self.notes), bool(self.beside()))
+        below += 13 * len(self.details) + 4 * bool(self.details or self.beside())
+        box = box_height(self.label) / 2
         self.up, self.down = max(self.above, box), max(below, box)
 
     def beside(self) -> float:
@@ -205,52 +323,125 @@ class Way:
         drawing.path(f"M{number(right - 13)} {number(line - 7)}l12 7l-12 7z", color)
         drawing.bottom = line - self.above
         drawing.chips(self.chips, left + 24, middle, tint, ink)
+        top = drawing.bottom + 2
         if self.beside():
-            drawing.text(left + 24, line + 16.5, self.path.word, 11, ink, False, True)
+            drawing.text(left + 24, top + 10.5, self.path.word, 11, ink, False, True)
         x = left + 24 + self.beside()
-        leading = 14 / 10.5
-        bottom = drawing.lines(x, line + 6, self.notes, 10.5, "soft", True, leading=leading)
-        drawing.lines(left + 24, bottom, self.own, 10, "soft", True, leading=1.3)
-        height = self.label.height + 14
+        bottom = drawing.lines(x, top, self.notes, 10.5, "soft", True, leading=14 / 10.5)
+        bottom = max(bottom, top + 14 * bool(self.beside()))
+        drawing.lines(left + 24, bottom, self.details, 10, "soft", True, leading=1.3)
+        height = box_height(self.label)
         draw_node(drawing, self.label, right, line - height / 2, height)
+
+
+def detail_line(count: str, ranges: list[str], room: float) -> str:
+    """How many addresses ranges hold, and the first of them in one line."""
+    for most in range(min(len(ranges), 12), 0, -1):
+        told = f"{count}: {', '.join(ranges[:most])}"
+        told += f" and {grouped(len(ranges) - most)} more" * (most < len(ranges))
+        if width_of(told, 10, True) <= room:
+            return told
+    return count
 
 
 def dashed(dashes: str) -> str:
     return f' stroke-dasharray="{dashes}"' if dashes else ""
 
 
-def draw_node(
-    drawing: Drawing, label: Label, x: float, top: float, height: float, is_tall: bool = False
-) -> None:
+def box_height(label: Label) -> float:
+    return label.height + (14 if label.words else 10)
+
+
+def draw_node(drawing: Drawing, label: Label, x: float, top: float, height: float) -> None:
     drawing.rect(x, top, NODE, height, "panel", 8)
     drawing.rect(x, top, NODE, height, "edge", 8)
-    label.draw(drawing, x + 14, top + (7 if is_tall else (height - label.height) / 2))
+    label.draw(drawing, x + 14, top + (box_height(label) - label.height) / 2)
 
 
-def draw_paths(drawing: Drawing, paths: list[Path], names: Names) -> None:
-    """The paths from each start beside it, a line each."""
-    middle = drawing.width - 2 * MARGIN - 2 * NODE - 48
-    for (_, starts), found in itertools.groupby(paths, key=lambda it: (it.word, it.start)):
-        ways = [Way(it, names, middle) for it in found]
-        label, top = Label(starts, names, NODE - 28, 5), drawing.bottom
-        tall = sum(it.up + it.down for it in ways) + 14 * (len(ways) - 1)
-        height = max(tall, label.height + 14)
-        line = top + (height - tall) / 2
-        first, last = line + ways[0].up, line
-        for it in ways:
-            last = line + it.up
-            it.draw(drawing, MARGIN + NODE, middle, last)
-            line += it.up + it.down + 14
-        box = max(label.height + 14, last - first + 30)
-        draw_node(drawing, label, MARGIN, (first + last) / 2 - box / 2, box, len(ways) > 3)
-        drawing.bottom = top + height + 18
+class Ways:
+    """Paths with their labels, in the order in which they are drawn: those from one start
+    together."""
+
+    def __init__(self, folded: Folded, names: Names) -> None:
+        self.teller, self.by = folded.pairs.teller, folded.by
+        self.namer = Namer(names, folded.pairs.ids)
+        self.middle = WIDTH - 2 * MARGIN - 2 * NODE - 48
+        self.labels = {
+            id(units): self.label(units) for it in folded.paths for units in (it.starts, it.ends)
+        }
+        paths = sorted(folded.paths, key=self.order)
+        self.paths, self.left_out = paths[:MOST_PATHS], paths[MOST_PATHS:]
+
+    def label(self, units: list[Unit]) -> Label:
+        if self.by != "host":
+            return label_of_units(self.by, units, NODE - 28)
+        ids = sorted((it for of in units for it in of.ids), key=self.namer.order)
+        return label_of_ids(self.namer, ids, NODE - 28, 2)
+
+    def order(self, path: Path) -> tuple[object, ...]:
+        words, starts, ends = list(WAYS), *map(self.place, (path.starts, path.ends))
+        to_internet = path.ends[0].name == "internet"
+        return words.index(path.word), starts, to_internet, ends
+
+    def place(self, units: list[Unit]) -> tuple[bool, list[tuple[int, str]], list[str]]:
+        name = self.labels[id(units)].short()
+        return name != "internet", natural(name), [it.name for it in units]
+
+    def draw(self, drawing: Drawing) -> None:
+        """The paths from each start beside it, a line each."""
+        for _, found in itertools.groupby(self.paths, key=lambda it: (it.word, it.starts)):
+            paths = list(found)
+            ways = [
+                Way(it, self.teller, self.labels[id(it.ends)], self.middle) for it in paths
+            ]
+            draw_start(drawing, ways, self.labels[id(paths[0].starts)], self.middle)
+        if self.left_out:
+            lines = wrapped(more_words(self.left_out), WIDTH - 2 * MARGIN, 13)
+            drawing.bottom = drawing.lines(MARGIN, drawing.bottom, lines, 13, "ink") + 18
+
+    def words(self) -> list[str]:
+        """What is drawn, in words."""
+        return [
+            f"{it.word} from {self.labels[id(it.starts)].told()} to "
+            f"{self.labels[id(it.ends)].told()}: {', '.join([*self.chips(it), *it.notes])}"
+            for it in self.paths
+        ] + [more_words(self.left_out)] * bool(self.left_out)
+
+    def chips(self, path: Path) -> list[str]:
+        return [self.teller.words(*it, 9999) for it in path.chips[:MOST_CHIPS]]
 
 
-def more_words(folds: list[Fold]) -> str:
-    rows = counted(sum(len(it[3]) for it in folds), "row")
-    ids = {it for _, starts, ends, _ in folds for it in starts + ends}
+def draw_start(drawing: Drawing, ways: list[Way], label: Label, middle: float) -> None:
+    """The box of a start, as tall as what begins there. A tall one repeats its name."""
+    top = drawing.bottom
+    tall = sum(it.up + it.down for it in ways) + BETWEEN * (len(ways) - 1)
+    own = box_height(label)
+    height = max(tall, own)
+    line, lines = top + (height - tall) / 2, list[float]()
+    for it in ways:
+        lines.append(line + it.up)
+        it.draw(drawing, MARGIN + NODE, middle, lines[-1])
+        line += it.up + it.down + BETWEEN
+    begin = max(top, lines[0] - own / 2)
+    end = max(begin + own, lines[-1] + 13)
+    draw_node(drawing, label, MARGIN, begin, end - begin)
+    told = begin + own - 5
+    for y in lines[1:]:
+        if y - 5.5 - told > 12:
+            name = shortened(label.short(), NODE - 28, 11)
+            drawing.text(MARGIN + 14, y + 4, name, 11, "soft", False, True)
+            told = y + 4
+    drawing.bottom = max(top + height, end) + APART
+
+
+def more_words(paths: Sequence[Path]) -> str:
+    rows = counted(sum(it.rows for it in paths), "row")
+    ids = {it for path in paths for unit in path.starts + path.ends for it in unit.ids}
     interfaces = counted(len(ids), "interface")
-    return f"and {grouped(len(folds))} more, not drawn: {rows} of {interfaces}"
+    return f"and {grouped(len(paths))} more, not drawn: {rows} of {interfaces}"
+
+
+# ---- pictures
 
 
 def query_words(query: str) -> list[str]:
@@ -259,64 +450,96 @@ def query_words(query: str) -> list[str]:
     return [" ".join(words[k : k + 2]) for k in range(0, len(words), 2)]
 
 
-def draw_words(drawing: Drawing, folds: list[Fold], x: float) -> None:
-    """The words of the ways, each with its line and how many rows there are."""
-    for word, (color, dashes, _, ink) in WAYS.items():
-        rows = sum(len(it[3]) for it in folds if it[0] == word)
-        if rows:
-            more = f' stroke-width="3"{dashed(dashes)}'
-            line = f"M{number(x)} {number(drawing.bottom + 11)}h26"
-            drawing.path(line, f"{color}-line", more)
-            told = f"{word} " * (word != "reached") + counted(rows, "row")
-            drawing.text(x + 34, drawing.bottom + 16, told, 13, ink, False, True)
-            x += 34 + width_of(told, 13) + 22
+def title_of(found: Union[Reach, Diff]) -> str:
+    """What a text tells, in words."""
+    if isinstance(found, Reach):
+        title = "What gets through" if found.rows else "Nothing is known to get through"
+    else:
+        words = {word_of(it) for it in found.rows}
+        verbs = {"opened": "opens", "closed": "closes", "moved": "moves"}
+        told = [verbs.get(it, "isn't known any more") for it in WAYS if it in words]
+        *rest, last = told or ["Nothing opens, closes or moves"]
+        title = f"What {', '.join(rest)} and {last}" if rest else f"What {last}"
+        title = title if told else last
+    return title + ", in part" * bool(found.next)
 
 
-def path_words(path: Path) -> str:
-    starts, ends = (", ".join(it[:MOST_IDS]) + more_ids(it) for it in (path.start, path.end))
-    told = ", ".join(path.chips[:MOST_CHIPS] + path.notes)
-    return f"{path.word} from {starts} to {ends}: {told}"
+def summary_of(found: Union[Reach, Diff], folded: Folded) -> str:
+    """How many interfaces there are, what they are folded by, and of reach the rows."""
+    units = [it for it in folded.units if it.name != "internet"]
+    told = counted(sum(len(it.ids) for it in units), "interface")
+    if folded.by != "host":
+        told += f" by {KINDS[folded.by][0]}"
+    return told + f", {counted(len(found.rows), 'row')}" * isinstance(found, Reach)
 
 
-def more_ids(ids: list[str]) -> str:
-    return f" and {len(ids) - MOST_IDS} more" * (len(ids) > MOST_IDS)
-
-
-def draw_journeys(
-    found: Union[Reach, Diff], names: Names, drawing: Drawing, first: str, folds: list[Fold]
-) -> tuple[Drawing, str, str]:
-    nothing = "nothing reached" if isinstance(found, Reach) else "nothing changed"
-    paths, left_out = [path_of(*it) for it in folds[:MOST_PATHS]], folds[MOST_PATHS:]
-    width = drawing.width - 2 * MARGIN
-    drawing.text(MARGIN, drawing.bottom + 16, first, 18, "ink", False, True)
-    draw_words(drawing, folds, MARGIN + width_of(first, 18) + 16)
-    drawing.bottom += 36
+def draw_head(drawing: Drawing, found: Union[Reach, Diff], folded: Folded) -> None:
+    """The title, the words of the ways, and the query."""
+    title = [Run(title_of(found), 18, "ink", False, True)]
+    title += [Run(summary_of(found, folded), 13, "soft")] * bool(found.rows)
+    drawing.runs(MARGIN, drawing.bottom + 16, title)
+    drawing.bottom += 34
+    if isinstance(found, Diff) and found.rows:
+        draw_words(drawing, folded)
     chips = query_words(found.query)
     if found.next:
-        chips.append(f"next {found.next[0]} {found.next[1]}")
+        chips.append(f"not told from {found.next[0]} {found.next[1]}")
     if chips:
-        drawing.chips(chips, MARGIN, width)
+        drawing.chips(chips, MARGIN, drawing.width - 2 * MARGIN)
         drawing.bottom += 18
-    if not paths:
-        drawing.text(MARGIN, drawing.bottom + 13, nothing, 13, "soft")
-        drawing.bottom += 34
-    draw_paths(drawing, paths, names)
-    if left_out:
-        lines = wrapped(more_words(left_out), width, 13)
-        drawing.bottom = drawing.lines(MARGIN, drawing.bottom, lines, 13, "ink") + 18
-    drawing.bottom -= 18
-    words = [path_words(it) for it in paths] + [more_words(left_out)] * bool(left_out)
+
+
+def draw_words(drawing: Drawing, folded: Folded) -> None:
+    """What changes, each with its line and how many rows there are."""
+    x = float(MARGIN)
+    for word, (color, dashes, _, ink) in WAYS.items():
+        rows = sum(it.rows for it in folded.paths if it.word == word)
+        if rows:
+            more = f' stroke-width="3"{dashed(dashes)}'
+            line = f"M{number(x)} {number(drawing.bottom + 7)}h26"
+            drawing.path(line, f"{color}-line", more)
+            told = f"{word} {counted(rows, 'row')}"
+            drawing.text(x + 34, drawing.bottom + 12, told, 13, ink, False, True)
+            x += 34 + width_of(told, 13) + 22
+    drawing.bottom += 30
+
+
+def draw_folded(
+    found: Union[Reach, Diff], names: Names, drawing_name: str, folded: Folded
+) -> tuple[Drawing, str, str]:
+    """A picture of ways, folded in one way."""
+    drawing, ways = Drawing(WIDTH, drawing_name), Ways(folded, names)
+    draw_head(drawing, found, folded)
+    ways.draw(drawing)
+    drawing.bottom -= APART
+    title = title_of(found)
+    query = found.query.partition(" ")[2]
+    words = "; ".join(ways.words() or [title]) + "."
     rows = counted(len(found.rows), "row")
-    return drawing, f"{first}: {found.query}, {rows}", "; ".join(words or [nothing]) + "."
+    return drawing, f"{title}: {f'{query}, ' * bool(query)}{rows}", words
+
+
+def draw_ways(
+    found: Union[Reach, Diff], names: Names, drawing_name: str
+) -> tuple[Drawing, str, str]:
+    """The ways of a text: of each host, where that is seen at once, else by group, subnet or VPC,
+    the first that is; or by what was asked for."""
+    pairs = Pairs(found)
+    kinds: Sequence[str] = [names.by] if names.by else BY if names.homes else BY[:1]
+    best: Optional[tuple[Drawing, str, str]] = None
+    for by in kinds:
+        drawn = draw_folded(found, names, drawing_name, Folded(pairs, names, by))
+        if best is None or drawn[0].bottom < best[0].bottom:
+            best = drawn
+        if best[0].bottom <= SCREEN:
+            break
+    assert best
+    return best
 
 
 def draw_reach(found: Reach, names: Names, drawing_name: str) -> tuple[Drawing, str, str]:
-    folds = folds_of(found.rows, lambda it: "reached", lambda it: None)
-    first = "more reach" if found.next else "vpc-reach 1"
-    return draw_journeys(found, names, Drawing(960, drawing_name), first, folds)
+    return draw_ways(found, names, drawing_name)
 
 
 def draw_diff(found: Diff, names: Names, drawing_name: str) -> tuple[Drawing, str, str]:
-    folds = folds_of(found.rows, lambda it: it.word, note_of)
-    first = "more changes" if found.next else "vpc-diff 1"
-    return draw_journeys(found, names, Drawing(960, drawing_name), first, folds)
+    return draw_ways(found, names, drawing_name)

@@ -9,6 +9,8 @@ With PROGRAM its answers about the bundles of examples/ are drawn too. The last 
 """
 
 import contextlib
+import hashlib
+import html
 import html.parser
 import io
 import itertools
@@ -25,8 +27,8 @@ import xml.etree.ElementTree as xml
 TOP = os.path.dirname(os.path.dirname(os.path.abspath(__file__)))
 sys.path.insert(0, TOP)
 
-from scripts import picture as script, picture_classes, picture_matrix, picture_reports, picture_ways
-from scripts.bundles import printable
+from scripts import picture as script, picture_chips, picture_classes, picture_matrix, picture_reports, picture_ways
+from scripts.bundles import Names, printable
 
 SVG = "{http://www.w3.org/2000/svg}"
 AWS = "eni-0123456789abcdef0"
@@ -181,9 +183,9 @@ def text_boxes(svg):
 
 def collisions(svg):
     """Texts that lie over each other, or outside the picture."""
-    _, _, width, height = map(float, svg.get("viewBox").split())
+    _, above, width, height = map(float, svg.get("viewBox").split())
     boxes = sorted(text_boxes(svg), key=lambda it: it[2])
-    found = [it[0] for it in boxes if it[1] < 0 or it[2] < 0 or it[3] > width or it[4] > height]
+    found = [it[0] for it in boxes if it[1] < 0 or it[2] < above or it[3] > width or it[4] > height + above]
     for number, one in enumerate(boxes):
         for other in itertools.islice(boxes, number + 1, None):
             if other[2] >= one[4]:
@@ -233,7 +235,7 @@ def picture(data, *words):
 def words_of(svg):
     """The words that a picture shows."""
     texts = [" ".join(it.itertext()) if it.tag != SVG + "text" else " ".join(part for part in it.itertext()) for it in svg.iter() if it.tag in (SVG + "text", SVG + "title", SVG + "desc")]
-    return [word for text in texts for word in re.split(r"[\s,;:.\u00d7\u2192()]+", text.replace(". ", " ")) if word]
+    return [word for text in texts for word in re.split(r"[\s,;:.\u00d7\u00b7\u2192\u2026()]+", text.replace(". ", " ")) if word]
 
 
 def strange_words(svg, text, names):
@@ -241,7 +243,7 @@ def strange_words(svg, text, names):
     told = set(re.split(r"[\s:]+", text)) | {part for it in text.split() for part in it.split("-")} | set(script.OWN_WORDS)
     told |= {word for it in re.findall(r'"((?:[^"\\]|\\.)*)"', names) for word in re.split(r"[\s,;:.()]+", printable(json.loads(f'"{it}"')))}
     parts = {word for it in told for word in re.split(r"[,;:.()]+", it)}
-    return sorted({it for it in words_of(svg) if it not in told and it not in parts and not re.fullmatch(r"[0-9-]+", it)})
+    return sorted({it for it in words_of(svg) if it not in told and it not in parts and not re.fullmatch(r"[0-9/-]+", it)})
 
 
 def check_picture(results, name, text, *words, names="", is_wrapped=False):
@@ -307,6 +309,8 @@ def run_words(results, folder):
     for words, why in (
         ([other], f"{other} can't be drawn: 'yes' begins no text of trace, ask, matrix, reach or diff"), (["none"], "none can't be read: No such file or directory"),
         (["--names", "none"], "none can't be read: No such file or directory"), (["--names", text], f"{text} is no bundle: it is not one JSON value in UTF-8"),
+        (["--by", "zone"], "--by takes host, group, subnet or vpc"), (["--by", "group"], "--by group takes --names BUNDLE, which tells the group of each interface"),
+        (["--by"], "--by is not one of its words; --help says more"), (["--title", "a", "--title", "b"], "--title is not one of its words; --help says more"),
         ([text, text], f"{text} is not one of its words; --help says more"), (["--name"], "--name is not one of its words; --help says more"),
         (["--names"], "--names is not one of its words; --help says more"), (["--html", text, other], f"{other} can't be drawn: 'yes' begins no text of trace, ask, matrix, reach or diff"),
     ):
@@ -335,6 +339,11 @@ class Page(html.parser.HTMLParser):
         self.links += [told[it] for it in ("src", "href", "xlink:href") if it in told]
 
 
+SHOP = os.path.join(TOP, "examples", "shop.json")
+# (of that bundle)
+UNSENT = "hop 1 out eni-web tcp 10.0.1.99 10.0.3.10 1 5432\nstopped SourceCheck eni-web -\n"
+
+
 def run_page(results, folder):
     paths = []
     for number, (_, text) in enumerate(TEXTS):
@@ -348,6 +357,42 @@ def run_page(results, folder):
     results.add("what a page takes from elsewhere", [it for it in re.findall(r"(?:https?:)?//[^\s\"<]+|url\([^#]", out) if it != "http://www.w3.org/2000/svg"], [])
     named = set(re.findall(r"url\(#([^)]+)\)", out)) | {it for told in re.findall(r'aria-labelledby="([^"]+)"', out) for it in told.split()}
     results.add("what a page names", named - set(page.ids), set())
+    results.add("the heading of a page", re.findall(r"<h1>(.*?)</h1>", out), [f"{len(TEXTS)} pictures"])
+    run_facts(results, folder)
+
+
+def facts_in(page):
+    return dict(re.findall(r"<dt>(.*?)</dt><dd>(.*?)</dd>", page))
+
+
+def run_facts(results, folder):
+    """The heading of a page, what is told of the bundle, and the sentences."""
+    with open(SHOP, "rb") as file:
+        data = file.read()
+    bundle = os.path.join(folder, "of <two>.json")
+    vpc = {"VpcId": "vpc-1", "OwnerId": "111122223333"}
+    for name, objects, more in (
+        ("no account", [{"Vpcs": []}], {}), ("the owner", [{"Vpcs": [vpc]}], {"account": "111122223333"}),
+        ("how it was collected", [{"Vpcs": [vpc], "Collected": {"Account": "111122223333", "Region": "eu-west-1", "Time": "2026-11-30T08:00:00Z"}}],
+         {"account": "111122223333", "region": "eu-west-1", "collected": "2026-11-30T08:00:00Z"}),
+        ("two accounts", [{"Vpcs": [], "Collected": {"Account": it, "Region": "eu-west-1", "Time": 7}} for it in ("1", "2")], {"accounts": "1, 2", "region": "eu-west-1"}),
+        ("what is no account", [{"Vpcs": [], "Collected": {"Account": "<b>\u202e", "Time": None}}, {"Vpcs": [], "Collected": "x"}], {"account": "&lt;b&gt;\ufffd"}),
+    ):
+        with open(bundle, "w", encoding="utf-8") as file:
+            json.dump(objects, file)
+        with open(bundle, "rb") as file:
+            checksum = hashlib.sha256(file.read()).hexdigest()
+        status, out, err = picture(REPORT, "--html", "--names", bundle)
+        results.add(f"a page of {name}", (status, err, facts_in(out)), (0, "", {"bundle": "of &lt;two&gt;.json", "SHA-256": f"<code>{checksum}</code>", **more}))
+    status, out, err = picture(UNSENT, "--html", "--names", SHOP, "--title", "Why <not>?")
+    results.add("the title of a page", (status, re.findall("<h1>(.*?)</h1>", out), re.findall("<title>(.*?)</title>", out)), (0, ["Why &lt;not&gt;?"], ["Why &lt;not&gt;?"]))
+    results.add("its checksum", facts_in(out).get("SHA-256"), f"<code>{hashlib.sha256(data).hexdigest()}</code>")
+    told = subprocess.run([os.path.join(TOP, "explain"), SHOP], input=UNSENT.encode(), capture_output=True, check=True).stdout.decode()
+    results.add("its sentences", re.findall('<pre class="told">(.*?)</pre>', out, re.S), [html.escape(told.rstrip("\n"))])
+    status, out, err = picture(UNSENT.replace("10.0.1.99", "10.0.1.10"), "--html", "--names", SHOP)
+    results.add("no sentences of what isn't true", (status, "No sentences: the text can't be told of: line 1 isn't true of the bundle." in html.unescape(out)), (0, True))
+    status, out, err = picture(UNSENT, "--html")
+    results.add("no sentences without a bundle", (status, 'class="told"' in out or "No sentences" in out), (0, False))
 
 
 # ---- what is folded, compared with the text
@@ -489,18 +534,268 @@ def diff_text(seed, rows):
     return "\n".join(["vpc-diff 1", "query", *(f"row {k} {it}" for k, it in enumerate(lines, 1)), f"end {len(lines)}", ""])
 
 
-def run_ways(results):
-    """Each row is in one way, with its start, end, ports and stop, and a way holds no other."""
+def parts_bundle(text, size):
+    """A bundle of the ends of a text: groups of so many of them, of which two are in each subnet, and two subnets in each VPC."""
+    ids = sorted(set(re.findall(r"\beni-[0-9a-f]+", text)))
+    rows = [{
+        "NetworkInterfaceId": it, "Description": "Primary network interface", "Groups": [{"GroupId": f"sg-{k // size:017x}"}],
+        "SubnetId": f"subnet-{k // size // 2}", "VpcId": f"vpc-{k // size // 4}",
+    } for k, it in enumerate(ids)]
+    groups = sorted({it["Groups"][0]["GroupId"] for it in rows})
+    return {"NetworkInterfaces": rows, "SecurityGroups": [{"GroupId": it, "GroupName": f"tier {k}"} for k, it in enumerate(groups)]}
+
+
+def held_in(chip, box):
+    """Whether a chip holds all of a row of TCP."""
+    return chip.name == "tcp" and any(first <= box[4][0] and box[4][1] <= last for first, last in chip.ports)
+
+
+def wrong_of(told, by, names):
+    """What ways of TCP tell that isn't so of the rows: a row in none or in two, or of a port another number of pairs."""
+    pairs = picture_ways.Pairs(told)
+    folded = picture_ways.Folded(pairs, names, by)
+    rows, wrong = {}, []
+    for it in told.rows:
+        rows.setdefault(picture_ways.word_of(it), {}).setdefault((it.start, it.end), []).append(it)
+    held = {key: 0 for word, of in rows.items() for key in ((word, *ends) for ends in of)}
+    for path in folded.paths:
+        of = {ends: found for ends, found in rows[path.word].items() if any(ends[0] in it.ids for it in path.starts) and any(ends[1] in it.ids for it in path.ends)}
+        for ends in of:
+            held[path.word, *ends] += 1
+        if sum(map(len, of.values())) != path.rows:
+            wrong.append(("rows", path))
+        sizes = [len(one.ids) * len(other.ids) - len(set(one.ids) & set(other.ids)) for one in path.starts for other in path.ends]
+        for chip, words in path.chips:
+            for port in {it for ends in chip.ports for it in ends}:
+                count = sum(any(it.box[4][0] <= port <= it.box[4][1] for it in found) for found in of.values())
+                said = re.match(r" \u00b7 ([\d,]+) (?:of ([\d,]+) )?pairs?$", words)
+                numbers = [int(it.replace(",", "")) for it in said.groups() if it] if said else [sum(sizes)]
+                if numbers[0] != count or numbers[1:] not in ([], [sum(sizes)]):
+                    wrong.append((chip, words, count))
+        wrong += [("in no chip", it.box) for found in of.values() for it in found if not any(held_in(chip, it.box) for chip, _ in path.chips)]
+    return wrong + [it for it in held.items() if it[1] != 1]
+
+
+def run_ways(results, folder):
+    """Each row is in one way, with its start and end, and each chip tells of how many pairs of ends it is true, however they are folded."""
+    path = os.path.join(folder, "parts.json")
     for seed in range(40):
         text = diff_text(seed, 200)
         told = script.read_text(text.encode())
-        found = []
-        for word, starts, ends, rows in picture_ways.folds_of(told.rows, lambda it: it.word, picture_ways.note_of):
-            signs = {(chip, note) for chip, note, _ in rows}
-            found += [(word, a, b, *it) for a in starts for b in ends if a != b or (a, b) in {(it.start, it.end) for it in told.rows} for it in signs]
-        wanted = [(it.word, it.start, it.end, picture_ways.chip_of(it.box, it.start, it.end), picture_ways.note_of(it)) for it in told.rows]
-        results.add(f"ways of {len(told.rows)} rows", sorted(found), sorted(set(wanted)))
+        bundle = parts_bundle(text, 1 + seed % 5)
+        with open(path, "w", encoding="utf-8") as file:
+            json.dump(bundle, file)
+        for by in picture_classes.BY:
+            results.add(f"ways of {len(told.rows)} rows by {by}", wrong_of(told, by, Names([bundle]))[:1], [])
         check_picture(results, f"a change of {len(told.rows)} rows", text)
+        by = picture_classes.BY[seed % 4]
+        check_picture(results, f"a change of {len(told.rows)} rows by {by}", text, "--names", path, "--by", by, names=json.dumps(bundle))
+
+
+# ---- chips
+
+PROTOCOLS = [(0, 0), (1, 1), (2, 5), (6, 6), (7, 16), (17, 17), (18, 255)]
+
+
+def name_holds(name, proto):
+    """Whether the name of a chip holds a protocol."""
+    if name.startswith("all protocols"):
+        return proto != 1 or name == "all protocols"
+    if name == "other protocols":
+        return proto not in (1, 6, 17)
+    if name.startswith("protocol"):
+        return any(int(it.split("-")[0]) <= proto <= int(it.split("-")[-1]) for it in re.findall(r"[\d-]+", name))
+    return {1: "icmp", 6: "tcp", 17: "udp"}.get(proto) in name.split(" ") or (name == "ping" and proto == 1)
+
+
+def run_chips(results):
+    """A packet is in a chip where it is in a row, and in one alone, whatever boxes the rows cut it into."""
+    rng = random.Random(11)
+    for case in range(400):
+        rows = []
+        for src, low in itertools.product(range(0, rng.choice([2, 6]), 2), range(0, 60, 20)):
+            for protocols in rng.sample(PROTOCOLS, rng.randint(1, 7)):
+                ports = (2048, 2048) if protocols == (1, 1) else rng.choice([(0, 65535), (low, low + rng.choice([4, 19]))])
+                rows.append((protocols, ports, None, (src, src + 1), None))
+        # (rows of one port twice would not be disjoint)
+        rows = [it for k, it in enumerate(rows) if not any(it[0] == of[0] and it[3] == of[3] and it[1][0] <= of[1][1] and of[1][0] <= it[1][1] for of in rows[:k])]
+        teller, cut = picture_chips.Teller("query"), []
+        for protocols, (first, last), *sides in rows:
+            at = rng.randint(first, last)
+            cut += [(protocols, it, *sides) for it in ((first, at), (at + 1, last)) if it[0] <= it[1]]
+        chips = teller.chips(frozenset(rows))
+        results.add(f"chips of rows that are cut, {case}", picture_chips.Teller("query").chips(frozenset(cut)), chips)
+        wrong = []
+        for (proto, _), port, src in itertools.product(PROTOCOLS, (0, 3, 10, 20, 25, 41, 59, 2048, 65535), range(6)):
+            in_rows = sum(a <= proto <= b and c <= port <= d and e <= src <= f for (a, b), (c, d), _, (e, f), _ in rows)
+            in_chips = sum(
+                name_holds(it.name, proto) and any(a <= src <= b for a, b in teller.region(it.region).sources)
+                and (any(a <= port <= b for a, b in it.ports) if it.ports else proto != 1 or port == 2048) for it in chips
+            )
+            wrong += [(proto, port, src)] * (in_rows != in_chips)
+        if wrong:
+            results.add(f"chips, case {case}", (wrong[:3], rows, chips), "as the rows")
+            return
+    results.add("chips", True, True)
+
+
+def row_text(start, end, proto, src, dst, port):
+    return f"{start} {end} {proto} {src} {dst} 0-65535 {port}"
+
+
+def reach_of(rows, query="query"):
+    lines = [f"row {k} {it}" for k, it in enumerate(rows, 1)]
+    return "\n".join(["vpc-reach 1", query, *lines, f"end {len(rows)}", ""])
+
+
+OFFICES = [f"198.51.100.{32 * k}-198.51.100.{32 * k + 15}" for k in range(7)] + ["192.0.2.0-192.0.2.127", "192.0.2.192-192.0.2.255", "203.0.113.64-203.0.113.95"]
+OWN, OTHER = "10.0.1.10-10.0.1.10", "10.0.2.20-10.0.2.20"
+CHIPS = [
+    ("source ranges", [row_text("internet", "eni-a", "6-6", it, OWN, "443-443") for it in OFFICES], ["tcp 443 \u00b7 10 source ranges"]),
+    ("ranges that ports share", [row_text("internet", "eni-a", "6-6", it, OWN, port) for it in OFFICES for port in ("443-443", "22-22")], ["tcp 22, 443 \u00b7 10 source ranges"]),
+    ("ranges of each port", [row_text("internet", "eni-a", "6-6", it, OWN, "443-443") for it in OFFICES] + [row_text("internet", "eni-a", "6-6", OFFICES[0], OWN, "22-22")],
+     ["tcp 22 \u00b7 src 198.51.100.0/28", "tcp 443 \u00b7 10 source ranges"]),
+    ("ports that touch", [row_text("eni-a", "eni-b", "6-6", OWN, OTHER, it) for it in ("8000-8010", "8011-8020", "22-22")], ["tcp 22, 8000-8020"]),
+    ("all protocols", [row_text("eni-a", "eni-b", it, OWN, OTHER, port) for it, port in (("0-0", "0-65535"), ("1-1", "2048-2048"), ("2-255", "0-65535"))], ["all protocols"]),
+    ("ping", [row_text("eni-a", "eni-b", "1-1", OWN, OTHER, "2048-2048")], ["ping"]),
+    ("two protocols", [row_text("eni-a", "eni-b", it, OWN, OTHER, "53-53") for it in ("6-6", "17-17")], ["tcp and udp 53"]),
+    ("all ports", [row_text("eni-a", "eni-b", "6-6", OWN, OTHER, "0-65535")], ["tcp, all ports"]),
+    ("others", [row_text("eni-a", "eni-b", it, OWN, OTHER, "0-65535") for it in ("0-0", "2-5", "7-16", "18-255")], ["other protocols"]),
+    ("one protocol", [row_text("eni-a", "eni-b", "50-50", OWN, OTHER, "0-65535")], ["protocol 50"]),
+]
+
+
+def chips_in(svg, tint="blue-tint"):
+    """The texts that stand in the boxes of one color, a list for each."""
+    texts = [(float(it.get("x")), float(it.get("y")), it.text) for it in svg.iter(SVG + "text") if it.text]
+    boxes = [[float(it.get(side)) for side in ("x", "y", "width", "height")] for it in svg.iter(SVG + "rect") if it.get("class") == tint]
+    return [" ".join(told for a, b, told in texts if x < a < x + width and y < b < y + height) for x, y, width, height in boxes]
+
+
+def run_told(results, folder):
+    """What chips, titles, names and colors tell."""
+    for name, rows, wanted in CHIPS:
+        svg = check_picture(results, name, reach_of(rows))
+        results.add(f"the chips of {name}", chips_in(svg), wanted)
+    many = [row_text("internet", "eni-a", "6-6", it, OWN, f"{port}-{port}") for it in OFFICES for port in range(20, 60, 2)]
+    told = chips_in(check_picture(results, "many ports", reach_of(many)))
+    results.add("a chip of many ports", (len(told), bool(re.fullmatch(r"tcp 20, .* and \d+ more \u00b7 10 source ranges", told[0]))), (1, True))
+    for name, text, tint in (("a walk", NAT.replace("sg-a", "sg-" + "a" * 90), "green-tint"), ("a query", REACH.replace("to eni-b9", f"to eni-{'b' * 200}"), "grey-tint")):
+        told = [it for it in chips_in(check_picture(results, f"{name} with a long id", text, is_wrapped=True), tint) if "aaa" in it or "bbb" in it]
+        results.add(f"a chip of {name} that is long", (len(told), told[0].replace(" ", "").count("a" if tint == "green-tint" else "b") >= 90), (1, True))
+    for name, text, wanted in (
+        ("a report", REPORT.replace("Unmodelled vpce-1", "GroupsIn eni-b"), "blocked: from eni-a to eni-b, 2 rows"), ("a report that isn't known", REPORT, "blocked, in part not known: from eni-a to eni-b, 2 rows"),
+        ("a report of nothing known", REPORT.replace("AclOut acl-b 32767", "Unmodelled vpce-1 -"), "not known: from eni-a to eni-b, 2 rows"), ("more boxes", MORE, "blocked, in part not told: from eni-a to eni-b, 3 rows"),
+        ("reach", REACH, "What gets through: to eni-b9, 3 rows"), ("more reach", MORE_REACH, "What gets through, in part: from internet sport 1024-65535, 1 row"),
+        ("nothing reached", "vpc-reach 1\nquery\nend 0\n", "Nothing is known to get through: 0 rows"), ("a change", DIFF, "What opens, moves and closes: 5 rows"),
+        ("no change", "vpc-diff 1\nquery\nend 0\n", "Nothing opens, closes or moves: 0 rows"), ("a matrix", MATRIX, "Who reaches whom: 3 interfaces in 3 classes"),
+        ("a walk that isn't known", STOPPED.replace("AclIn acl-1 90", "Unmodelled vpce-1 -"), "eni-a stopped Unmodelled vpce-1, not known"),
+    ):
+        svg = check_picture(results, f"the title of {name}", text)
+        results.add(f"the title of {name}", svg.find(SVG + "title").text, wanted)
+        shown_words = " ".join(words_of(svg))
+        if "not known" in wanted:
+            classes = {it.get("class") for it in svg.iter()}
+            results.add(f"{name}: is grey, and says so", ("grey" in classes or "grey-line" in classes, "red" in classes, "not known" in shown_words), (True, False, True))
+        results.add(f"{name}: no first line", re.findall(r"vpc-(?:reach|diff|report)|more (?:boxes|reach|changes)", shown_words), [])
+    svg = check_picture(results, "what closes and isn't known", DIFF.replace("AclOut acl-b 32767", "Unmodelled vpce-1 -").replace("opened eni-b request GroupsIn eni-b", "opened eni-b request Unmodelled vpce-2"))
+    told = " ".join(words_of(svg))
+    results.add("what closes and isn't known", ([it for it in chips_in(svg, "grey-tint")], "now reply Unmodelled vpce-1 not known" in told, "before request Unmodelled vpce-2 not known" in told), (["tcp 443 \u00b7 sport 0-32767"], True, True))
+    run_names(results, folder)
+    run_title(results, folder)
+
+
+def named_bundle(names, **more):
+    return {"NetworkInterfaces": [
+        {"NetworkInterfaceId": f"eni-{k:017x}", "Description": "Primary network interface", "Groups": [{"GroupId": "sg-a"}], "SubnetId": "subnet-1", "VpcId": "vpc-1",
+         "TagSet": [{"Key": "Name", "Value": it}] if it else [], **more} for k, it in enumerate(names)
+    ]}
+
+
+def run_names(results, folder):
+    """What classes are called: by what they have in common alone, else by their members, and never by a default description."""
+    for names, count, wanted in (
+        (["web-a", "app-a", "db-a", "cache-a", "lb-a"], 5, "app-a, cache-a and 3 more"), (["web-1", "web-2", "web-10"], 3, "web"), (["web-1", "web-2", "web-3"], 2, "web-1 and web-2"),
+        (["web-1", "web-2", "app-1", "db"], 3, "app-1, web-1 and web-2"), (["web-1", "web-2", "web-3", "app-1", "db"], 4, "app-1, web-1 and 2 more"), (["", "", "x"], 2, None), (["web-a", "", ""], 3, "web-a and 2 more"),
+        (["web eu-west-1a", "web eu-west-1b"], 2, "web eu-west"), (["10", "11"], 2, "10 and 11"),
+    ):
+        bundle = named_bundle(names)
+        bundle["NetworkInterfaces"].append({"NetworkInterfaceId": "eni-other", "Groups": [{"GroupId": "sg-a"}], "SubnetId": "subnet-1", "VpcId": "vpc-1"})
+        ids = [it["NetworkInterfaceId"] for it in bundle["NetworkInterfaces"]]
+        results.add(f"the name of {count} of {names}", picture_classes.Namer(Names([bundle]), ids).name(ids[:count]), wanted)
+    alone = named_bundle(["", ""], Description="ELB app/shop/50dc6c495c0c9188")
+    ids = [it["NetworkInterfaceId"] for it in alone["NetworkInterfaces"]]
+    results.add("the name of a load balancer's", picture_classes.Namer(Names([alone]), ids).name(ids), "ELB app/shop/50dc6c495c0c9188")
+    path = os.path.join(folder, "mixed.json")
+    bundle = named_bundle(["web-a", "app-a", "db-a", "cache-a", "lb-a"])
+    with open(path, "w", encoding="utf-8") as file:
+        json.dump(bundle, file)
+    ids = [it["NetworkInterfaceId"] for it in bundle["NetworkInterfaces"]]
+    rows = [row_text(it, "eni-z", "6-6", f"10.0.1.{k}-10.0.1.{k}", OTHER, "443-443") for k, it in enumerate(ids)]
+    svg = check_picture(results, "mixed hosts", reach_of(rows), "--names", path, names=json.dumps(bundle))
+    runs = [it.text for it in svg.iter(SVG + "tspan")]
+    results.add("mixed hosts", ("app-a, cache-a and 3 more" in runs, "5 interfaces" in runs, "Primary" in " ".join(words_of(svg))), (True, True, False))
+
+
+def run_title(results, folder):
+    title = "Before the move <1> & after it, " * 4
+    for name, text in TEXTS:
+        svg = check_picture(results, f"{name}, with a title", text, "--title", title, names=json.dumps(title))
+        told = svg.find(SVG + "title").text
+        plain = xml.fromstring(picture(text)[1])
+        above = [it for it in text_boxes(svg) if it[4] <= 24]
+        results.add(f"{name}, with a title", (told, " ".join(it[0] for it in above)), (f"{title.strip()}: {plain.find(SVG + 'title').text}", title.strip()))
+
+
+# ---- many hosts
+
+def tiers_text(hosts, is_change):
+    """Ten tiers of hosts, each of which reaches the next two by a port of its own; in each the first has one port more."""
+    ids = [f"eni-{k:017x}" for k in range(hosts)]
+    tiers = [ids[k * hosts // 10 : (k + 1) * hosts // 10] for k in range(10)]
+    own = {it: f"10.0.{k >> 8}.{k & 255}-10.0.{k >> 8}.{k & 255}" for k, it in enumerate(ids)}
+    told = "{} opened {} request GroupsIn {} - " if is_change else "{} {} "
+    lines = [told.format("internet", tiers[0][0], tiers[0][0]) + f"6-6 {it} {own[tiers[0][0]]} 0-65535 443-443" for it in OFFICES]
+    for k, step in itertools.product(range(10), (1, 2)):
+        for one, other in itertools.product(tiers[k], tiers[(k + step) % 10]):
+            for port in (5000 + k, *([22] if one == tiers[k][0] else [])):
+                lines.append(told.format(one, other, other) + f"6-6 {own[one]} {own[other]} 0-65535 {port}-{port}")
+    lines = lines[:20_000]
+    kind = "vpc-diff 1" if is_change else "vpc-reach 1"
+    return "\n".join([kind, "query", *(f"row {k} {it}" for k, it in enumerate(lines, 1)), f"end {len(lines)}", ""])
+
+
+def run_many(results, folder):
+    """300 and 500 hosts are seen at once where a bundle tells their parts; whatever they are folded by, each is counted. Tall boxes repeat their names."""
+    path = os.path.join(folder, "many.json")
+    for hosts, is_change in itertools.product((300, 500), (False, True)):
+        text = tiers_text(hosts, is_change)
+        bundle = parts_bundle(text, hosts // 10)
+        with open(path, "w", encoding="utf-8") as file:
+            json.dump(bundle, file)
+        name = f"{hosts} hosts of {'diff' if is_change else 'reach'}"
+        for words in ([], ["--by", "group"], ["--by", "subnet"], ["--by", "vpc"]):
+            svg = check_picture(results, f"{name} {words}", text, "--names", path, *words, names=json.dumps(bundle))
+            results.add(f"{name} {words}: at once", words == ["--by", "group"] or float(svg.get("height")) <= picture_ways.SCREEN + 24, True)
+            shown_words = [it.text for it in svg.iter(SVG + "tspan")]
+            count = len(set(re.findall(r"\beni-[0-9a-f]+", text)))
+            by = f" by {words[1].replace('vpc', 'VPC')}" if words else ""
+            results.add(f"{name} {words}: by", any(it.startswith(f"{count} interfaces{by}") for it in shown_words), True)
+        if not is_change:
+            svg = check_picture(results, f"{name} by host", text, "--names", path, "--by", "host", names=json.dumps(bundle))
+            results.add(f"{name} by host: no part", [it.text for it in svg.iter(SVG + "tspan") if " interfaces by " in it.text], [])
+    rows = [row_text("eni-a", f"eni-b{k}", "6-6", OWN, OTHER, f"{k}-{k}") for k in range(4)]
+    svg = check_picture(results, "a tall box", reach_of(rows))
+    results.add("a tall box repeats its name", [it.text for it in svg.iter(SVG + "text") if float(it.get("x")) < 200].count("eni-a"), 4)
+    matrix = matrix_text(9, 300, 90)
+    bundle = parts_bundle(matrix, 26)
+    with open(path, "w", encoding="utf-8") as file:
+        json.dump(bundle, file)
+    for words, wanted in (([], "12 groups"), (["--by", "subnet"], "6 subnets"), (["--by", "vpc"], "3 VPCs"), (["--by", "host"], "classes")):
+        svg = check_picture(results, f"a matrix of 300 {words}", matrix, "--names", path, *words, names=json.dumps(bundle))
+        results.add(f"a matrix of 300 {words}", wanted in svg.find(SVG + "title").text, True)
+        if wanted != "classes":
+            results.add(f"a matrix of 300 {words}: at once", float(svg.get("height")) <= 1.1 * picture_ways.SCREEN, True)
 
 
 # ---- large ones
@@ -581,11 +876,14 @@ def main(words):
         run_refused(results)
         run_words(results, folder)
         run_page(results, folder)
+        run_told(results, folder)
+        run_many(results, folder)
+        run_ways(results, folder)
     run_classes(results)
+    run_chips(results)
     for seed, hosts, kinds in ((1, 1, 1), (2, 2, 2), (3, 12, 4), (4, 40, 40), (5, 80, 70), (6, 120, 8)):
         run_matrix(results, seed, hosts, kinds)
     run_planes(results)
-    run_ways(results)
     run_large(results)
     if words:
         run_answers(results, os.path.abspath(words[0]))
