@@ -271,17 +271,18 @@ class Teller:
         )
         return Region(sports, sources, destinations)
 
+    def head(self, chip: Chip, most: int) -> str:
+        """A chip's protocols and ports, those that are too many counted."""
+        if not chip.ports:
+            return chip.name
+        ports = ports_words(chip.ports, most)
+        return f"{chip.name}, all ports" if chip.ports == ALL_PORTS else f"{chip.name} {ports}"
+
     def words(self, chip: Chip, more: str, room: float) -> str:
         """A chip in words that are no wider, with more behind it: as many ports as there is room
         for."""
         behind = self.region(chip.region).words() + more
-        if not chip.ports:
-            return chip.name + behind
-        if chip.ports == ALL_PORTS:
-            return f"{chip.name}, all ports{behind}"
-        tries = [
-            f"{chip.name} {ports_words(chip.ports, most)}{behind}"
-            for most in range(min(len(chip.ports), 12), 0, -1)
-        ]
-        fitting = (it for it in tries if width_of(it, CHIP_SIZE, True) + 15 <= room)
+        counts = range(min(len(chip.ports), 12) or 1, 0, -1)
+        tries = [self.head(chip, most) + behind for most in counts]
+        fitting = (it for it in tries if width_of(it, CHIP_SIZE, True) + 16 <= room)
         return next(fitting, tries[-1])

@@ -3,7 +3,7 @@
 from __future__ import annotations
 
 import itertools
-from collections.abc import Hashable, Iterable, Mapping, Sequence
+from collections.abc import Hashable, Iterable, Iterator, Mapping, Sequence
 from typing import NamedTuple, Optional, Union
 
 from scripts.bundles import Names
@@ -11,7 +11,9 @@ from scripts.headers import Box, Range, dotted
 from scripts.picture_canvas import (
     GAP, MARGIN, Drawing, Run, first_of, grouped, number, shortened, width_of, wrapped,
 )
-from scripts.picture_chips import SEPARATOR, Chip, Part, Teller, chip_order, merged
+from scripts.picture_chips import (
+    ALL_PORTS, SEPARATOR, Chip, Part, Teller, chip_order, merged,
+)
 from scripts.picture_classes import (
     BY, KINDS, Label, Namer, Unit, fold, label_of_ids, label_of_units, natural, units_of,
 )
@@ -124,13 +126,15 @@ class Pairs:
 
 def pooled(signs: Iterable[Sign]) -> dict[tuple[Chip, Note], int]:
     """What is told of several pairs of ends, each with how many of them it is told of: ports are
-    together that the same pairs have."""
+    together that the same pairs have. Pairs that have all ports are told apart."""
     of: dict[tuple[str, int, Note], dict[tuple[Range, ...], int]] = {}
-    for sign in signs:
-        for chip, note in sign:
+    found: dict[tuple[Chip, Note], int] = {}
+    for chip, note in itertools.chain.from_iterable(signs):
+        if chip.ports in ((), ALL_PORTS):
+            found[chip, note] = found.get((chip, note), 0) + 1
+        else:
             counts = of.setdefault((chip.name, chip.region, note), {})
             counts[chip.ports] = counts.get(chip.ports, 0) + 1
-    found: dict[tuple[Chip, Note], int] = {}
     for (name, region, note), counts in of.items():
         for ports, count in shared_ports(counts):
             found[Chip(name, ports, region), note] = count
@@ -139,7 +143,7 @@ def pooled(signs: Iterable[Sign]) -> dict[tuple[Chip, Note], int]:
 
 def shared_ports(counts: Mapping[tuple[Range, ...], int]) -> list[tuple[tuple[Range, ...], int]]:
     """Ports by which of several lists of ports they are in, with the sum of the lists' counts."""
-    if len(counts) == 1 or () in counts:
+    if len(counts) == 1:
         return list(counts.items())
     changes: dict[int, int] = {}
     for k, ports in enumerate(counts):
@@ -296,9 +300,7 @@ class Way:
         room = middle - self.beside()
         told = first_of(path.notes, 4)
         self.notes = [it for one in told for it in wrapped(one, room, 10.5, True)]
-        regions = dict.fromkeys(it.region for it, _ in path.chips)
-        details = [it for one in regions for it in teller.region(one).details()]
-        self.details = [detail_line(*it, middle) for it in details[:2]]
+        self.details = list(details_of([it for it, _ in path.chips], teller, middle))[:3]
         own = " ".join(first_of(path.own, 6))
         self.details += wrapped(own, middle, 10, True) if own else []
         scratch = Drawing(0)
@@ -332,6 +334,18 @@ class Way:
         drawing.lines(left + 24, bottom, self.details, 10, "soft", True, leading=1.3)
         height = box_height(self.label)
         draw_node(drawing, self.label, right, line - height / 2, height)
+
+
+def details_of(chips: Sequence[Chip], teller: Teller, room: float) -> Iterator[str]:
+    """How many addresses the regions of chips hold that have several ranges, each after a chip that
+    has it where there are more regions."""
+    regions: dict[int, Chip] = {}
+    for it in chips:
+        regions.setdefault(it.region, it)
+    for region, chip in regions.items():
+        head = f"{teller.head(chip, 2)}: " if len(regions) > 1 else ""
+        for count, ranges in teller.region(region).details():
+            yield detail_line(head + count, ranges, room)
 
 
 def detail_line(count: str, ranges: list[str], room: float) -> str:
