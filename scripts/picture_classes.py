@@ -184,6 +184,11 @@ def part_key(names: Names, by: str, it: str) -> str:
     return told[by] or it
 
 
+def part_name(names: Names, key: str) -> str:
+    """What a part is called, by the names of its groups."""
+    return " + ".join(map(names.called, key.split(" + ")))
+
+
 class Unit(NamedTuple):
     """An end, or the ends of a part of a network, as it is called."""
 
@@ -196,10 +201,7 @@ def units_of(names: Names, by: str, ids: Iterable[str]) -> list[Unit]:
     found: dict[str, list[str]] = {}
     for it in ids:
         found.setdefault(part_key(names, by, it), []).append(it)
-    units = [
-        Unit(" + ".join(map(names.called, key.split(" + "))), tuple(of))
-        for key, of in found.items()
-    ]
+    units = [Unit(part_name(names, key), tuple(of)) for key, of in found.items()]
     return sorted(units, key=lambda it: (it.name != "internet", natural(it.name)))
 
 

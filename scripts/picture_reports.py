@@ -14,6 +14,7 @@ from scripts.picture_canvas import (
     MARGIN, PALETTE, UNKNOWN, Drawing, Run, beside_or_below, flowed, grouped, number,
     width_of, width_of_runs, wrapped,
 )
+from scripts.picture_classes import part_key, part_name
 from scripts.picture_walks import draw_ends, is_unknown
 from scripts.texts import Report, ReportRow
 from scripts.words import PROTOCOLS, SIDES, counted
@@ -420,20 +421,37 @@ class Legend:
 
     def draw_together(self, reason: Reason, x: float, top: float) -> float:
         """The components of a reason behind each other, each with how many rows it has."""
-        of = self.reasons.components[reason]
-        most = sorted(of, key=lambda it: -of[it])[:MOST_COMPONENTS]
-        told = []
-        for component, rule in [it for it in of if it in set(most)]:
-            count = f"\u00d7{grouped(of[component, rule])}"
-            name = self.names.of(component)
-            words = [component, name, "" if rule == "-" else rule, count]
-            told.append(" ".join(filter(None, words)))
-        if len(of) > len(most):
-            rows = sum(of.values()) - sum(of[it] for it in most)
-            more = f"and {grouped(len(of) - len(most))} more"
-            told.append(f"{more}, {counted(rows, 'row')}")
-        lines = flowed(told, self.width - 26, 10.5, ",")
+        told = self.together(reason)
+        most = sorted(told, key=lambda it: -it[1])[:MOST_COMPONENTS]
+        words = [f"{it[0]} \u00d7{grouped(it[1])}" for it in told if it in most]
+        if len(told) > len(most):
+            rows = sum(count for _, count in told) - sum(count for _, count in most)
+            words.append(f"and {grouped(len(told) - len(most))} more, {counted(rows, 'row')}")
+        lines = flowed(words, self.width - 26, 10.5, ",")
         return self.drawing.lines(x + 26, top, lines, 10.5, "ink", True, leading=1.4)
+
+    def together(self, reason: Reason) -> list[tuple[str, int]]:
+        """The components of a reason, each with its rows. Where they are very many, interfaces of
+        one group are told together, or of what was asked for."""
+        of, by = self.reasons.components[reason], self.names.by or "group"
+        if len(of) <= MOST_COMPONENTS:
+            by = "host"
+        parts: dict[Component, list[Component]] = {}
+        for it, rule in of:
+            parts.setdefault((part_key(self.names, by, it), rule), []).append((it, rule))
+        found = []
+        for (key, rule), held in parts.items():
+            words = [*component_words(self.names, *held[0])]
+            if len(held) > 1:
+                name = part_name(self.names, key)
+                words = [name, counted(len(held), "interface"), "" if rule == "-" else rule]
+            found.append((" ".join(filter(None, words)), sum(of[it] for it in held)))
+        return found
+
+
+def component_words(names: Names, component: str, rule: str) -> list[str]:
+    """A component, its name and its rule."""
+    return [component, names.of(component) or "", "" if rule == "-" else rule]
 
 
 def verdict_of(report: Report) -> tuple[str, str]:

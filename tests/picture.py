@@ -787,6 +787,15 @@ def run_many(results, folder):
     rows = [row_text("eni-a", f"eni-b{k}", "6-6", OWN, OTHER, f"{k}-{k}") for k in range(4)]
     svg = check_picture(results, "a tall box", reach_of(rows))
     results.add("a tall box repeats its name", [it.text for it in svg.iter(SVG + "text") if float(it.get("x")) < 200].count("eni-a"), 4)
+    boxes = [f"10.0.{k >> 8}.{k & 255}-10.0.{k >> 8}.{k & 255}" for k in range(300)]
+    lines = [f"row {k} request GroupsIn eni-{k:017x} - 6-6 {OWN} {it} 0-65535 443-443" for k, it in enumerate(boxes, 1)]
+    report = "\n".join(["vpc-report 1", "query from eni-a to internet", f"box 6-6 {OWN} 10.0.0.0-10.0.1.43 0-65535 443-443", *lines, "end 300", ""])
+    bundle = parts_bundle(report.replace("from eni-a", ""), 100)
+    with open(path, "w", encoding="utf-8") as file:
+        json.dump(bundle, file)
+    svg = check_picture(results, "a report about 300 hosts", report, "--names", path, names=json.dumps(bundle))
+    told = " ".join(it.text for it in svg.iter(SVG + "text") if it.text)
+    results.add("a report about 300 hosts", re.findall(r"tier \d \d+ interfaces \u00d7\d+", told), [f"tier {k} 100 interfaces \u00d7100" for k in range(3)])
     matrix = matrix_text(9, 300, 90)
     bundle = parts_bundle(matrix, 26)
     with open(path, "w", encoding="utf-8") as file:
