@@ -169,7 +169,8 @@ STYLE = """
 .purple-ink{fill:#8f3f6c}.blue-ink{fill:#005b8e}
 .green-line{fill:none;stroke:#009e73}.red-line{fill:none;stroke:#d55e00}\
 .orange-line{fill:none;stroke:#e69f00}.purple-line{fill:none;stroke:#cc79a7}
-.blue-line{fill:none;stroke:#0072b2}.grey-line{fill:none;stroke:#8b949e}.gap{fill:none;stroke:#ffffff}
+.blue-line{fill:none;stroke:#0072b2}.grey-line{fill:none;stroke:#8b949e}\
+.gap{fill:none;stroke:#ffffff}
 .green-tint{fill:#d9f1e9}.red-tint{fill:#fae3d3}.orange-tint{fill:#fdf0d2}\
 .purple-tint{fill:#f7e6ef}.blue-tint{fill:#d9eaf5}.grey-tint{fill:#eaeef2}
 .s{font-family:system-ui,-apple-system,"Segoe UI",Roboto,"Helvetica Neue",Arial,"DejaVu Sans",\

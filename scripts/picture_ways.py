@@ -272,19 +272,24 @@ class Folded:
             boxes = [it.box for it in self.pairs.rows[keys[0]]]
             own = dict.fromkeys(it for box in boxes for it in own_words(box, start, end))
         from_units, to_units = ([self.units[it] for it in sorted(of)] for of in (starts, ends))
+        # (from or to one end its pairs are the others)
+        is_one = any(sum(len(it.ids) for it in of) == 1 for of in (from_units, to_units))
+        what = "interface" if is_one else "pair"
+        whole = size * (not self.pairs.is_cut)
         told = [
-            (it, "" if count >= size else told_pairs(count, size * (not self.pairs.is_cut)))
+            (it, "" if count >= size else told_pairs(count, whole, what))
             for it, count in chips.items()
         ]
         rows = self.pairs.count(keys)
         return Path(word, from_units, to_units, told, list(notes), list(own), rows)
 
 
-def told_pairs(count: int, size: int) -> str:
+def told_pairs(count: int, size: int, what: str) -> str:
     """How many pairs of ends have what a chip tells, of how many there are; 0 where that isn't
     known."""
-    of = f"of {counted(size, 'pair')}" if size else "pair" + "s" * (count != 1)
-    return f"{SEPARATOR}{grouped(count)} {of}"
+    if not size:
+        return f"{SEPARATOR}{counted(count, what)}"
+    return f"{SEPARATOR}{grouped(count)} of {counted(size, what)}"
 
 
 # ---- drawing

@@ -568,7 +568,7 @@ def wrong_of(told, by, names):
         for chip, words in path.chips:
             for port in {it for ends in chip.ports for it in ends}:
                 count = sum(any(it.box[4][0] <= port <= it.box[4][1] for it in found) for found in of.values())
-                said = re.match(r" \u00b7 ([\d,]+) (?:of ([\d,]+) )?pairs?$", words)
+                said = re.match(r" \u00b7 ([\d,]+) (?:of ([\d,]+) )?(?:pair|interface)s?$", words)
                 numbers = [int(it.replace(",", "")) for it in said.groups() if it] if said else [sum(sizes)]
                 if numbers[0] != count or numbers[1:] not in ([], [sum(sizes)]):
                     wrong.append((chip, words, count))
