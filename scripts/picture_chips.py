@@ -13,9 +13,9 @@ from scripts.picture_canvas import grouped, width_of
 from scripts.words import PROTOCOLS, counted
 
 # Of a row the protocols, destination ports, source ports, sources and destinations; None stands for
-# all that were asked about, or for the own address of an end.
-Part = tuple[Range, Range, Optional[Range], Optional[Range], Optional[Range]]
-Sides = tuple[Optional[Range], Optional[Range], Optional[Range]]
+# the own address of an end.
+Part = tuple[Range, Range, Range, Optional[Range], Optional[Range]]
+Sides = tuple[Range, Optional[Range], Optional[Range]]
 PING = ((ECHO_REQUEST, ECHO_REQUEST),)
 PRIME = (1 << 61) - 1
 CHIP_SIZE = 11
@@ -24,7 +24,7 @@ SEPARATOR = " \u00b7 "
 
 class Chip(NamedTuple):
     """What the protocols are called, their ports, and which addresses and source ports they have:
-    the same number for the same ones, 1 for all."""
+    the same number for the same ones."""
 
     name: str
     ports: tuple[Range, ...]
@@ -34,9 +34,9 @@ class Chip(NamedTuple):
 class Asked(NamedTuple):
     """What a query asked about: the sides that rows don't tell again."""
 
+    sport: Range
     src: Range
     dst: Range
-    sport: Range
 
 
 def asked_of(query: str) -> Asked:
@@ -44,7 +44,7 @@ def asked_of(query: str) -> Asked:
     pairs = dict(zip(words[::2], words[1::2]))
     src, dst = (addresses_of(pairs.get(it, "0.0.0.0/0")) for it in ("src", "dst"))
     first, _, last = pairs.get("sport", "0-65535").partition("-")
-    return Asked(src, dst, (int(first), int(last)))
+    return Asked((int(first), int(last)), src, dst)
 
 
 def addresses_of(prefix: str) -> Range:
@@ -244,11 +244,7 @@ class Teller:
         protocols, src, dst, sports, ports = box
         own_src = start != "internet" and src[0] == src[1]
         own_dst = end != "internet" and dst[0] == dst[1]
-        return (
-            protocols, ports, None if sports == self.asked.sport else sports,
-            None if own_src or src == self.asked.src else src,
-            None if own_dst or dst == self.asked.dst else dst,
-        )
+        return protocols, ports, sports, None if own_src else src, None if own_dst else dst
 
     def chips(self, rows: frozenset[Part]) -> tuple[Chip, ...]:
         if rows not in self.known:
@@ -265,11 +261,11 @@ class Teller:
             it[2:] for it in rows
             if it[0][0] <= proto <= it[0][1] and it[1][0] <= port <= it[1][1]
         ]
-        sports, sources, destinations = (
-            () if None in side else merged(it for it in side if it is not None)
-            for side in zip(*sides)
-        )
-        return Region(sports, sources, destinations)
+        found = []
+        for side, asked in zip(zip(*sides), self.asked):
+            ranges = () if None in side else merged(it for it in side if it is not None)
+            found.append(() if ranges == (asked,) else ranges)
+        return Region(*found)
 
     def head(self, chip: Chip, most: int) -> str:
         """A chip's protocols and ports, those that are too many counted."""

@@ -616,13 +616,14 @@ def run_chips(results):
         for src, low in itertools.product(range(0, rng.choice([2, 6]), 2), range(0, 60, 20)):
             for protocols in rng.sample(PROTOCOLS, rng.randint(1, 7)):
                 ports = (2048, 2048) if protocols == (1, 1) else rng.choice([(0, 65535), (low, low + rng.choice([4, 19]))])
-                rows.append((protocols, ports, None, (src, src + 1), None))
+                rows.append((protocols, ports, (0, 65535), (src, src + 1), None))
         # (rows of one port twice would not be disjoint)
         rows = [it for k, it in enumerate(rows) if not any(it[0] == of[0] and it[3] == of[3] and it[1][0] <= of[1][1] and of[1][0] <= it[1][1] for of in rows[:k])]
         teller, cut = picture_chips.Teller("query"), []
-        for protocols, (first, last), *sides in rows:
-            at = rng.randint(first, last)
-            cut += [(protocols, it, *sides) for it in ((first, at), (at + 1, last)) if it[0] <= it[1]]
+        for protocols, (first, last), sports, src, dst in rows:
+            at, sport = rng.randint(first, last), rng.randint(0, 65534)
+            cut += [(protocols, (first, at), it, src, dst) for it in ((0, sport), (sport + 1, 65535))]
+            cut += [(protocols, (at + 1, last), sports, src, dst)] * (at < last)
         chips = teller.chips(frozenset(rows))
         results.add(f"chips of rows that are cut, {case}", picture_chips.Teller("query").chips(frozenset(cut)), chips)
         wrong = []
@@ -655,6 +656,7 @@ CHIPS = [
     ("ranges that ports share", [row_text("internet", "eni-a", "6-6", it, OWN, port) for it in OFFICES for port in ("443-443", "22-22")], ["tcp 22, 443 \u00b7 10 source ranges"]),
     ("ranges of each port", [row_text("internet", "eni-a", "6-6", it, OWN, "443-443") for it in OFFICES] + [row_text("internet", "eni-a", "6-6", OFFICES[0], OWN, "22-22")],
      ["tcp 22 \u00b7 src 198.51.100.0/28", "tcp 443 \u00b7 10 source ranges"]),
+    ("source ports that make up all", [f"eni-a eni-b 6-6 {OWN} {OTHER} {it} 80-80" for it in ("0-1023", "1024-65535")], ["tcp 80"]),
     ("ports that touch", [row_text("eni-a", "eni-b", "6-6", OWN, OTHER, it) for it in ("8000-8010", "8011-8020", "22-22")], ["tcp 22, 8000-8020"]),
     ("all protocols", [row_text("eni-a", "eni-b", it, OWN, OTHER, port) for it, port in (("0-0", "0-65535"), ("1-1", "2048-2048"), ("2-255", "0-65535"))], ["all protocols"]),
     ("ping", [row_text("eni-a", "eni-b", "1-1", OWN, OTHER, "2048-2048")], ["ping"]),
