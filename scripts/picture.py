@@ -53,7 +53,7 @@ OWN_WORDS = (
     "place part not told known any more is isn't drawn and of by pieces class classes group groups "
     "subnet subnets VPC VPCs interface interfaces pair pairs open blocked opened closed moved "
     "reachable reached before now from to packet hop box next cells What Who reaches whom Nothing "
-    "gets get through opens closes moves or"
+    "gets get through opens closes moves or +"
 ).split()
 DRAWN = ("trace", "ask", "matrix", "reach", "diff")
 DRAWERS: dict[Any, Callable[[Any, Names, str], tuple[Drawing, str, str]]] = {

@@ -12,7 +12,7 @@ from scripts.picture_canvas import (
     GAP, MARGIN, Drawing, Run, first_of, grouped, number, shortened, width_of, wrapped,
 )
 from scripts.picture_chips import (
-    ALL_PORTS, SEPARATOR, Chip, Part, Teller, chip_order, merged,
+    ALL_PORTS, SEPARATOR, Chip, Part, Teller, chip_order, mark, merged,
 )
 from scripts.picture_classes import (
     BY, KINDS, Label, Namer, Unit, fold, label_of_ids, label_of_units, natural, units_of,
@@ -35,6 +35,8 @@ WIDTH, NODE = 1120, 288
 # How high a picture is that is seen at once.
 SCREEN = 1040
 BETWEEN, APART = 8, 10
+# What lists of ports are numbered by, which sides aren't.
+LISTS = -1
 # What stops a packet in one of two networks, or where it comes in the other; empty of reach.
 Note = tuple[str, ...]
 # What is told of two ends: chips with their notes.
@@ -145,21 +147,19 @@ def shared_ports(counts: Mapping[tuple[Range, ...], int]) -> list[tuple[tuple[Ra
     """Ports by which of several lists of ports they are in, with the sum of the lists' counts."""
     if len(counts) == 1:
         return list(counts.items())
-    changes: dict[int, int] = {}
-    for k, ports in enumerate(counts):
-        for at in (it for first, last in ports for it in (first, last + 1)):
-            changes[at] = changes.get(at, 0) ^ 1 << k
-    parts: dict[int, list[Range]] = {}
-    lists, begun = 0, 0
+    changes: dict[int, list[tuple[int, int]]] = {}
+    for k, (ports, count) in enumerate(counts.items()):
+        for first, last in ports:
+            changes.setdefault(first, []).append((mark(LISTS, k), count))
+            changes.setdefault(last + 1, []).append((mark(LISTS, k), -count))
+    parts: dict[int, tuple[int, list[Range]]] = {}
+    lists, count, begun = 0, 0, 0
     for at in sorted(changes):
-        if lists:
-            parts.setdefault(lists, []).append((begun, at - 1))
-        lists, begun = lists ^ changes[at], at
-    sizes = list(counts.values())
-    return [
-        (merged(ranges), sum(it for k, it in enumerate(sizes) if lists >> k & 1))
-        for lists, ranges in parts.items()
-    ]
+        if count:
+            parts.setdefault(lists, (count, []))[1].append((begun, at - 1))
+        for number_of_list, change in changes[at]:
+            lists, count, begun = lists ^ number_of_list, count + change, at
+    return [(merged(ranges), count) for count, ranges in parts.values()]
 
 
 # ---- what is alike
@@ -305,7 +305,8 @@ class Way:
         room = middle - self.beside()
         told = first_of(path.notes, 4)
         self.notes = [it for one in told for it in wrapped(one, room, 10.5, True)]
-        self.details = list(details_of([it for it, _ in path.chips], teller, middle))[:3]
+        shown = [it for it, _ in path.chips[:MOST_CHIPS]]
+        self.details = list(details_of(shown, teller, middle))[:3]
         own = " ".join(first_of(path.own, 6))
         self.details += wrapped(own, middle, 10, True) if own else []
         scratch = Drawing(0)
