@@ -71,16 +71,16 @@ def mark(side: int, value: int) -> int:
     return pow(hash((side, value, 19)), 3, PRIME)
 
 
+@functools.lru_cache(100_000)
 def measure(side: int, ends: Optional[Range]) -> int:
     """A number of a range. Those of two that touch make up that of both, so what adds up to the
     same holds the same, but for chance."""
     return 1 if ends is None else (mark(side, ends[1] + 1) - mark(side, ends[0])) % PRIME
 
 
-@functools.lru_cache(100_000)
 def weight(sides: Sides) -> int:
-    numbers = (measure(side, it) for side, it in enumerate(sides))
-    return functools.reduce(lambda one, other: one * other % PRIME, numbers)
+    sport, src, dst = sides
+    return measure(0, sport) * measure(1, src) % PRIME * measure(2, dst) % PRIME
 
 
 def port_runs(rows: Sequence[Part]) -> list[tuple[Range, int]]:
