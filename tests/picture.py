@@ -389,8 +389,8 @@ def run_facts(results, folder):
     results.add("its checksum", facts_in(out).get("SHA-256"), f"<code>{hashlib.sha256(data).hexdigest()}</code>")
     told = subprocess.run([os.path.join(TOP, "explain"), SHOP], input=UNSENT.encode(), capture_output=True, check=True).stdout.decode()
     results.add("its sentences", re.findall('<pre class="told">(.*?)</pre>', out, re.S), [html.escape(told.rstrip("\n"))])
-    status, out, err = picture(UNSENT.replace("10.0.1.99", "10.0.1.10"), "--html", "--names", SHOP)
-    results.add("no sentences of what isn't true", (status, "No sentences: the text can't be told of: line 1 isn't true of the bundle." in html.unescape(out)), (0, True))
+    status, out, err = picture(UNSENT.replace("eni-web", "eni-none"), "--html", "--names", SHOP)
+    results.add("no sentences of another bundle's text", (status, "No sentences: the text can't be told of: eni-none is no interface of the bundle." in html.unescape(out)), (0, True))
     status, out, err = picture(UNSENT, "--html")
     results.add("no sentences without a bundle", (status, 'class="told"' in out or "No sentences" in out), (0, False))
 
