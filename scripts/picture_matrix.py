@@ -44,12 +44,11 @@ class Folded:
     """A matrix by classes: exact where these are few, else without its ports, and what is still too
     much is one class of others. By parts of the network each of these is a class."""
 
-    def __init__(self, matrix: Matrix, parts: Sequence[Sequence[str]] = ()) -> None:
-        self.matrix = matrix
-        self.classes = [Class(number, [*ids]) for number, ids in enumerate(parts, 1)]
-        if not parts:
-            self.classes = fold(matrix.ids, matrix.pairs)
-        self.exact = len(self.classes)
+    def __init__(
+        self, matrix: Matrix, classes: Sequence[Class[str]], parts: Sequence[Sequence[str]] = ()
+    ) -> None:
+        self.matrix, self.exact = matrix, len(classes)
+        self.classes = [Class(number, [*ids]) for number, ids in enumerate(parts, 1)] or [*classes]
         if len(self.classes) > MOST_CLASSES and not parts:
             self.classes = fold(matrix.ids, self.without_ports())
         if len(self.classes) > MOST_CLASSES:
@@ -116,12 +115,12 @@ def cell_words(values: dict[int, Value], counts: Counts, most: int) -> list[str]
     return words
 
 
-def parts_of(matrix: Matrix, names: Names) -> tuple[str, list[Unit]]:
+def parts_of(matrix: Matrix, names: Names, classes: int) -> tuple[str, list[Unit]]:
     """What the interfaces are folded by, and the parts: what was asked for, or whatever has few
     parts where there are too many classes."""
     if names.by:
         return names.by, units_of(names, names.by, matrix.ids) if names.by != "host" else []
-    if not names.homes or len(fold(matrix.ids, matrix.pairs)) <= SEEN_AT_ONCE:
+    if not names.homes or classes <= SEEN_AT_ONCE:
         return "host", []
     found = ((by, units_of(names, by, matrix.ids)) for by in BY[1:])
     return next((it for it in found if len(it[1]) <= SEEN_AT_ONCE), ("host", []))
@@ -130,7 +129,10 @@ def parts_of(matrix: Matrix, names: Names) -> tuple[str, list[Unit]]:
 def labels_of(folded: Folded, by: str, units: list[Unit], namer: Namer) -> list[Label]:
     """How the classes are told: the more there are, the shorter."""
     if units:
-        return [label_of_units(by, [it], LABEL) for it in units]
+        numbered = {it.number for it in folded.classes}
+        others = [it for number, it in enumerate(units, 1) if number not in numbered]
+        shown = [[units[it.number - 1]] if it.number else others for it in folded.classes]
+        return [label_of_units(by, it, LABEL) for it in shown]
     count = len(folded.classes)
     most = 6 if count <= 6 else 2 if count <= 10 else 0
     ordered = [sorted(it.ids, key=namer.order) for it in folded.classes]
@@ -138,8 +140,9 @@ def labels_of(folded: Folded, by: str, units: list[Unit], namer: Namer) -> list[
 
 
 def draw_matrix(matrix: Matrix, names: Names, drawing_name: str) -> tuple[Drawing, str, str]:
-    namer, (by, units) = Namer(names, matrix.ids), parts_of(matrix, names)
-    folded = Folded(matrix, [it.ids for it in units])
+    namer, classes = Namer(names, matrix.ids), fold(matrix.ids, matrix.pairs)
+    by, units = parts_of(matrix, names, len(classes))
+    folded = Folded(matrix, classes, [it.ids for it in units])
     if not units:
         folded.order(namer)
     count = len(folded.classes)
@@ -147,7 +150,8 @@ def draw_matrix(matrix: Matrix, names: Names, drawing_name: str) -> tuple[Drawin
     width = 2 * MARGIN + LABELS + grid.size * count
     drawing = Drawing(max(width, 700), drawing_name)
     summary = counted(len(matrix.ids), "interface")
-    summary += f" in {counted(count, *KINDS[by])}" if units else in_classes(folded.exact, count)
+    told = counted(len(units), *KINDS[by]) if units else counted(folded.exact, "class", "classes")
+    summary += f" in {told}" + f", {count} drawn" * (count != (len(units) or folded.exact))
     title = [Run(TITLE, 18, "ink", False, True), Run(summary, 13, "soft")]
     drawing.runs(MARGIN, drawing.bottom + 16, title)
     drawing.bottom += 34
@@ -155,10 +159,6 @@ def draw_matrix(matrix: Matrix, names: Names, drawing_name: str) -> tuple[Drawin
     draw_shades(drawing, totals)
     grid.draw(drawing)
     return drawing, f"{TITLE}: {summary}", matrix_words(grid, totals)
-
-
-def in_classes(exact: int, drawn: int) -> str:
-    return f" in {counted(exact, 'class', 'classes')}" + f", {drawn} drawn" * (drawn != exact)
 
 
 def draw_shades(drawing: Drawing, totals: dict[str, int]) -> None:

@@ -427,7 +427,7 @@ def run_matrix(results, seed, hosts, kinds):
     """Each pair stands in the cell of its classes, with what the text says of it."""
     text = matrix_text(seed, hosts, kinds)
     told = script.read_text(text.encode())
-    folded = picture_matrix.Folded(told)
+    folded = picture_matrix.Folded(told, picture_classes.fold(told.ids, told.pairs))
     at = {it: k for k, row in enumerate(folded.classes) for it in row.ids}
     pairs = {}
     for line in text.splitlines()[1:]:
@@ -800,6 +800,15 @@ def run_many(results, folder):
     results.add("a report about 300 hosts", re.findall(r"tier \d \d+ interfaces \u00d7\d+", told), [f"tier {k} 100 interfaces \u00d7100" for k in range(3)])
     matrix = matrix_text(9, 300, 90)
     bundle = parts_bundle(matrix, 26)
+    with open(path, "w", encoding="utf-8") as file:
+        json.dump(bundle, file)
+    small = parts_bundle(matrix, 5)
+    with open(path, "w", encoding="utf-8") as file:
+        json.dump(small, file)
+    svg = check_picture(results, "a matrix of 60 groups", matrix, "--names", path, "--by", "group", names=json.dumps(small))
+    told = svg.find(SVG + "desc").text
+    counts = [int(it) for it in re.findall(r"class \d+: [^;]*?(\d+) interfaces", told)]
+    results.add("a matrix of 60 groups", (svg.find(SVG + "title").text, len(counts), sum(counts)), ("Who reaches whom: 300 interfaces in 60 groups, 30 drawn", 30, 300))
     with open(path, "w", encoding="utf-8") as file:
         json.dump(bundle, file)
     for words, wanted in (([], "12 groups"), (["--by", "subnet"], "6 subnets"), (["--by", "vpc"], "3 VPCs"), (["--by", "host"], "classes")):
