@@ -2,6 +2,7 @@
 
 from __future__ import annotations
 
+import collections
 import operator
 import random
 import re
@@ -253,13 +254,30 @@ def label_of_ids(namer: Namer, ids: Sequence[str], width: float, most: int = MOS
     return Label(name, count, shown if most or len(ids) == 1 else [], width)
 
 
-def label_of_units(by: str, units: Sequence[Unit], width: float) -> Label:
-    """Parts of a network by their names, with how many there are."""
-    count = sum(len(it.ids) for it in units)
-    interfaces = counted(count, "interface")
-    name = listed([it.name for it in units[: 3 if len(units) == 3 else 2]], len(units))
+def names_of_units(units: Sequence[Unit], among: Sequence[Unit]) -> dict[str, int]:
+    """What parts are called, and how many of them each word stands for: all parts whose names are
+    alike but for a number or a zone have one."""
+    whole = collections.Counter(stem_of(it.name) for it in among)
+    here = collections.Counter(stem_of(it.name) for it in units)
+    found: dict[str, int] = {}
+    for it in units:
+        stem = stem_of(it.name)
+        name = stem if stem and here[stem] == whole[stem] else it.name
+        found[name] = found.get(name, 0) + 1
+    return found
+
+
+def label_of_units(
+    by: str, units: Sequence[Unit], among: Sequence[Unit], width: float
+) -> Label:
+    """Some of the parts of a network by their names, with how many there are."""
     if units[0].name == "internet":
         return Label(None, "", ["internet"], width)
-    if len(units) > 1:
-        interfaces = f"{counted(len(units), *KINDS[by])}, {interfaces}"
-    return Label(name, interfaces, [], width)
+    interfaces = counted(sum(len(it.ids) for it in units), "interface")
+    if len(units) == 1:
+        return Label(units[0].name, interfaces, [], width)
+    names = names_of_units(units, among)
+    shown = [*names][: 3 if len(names) == 3 else 2]
+    left = len(units) - sum(names[it] for it in shown)
+    name = listed(shown, len(shown) + left)
+    return Label(name, f"{counted(len(units), *KINDS[by])}, {interfaces}", [], width)

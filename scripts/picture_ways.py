@@ -383,7 +383,7 @@ class Ways:
     together."""
 
     def __init__(self, folded: Folded, names: Names) -> None:
-        self.teller, self.by = folded.pairs.teller, folded.by
+        self.teller, self.by, self.units = folded.pairs.teller, folded.by, folded.units
         self.namer = Namer(names, folded.pairs.ids)
         self.middle = WIDTH - 2 * MARGIN - 2 * NODE - 48
         self.labels = {
@@ -394,7 +394,7 @@ class Ways:
 
     def label(self, units: list[Unit]) -> Label:
         if self.by != "host":
-            return label_of_units(self.by, units, NODE - 28)
+            return label_of_units(self.by, units, self.units, NODE - 28)
         ids = sorted((it for of in units for it in of.ids), key=self.namer.order)
         return label_of_ids(self.namer, ids, NODE - 28, 2)
 

@@ -704,6 +704,7 @@ def run_told(results, folder):
     told = " ".join(words_of(svg))
     results.add("what closes and isn't known", ([it for it in chips_in(svg, "grey-tint")], "now reply Unmodelled vpce-1 not known" in told, "before request Unmodelled vpce-2 not known" in told), (["tcp 443 \u00b7 sport 0-32767"], True, True))
     run_names(results, folder)
+    run_parts(results)
     run_title(results, folder)
 
 
@@ -737,6 +738,18 @@ def run_names(results, folder):
     svg = check_picture(results, "mixed hosts", reach_of(rows), "--names", path, names=json.dumps(bundle))
     runs = [it.text for it in svg.iter(SVG + "tspan")]
     results.add("mixed hosts", ("app-a, cache-a and 3 more" in runs, "5 interfaces" in runs, "Primary" in " ".join(words_of(svg))), (True, True, False))
+
+
+def run_parts(results):
+    """What parts are called: those that are alike but for a zone by one word, where they are all of them."""
+    among = [picture_classes.Unit(it, (it,)) for it in ("prod-data-a", "prod-data-b", "prod-web-a", "prod-web-b", "prod-web-c", "tools-1", "web", "internet")]
+    for chosen, name, count in (
+        ("prod-data-a", "prod-data-a", "1 interface"), ("prod-data-a prod-data-b", "prod-data", "2 subnets, 2 interfaces"), ("prod-web-a prod-web-b", "prod-web-a and prod-web-b", "2 subnets, 2 interfaces"),
+        ("prod-data-a prod-data-b prod-web-a prod-web-b prod-web-c", "prod-data and prod-web", "5 subnets, 5 interfaces"), ("prod-data-a prod-web-a tools-1 web", "prod-data-a, prod-web-a and 2 more", "4 subnets, 4 interfaces"),
+        ("prod-data-a prod-data-b prod-web-a prod-web-b", "prod-data, prod-web-a and prod-web-b", "4 subnets, 4 interfaces"), ("prod-data-a prod-data-b web", "prod-data and web", "3 subnets, 3 interfaces"),
+    ):
+        label = picture_classes.label_of_units("subnet", [it for it in among if it.name in chosen.split()], among, 200)
+        results.add(f"the name of {chosen}", (label.name, label.count), (name, count))
 
 
 def run_title(results, folder):
