@@ -3,8 +3,8 @@
 
 The words of scripts/words.py are those of the program's sources, and what has a row for each of them has no other and lacks none.
 The scripts are of Python 3.9, of at most 100 columns and of short functions; mypy --strict and ruff, or flake8 where there is no
-ruff, find nothing, and are skipped where they aren't there. Each command starts from any folder, by a link, and in the one file of
-scripts/make-zipapp. The last line is 'N passed, M failed, K skipped'.
+ruff, find nothing, and are skipped where they aren't there. No file of the repository has the marks of a merge that was left half
+done. Each command starts from any folder, by a link, and in the one file of scripts/make-zipapp. The last line is 'N passed, M failed, K skipped'.
 """
 
 import ast
@@ -136,6 +136,19 @@ def run_tools(results, folder):
         results.skip("there is no ruff and no flake8")
 
 
+# ---- files of the repository
+
+
+def run_merges(results):
+    """The marks that git leaves where a merge was left half done: no line begins so, in no file that git keeps."""
+    if not shutil.which("git") or not os.path.exists(os.path.join(TOP, ".git")):
+        results.skip("there is no git, or this is no checkout of it: no marks of merges are looked for")
+        return
+    words = ["git", "-C", TOP, "grep", "-n", "-I", "-E", r"^(<{7}|>{7}|[|]{7}) "]
+    ran = subprocess.run(words, capture_output=True, text=True, check=False)
+    results.add("marks of merges", (ran.returncode, ran.stdout, ran.stderr), (1, "", ""))
+
+
 # ---- how commands start
 
 def called(results, name, command, folder, env=None):
@@ -196,6 +209,7 @@ def main(words_of_call):
     run_words(results)
     run_tables(results)
     run_sources(results)
+    run_merges(results)
     with tempfile.TemporaryDirectory() as folder:
         run_tools(results, os.path.join(folder, "mypy"))
         run_starts(results, folder)
