@@ -313,6 +313,7 @@ def shop():
     groups = {group['GroupId'] for group in told['SecurityGroups']}
     told['SecurityGroupRules'] = [rule for rule in told['SecurityGroupRules'] if rule['GroupId'] in groups]
     told['Reservations'] = kept_instances(told['Reservations'])
+    told['VpcEndpoints'] = [{name: it for name, it in row.items() if name != 'PolicyDocument'} for row in told['VpcEndpoints']]
     return told
 
 

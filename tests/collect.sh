@@ -53,15 +53,19 @@ collect "$collect"
 is 'one account: status' $status 0
 is 'one account: errors' "$(said)" ''
 is 'one account: lists' "$(told 'keys_unsorted | join(" ")')" \
-    'Vpcs Subnets NetworkInterfaces RouteTables PrefixLists NetworkAcls SecurityGroups SecurityGroupRules InternetGateways NatGateways VpcPeeringConnections TransitGatewayVpcAttachments TransitGatewayAttachments Reservations PrefixListEntries TransitGatewayRoutes Collected'
+    'Vpcs Subnets NetworkInterfaces RouteTables PrefixLists NetworkAcls SecurityGroups SecurityGroupRules InternetGateways NatGateways VpcPeeringConnections TransitGatewayVpcAttachments TransitGatewayAttachments TransitGateways VpnGateways VpcEndpoints SecurityGroupVpcAssociations Reservations PrefixListEntries TransitGatewayRoutes Collected'
 for it in vpcs:Vpcs subnets:Subnets network-interfaces:NetworkInterfaces route-tables:RouteTables \
     prefix-lists:PrefixLists network-acls:NetworkAcls security-groups:SecurityGroups \
     internet-gateways:InternetGateways nat-gateways:NatGateways vpc-peering-connections:VpcPeeringConnections \
     transit-gateway-vpc-attachments:TransitGatewayVpcAttachments \
-    transit-gateway-attachments:TransitGatewayAttachments; do
+    transit-gateway-attachments:TransitGatewayAttachments transit-gateways:TransitGateways vpn-gateways:VpnGateways \
+    security-group-vpc-associations:SecurityGroupVpcAssociations; do
     is "rows of ${it#*:}" "$(told ".${it#*:}")" \
         "$(jq -c ".${it#*:}" "$here/account/answers/shop/describe-${it%:*}.json")"
 done
+is 'endpoints, without their policies' "$(told .VpcEndpoints)" \
+    "$(jq -c '.VpcEndpoints | map(del(.PolicyDocument))' "$here/account/answers/shop/describe-vpc-endpoints.json")"
+is 'and they have some' "$(grep -c PolicyDocument "$here/account/answers/shop/describe-vpc-endpoints.json")" 1
 is 'rules of the described groups alone' "$(told '[.SecurityGroupRules[].GroupId] - [.SecurityGroups[].GroupId]')" '[]'
 is 'all rules of these groups' "$(told '.SecurityGroupRules | length')" \
     "$(jq -c --slurpfile out "$room/out" '[.SecurityGroupRules[] | select([.GroupId] - [$out[0].SecurityGroups[].GroupId] == [])] | length' "$here/account/answers/shop/describe-security-group-rules.json")"
@@ -79,6 +83,17 @@ is 'instances' "$(told '.Reservations | map(.Instances | map([.InstanceId, .Stat
     '[[["i-web","running","web-1","eni-web"],["i-app","running","app-1","eni-app"]],[["i-db","running","db-1","eni-db"]]]'
 is 'instances: no more' "$(told '[.Reservations[] | keys, (.Instances[] | keys, (.State, .Tags[], .NetworkInterfaces[] | keys))] | unique')" \
     '[["InstanceId","NetworkInterfaces","State","Tags"],["Instances"],["Key","Value"],["Name"],["NetworkInterfaceId"]]'
+
+# Of instances and interfaces the tags that were asked for, and their Name.
+keys='[.Reservations[].Instances[].Tags[].Key, .NetworkInterfaces[].TagSet[].Key] | unique | join(" ")'
+is 'tags: Name alone' "$(told "$keys")" Name
+collect "$collect" --profile tools --tag Team --tag=Owner
+is 'tags: interfaces' "$status $(told '.NetworkInterfaces[].TagSet | map("\(.Key)=\(.Value)") | join(" ")')" '0 Team=tools Name=tools-1'
+collect "$collect" --tag Team
+is 'tags: instances' "$status $(told '[.Reservations[].Instances[].Tags | map("\(.Key)=\(.Value)") | join(" ")] | join(", ")')" \
+    '0 Team=shop Name=web-1, Team=shop Name=app-1, Team=shop Name=db-1'
+is 'tags: no others go' "$(told '.Vpcs[0].Tags')" "$(jq -c '.Vpcs[0].Tags' "$here/account/answers/shop/describe-vpcs.json")"
+collect "$collect"
 
 # Each call has its line where standard error is no terminal, and survey's lines come last.
 is 'a line for each call' "$(sed -n 's/^collect-bundle: asking //p' "$room/err" | sort)" "$(calls)"
@@ -114,11 +129,43 @@ fi
 # Entries, wrapped, and a note where a table is missing. A list that nothing names is left out.
 collect "$collect" --profile tools
 is 'tools: status' $status 0
+is 'tools: Name alone of tags' "$(told "$keys") $(grep -c Team "$here/account/answers/tools/describe-network-interfaces.json")" 'Name 1'
 is 'tools: entries' "$(told '.PrefixListEntries | map([.PrefixListId, .Entries[].Cidr])')" \
     '[["pl-corp","192.0.2.0/24","198.51.100.0/24"]]'
 is 'tools: no list that nothing names' "$(told .PrefixLists)" '[]'
 is 'tools: note' "$(said)" \
     'collect-bundle: note: no route table is seen of attachment tgw-attach-tools of tgw-hub: what goes there will look blocked. Add a profile of its owner'
+
+# Routes that are filtered are left out.
+collect env FILTERED=1 "$collect"
+is 'filtered routes' "$status $(told '.RouteTables[0].Routes | map(.DestinationCidrBlock) | join(" ")') $(said)" \
+    "0 10.0.0.0/16 0.0.0.0/0 collect-bundle: note: filtered routes of rtb-shop, which AWS doesn't use, are left out"
+
+# A route of a transit gateway to a prefix list is one to each of its entries, where somebody tells them.
+routes='.[0].TransitGatewayRoutes[0].Routes | map(.DestinationCidrBlock) | join(" ")'
+collect env BYLIST=pl-unused "$collect"
+is 'by a list that nothing else names' "$status $(told "[.] | $routes") $(said)" \
+    '0 10.0.0.0/16 10.1.0.0/16 10.9.0.0/16 172.20.0.0/16 172.21.0.0/16 collect-bundle: note: the route of tgw-rtb-hub to prefix list pl-unused is put out as 2 to its entries'
+is 'each as the route is' "$(told '[.TransitGatewayRoutes[0].Routes[-1] | .Type, .State, .TransitGatewayAttachments[0].TransitGatewayAttachmentId]')" '["static","active","tgw-attach-shop"]'
+collect env BYLIST=pl-corp "$collect"
+is 'by a list that is not told' "$status $(told "[.] | $routes") $(said)" \
+    '0 10.0.0.0/16 10.1.0.0/16 10.9.0.0/16 collect-bundle: note: the route of tgw-rtb-hub to prefix list pl-corp is left out: its entries are not told'
+collect env BYLIST=pl-corp "$collect" --profile shop --profile tools
+is 'by a list that another account tells' "$status $(told "$routes")" '0 10.0.0.0/16 10.1.0.0/16 10.9.0.0/16 192.0.2.0/24 198.51.100.0/24'
+
+# A row that several accounts tell is put out once: as its owner tells it, or else as the first account does.
+whose='map([(.Vpcs, .Subnets)[].Tags[] | select(.Value | startswith("told by")).Value] | unique | join(" ")) | join(", ")'
+once='map((.Vpcs, .Subnets)[] | .SubnetId // .VpcId) | (unique | length) == length'
+for it in '1 tools shop:, told by shop' '2 tools shop:told by tools, '; do
+    # shellcheck disable=SC2086 # (these are several words)
+    set -- ${it%%:*}
+    collect env SHARED="$1" "$collect" --profile "$2" --profile "$3"
+    is "shared rows: ${it%%:*}" "$status $(told "$whose") $(told "$once")" "0 ${it#*:} true"
+    is "shared rows: ${it%%:*}: told" "$(said)" "collect-bundle: note: rows of Vpcs that another profile tells too are put out once: 1
+collect-bundle: note: rows of Subnets that another profile tells too are put out once: $(jq '.Subnets | length' "$here/account/answers/shop/describe-subnets.json")"
+done
+collect env SHARED=1 "$collect" --profile tools
+is 'shared rows of one account' "$status $(told '[.Vpcs[].VpcId] | join(" ")') $(said | grep -c once)" '0 vpc-tools vpc-shop 0'
 
 # Two accounts: an array.
 collect "$collect" --region us-east-1 --profile shop --profile tools
@@ -157,15 +204,25 @@ describe-nat-gateways --filter vpc-id
 describe-network-acls --filters vpc-id
 describe-network-interfaces --filters vpc-id
 describe-route-tables --filters vpc-id
+describe-security-group-vpc-associations --filters vpc-id
 describe-security-groups --filters vpc-id
 describe-subnets --filters vpc-id
-describe-transit-gateway-attachments --filters resource-id
 describe-transit-gateway-vpc-attachments --filters vpc-id
+describe-vpc-endpoints --filters vpc-id
 describe-vpc-peering-connections --filters accepter-vpc-info.vpc-id
 describe-vpc-peering-connections --filters requester-vpc-info.vpc-id
-describe-vpcs --filters vpc-id'
+describe-vpcs --filters vpc-id
+describe-vpn-gateways --filters attachment.vpc-id'
+is 'VPCs: their transit gateways' "$(sed -n 's/.*--profile shop .* ec2 \([a-z-]*\) --filters Name=transit-gateway-id,Values=tgw-hub$/\1/p' "$CALLS" | sort)" \
+    'describe-transit-gateway-attachments
+describe-transit-gateways'
 is 'a peering that was told twice' "$(told '.[0].VpcPeeringConnections | length')" 1
 is 'VPCs: no other calls' "$(names)" "$calls"
+
+# Where they are attached to no transit gateway, no other is asked about.
+collect env UNTIED=1 "$collect" --vpc vpc-shop
+is 'VPCs: no transit gateway' "$status $(told '[.TransitGatewayAttachments, .TransitGateways, .TransitGatewayRoutes]') $(names | grep -c -e transit-gateways -e transit-gateway-attachments)" \
+    '0 [[],[],[]] 0'
 
 # One that isn't there is refused before any other call, and so are profiles of two regions.
 collect "$collect" --vpc vpc-none
@@ -181,7 +238,7 @@ is 'one of two' "$status $(cat "$room/out") $(said) $(names)" \
 collect env ELSEWHERE=tools "$collect" --profile shop --profile tools
 is 'two regions' "$status $(cat "$room/out") $(said)" \
     '1  collect-bundle: profile shop has its subnets in us-east-1, profile tools in eu-west-1: --region names one region; nothing is printed'
-is 'two regions: calls' "$(names | tr '\n' ' ')" 'describe-subnets describe-vpcs '
+is 'two regions: calls' "$(names | tr '\n' ' ')" 'describe-subnets describe-transit-gateway-vpc-attachments describe-vpcs '
 collect env ELSEWHERE=tools "$collect" --profile tools
 is 'another region' "$status $(told '.Subnets[].SubnetArn')" '0 arn:aws:ec2:eu-west-1:444455556666:subnet/subnet-tools'
 
@@ -203,10 +260,24 @@ is 'no interfaces: survey says so too' "$(grep -c '^no interfaces: ' "$room/err"
 collect env DESERTED=tools "$collect" --profile shop --profile tools
 is 'no interfaces of one of two' "$status $(said)" '0 collect-bundle: note: no interfaces of profile tools were found: another region may be meant'
 
+# Four calls may be wanting, where they aren't allowed or the command line is too old: the bundle lacks the list, and says so.
+wanting='describe-security-group-vpc-associations:SecurityGroupVpcAssociations describe-transit-gateways:TransitGateways describe-vpc-endpoints:VpcEndpoints describe-vpn-gateways:VpnGateways'
+for it in $wanting; do
+    collect env FAILS="${it%:*}" "$collect"
+    is "wanting: $it" "$status $(told "has(\"${it#*:}\")") $(said)" "0 false collect-bundle: note: aws ec2 ${it%:*} is not allowed, so the bundle has no ${it#*:}"
+    is "wanting: $it: the calls" "$(told '.Collected.Calls[]' | grep -c -e "${it%:*}\$") $(told '.Collected.Calls | length')" "0 $(($(wc -l <"$CALLS") - 1))"
+done
+collect env UNKNOWN=describe-security-group-vpc-associations "$collect" --profile shop --profile tools
+is 'wanting: in an older command line' "$status $(told 'map(has("SecurityGroupVpcAssociations")) | any') $(said)" '0 false collect-bundle: note: aws ec2 describe-security-group-vpc-associations is not known here, so the bundle has no SecurityGroupVpcAssociations of profile shop
+collect-bundle: note: aws ec2 describe-security-group-vpc-associations is not known here, so the bundle has no SecurityGroupVpcAssociations of profile tools'
+collect env UNKNOWN=describe-subnets "$collect"
+is 'unknown: no other call may be' "$status $(cat "$room/out") $(tail -n 1 "$room/err")" '1  collect-bundle: aws ec2 describe-subnets failed; nothing is printed'
+
 # Each call in turn fails, is cut short, is odd or answers nothing: nothing is printed, status 1, and the line names the
 # call.
 for it in $calls; do
     for how in FAILS CUT ODD EMPTY; do
+        case "$how $wanting" in FAILS*"$it:"*) continue ;; esac
         case "$how $it" in
         FAILS*) who='--profile shop --profile tools' ;;
         *' get-managed-prefix-list-entries') who='--profile tools' ;;
@@ -220,6 +291,7 @@ for it in $calls; do
     done
     wait
     for how in FAILS CUT ODD EMPTY; do
+        case "$how $wanting" in FAILS*"$it:"*) continue ;; esac
         is "$how $it" "$(cat "$room/status-$how") $(cat "$room/out-$how") $(tail -n 1 "$room/err-$how" | grep -c "^collect-bundle: .*aws ec2 $it .*; nothing is printed$")" '1  1'
     done
 done
@@ -253,7 +325,7 @@ is 'ended: calls too' "$(($(grep -c killed "$room/beside") > 0))" 1
 
 # Words.
 for it in '--profile' '--profile --vpc' '--region' '--vpc' '--vpc subnet-1' '--vpc vpc-1,vpc-2' 'shop' '--all' \
-    '--profile=' '--region=' '--vpc=' '--vpc=subnet-1' '--vpc=vpc-1,vpc-2' '--help=all' \
+    '--tag' '--tag --vpc' '--tag=' '--profile=' '--region=' '--vpc=' '--vpc=subnet-1' '--vpc=vpc-1,vpc-2' '--help=all' \
     '--profile shop --profile shop' '--profile shop --profile=tools --profile=shop' '--region a --region b'; do
     # shellcheck disable=SC2086 # (these are several words)
     collect "$collect" $it
@@ -263,14 +335,14 @@ collect "$collect" --profile shop --profile shop
 is 'twice' "$(cat "$room/err")" 'collect-bundle: profile shop is named twice; --help says more'
 collect "$collect" --help
 is '--help' "$status $(head -n 1 "$room/out")" \
-    '0 usage: collect-bundle [--profile NAME].. [--region REGION] [--vpc VPC-ID..]'
+    '0 usage: collect-bundle [--profile NAME].. [--region REGION] [--vpc VPC-ID..] [--tag KEY]..'
 # It needs aws and jq, and says so.
 mkdir "$room/bin"
 for it in bash cat env; do ln -s "$(command -v $it)" "$room/bin/$it"; done
 collect env PATH="$room/bin" "$collect"
 is 'no aws' "$status $(cat "$room/err")" '2 collect-bundle: there is no aws in PATH; --help says more'
 # Without python3, and where it was copied alone, survey isn't asked.
-for it in date dirname jq mkdir mkfifo mktemp mv readlink rm sed sh; do ln -s "$(command -v $it)" "$room/bin/$it"; done
+for it in date dirname grep jq mkdir mkfifo mktemp mv readlink rm sed sh; do ln -s "$(command -v $it)" "$room/bin/$it"; done
 note='collect-bundle: note: what of it is not followed is not told: that takes python3, and survey beside collect-bundle'
 collect env PATH="$here/account:$room/bin" "$collect"
 is 'no python3' "$status $(told '.Vpcs | length') $(tail -n 1 "$room/err")" "0 1 $note"
