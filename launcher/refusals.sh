@@ -158,7 +158,7 @@ look_at_words() {
     proto=tcp earlier=' '
     upto=$1
     shift
-    [ "$command" != trace ] || proto=${6-}
+    case $command in trace | why) proto=${6-} ;; esac
     at=$((places + 2))
     [ $# -ge $at ] || return 0
     shift $((places + 1))

@@ -1,83 +1,81 @@
 """Tells an answer of vpc in plain sentences: explain BUNDLE [TEXT]
 
-The answer of trace, ask, check or replay stands in the file TEXT or comes on standard input, and
-BUNDLE is the one that was asked:
+The answer stands in the file TEXT or comes on standard input, and BUNDLE is the one that was asked:
 
+    ./vpc why shop.json open from eni-web tcp 10.0.1.10 10.0.3.10 5000 5432 | ./explain shop.json
     ./vpc ask shop.json from eni-web to eni-db | ./explain shop.json
 
-Of each hop it tells what let the packet pass: the rule of a group, the route, the rows of network
-ACLs, in words and with the names of components by their Name tags. Of what stopped it, it tells
-why, and what would have to change at that component; whether the packet then gets further is
+It is one of why, trace, ask, check, replay, reach, diff, expect, unused, flows or matrix. Of each
+hop of a walk it tells what let the packet pass: the rule of a group, the route, the rows of network
+ACLs, in words and with the names of components by their Name tags. Of what stopped a packet, it
+tells why, and what would have to change at that component; whether the packet then gets further is
 another question. What vpc doesn't follow (`Unmodelled`) is told as not known.
 
-It follows packets itself, as docs/WALK.md tells, to know what a rule decided. So it tells nothing
-of a text that BUNDLE doesn't bear out. That what it tells is true is tested, and not proved.
+It follows no packet itself: what decided is what the text of why tells, and else what `vpc why`
+tells, where vpc stands beside this script. A walk or a report of which that prints another is
+refused; without vpc, of a packet that isn't told less is told. No text that names what BUNDLE
+doesn't have is told of. That what it tells is true is tested, and not proved.
 
-Status 0; 2: the text is no answer of these commands, or not one about BUNDLE, or a file can't be
-read, as one line on standard error says. It needs Python 3.9 or later alone.
+Status 0; 2: the text is no such answer, or not one about BUNDLE, or a file can't be read, as one
+line on standard error says. It needs Python 3.9 or later alone.
 """
 
 from __future__ import annotations
 
+import itertools
 import sys
-from collections.abc import Callable, Sequence
-from typing import Any, Optional, Union
+from collections.abc import Callable, Iterator, Sequence
+from typing import Any, Optional
 
 from scripts import texts
 from scripts.commands import ODD, Refused, read, refuse
+from scripts.explain_listings import Listings
 from scripts.explain_network import Network, read_network
+from scripts.explain_program import Program
 from scripts.explain_stops import ended, stop_lines
-from scripts.explain_walk import Hop, Round, Stop, Walker, round_trip
-from scripts.explain_words import Teller, box_words, packet_words
-from scripts.headers import Header, low_corner
-from scripts.texts import NoText
+from scripts.explain_told import (
+    Stop, Way, as_end, bare_stop, must_be_there, reply_stop, stops_first,
+)
+from scripts.explain_words import Teller, box_words, fare_words, packet_words
+from scripts.headers import Header, low_corner, reply_of
+from scripts.texts import NoText, Stopped, Walk, Why
 from scripts.words import counted
 
-TOLD, MEANT = ("trace", "ask", "check", "replay"), "answer of trace, ask, check or replay"
-# The components of which a stop may be, where the packet isn't told.
-HOMES = {
-    "interfaces": "Detached SourceCheck DestCheck GroupsOut GroupsIn NotAHost",
-    "appliances": "ApplianceDrop",
-    "tables": "NoRoute Blackhole",
-    "acls": "AclOut AclIn",
-    "vpcs": "NoHost NoGateway",
-    "igws": "GatewayDetached NoPublic",
-    "nats": "NatNotAvailable NatAnswer NatProtocol NatFull NatUnsolicited",
-    "peerings": "PeerNotActive PeerSource PeerDestination",
-    "attachments": "TgwNoZone TgwNoTable",
-    "transit_tables": "TgwNoRoute TgwBlackhole",
-}
+TOLD = (
+    "why", "trace", "ask", "check", "replay", "reach", "diff", "expect", "unused", "flows",
+    "matrix",
+)
+MEANT = "answer that is told in sentences"
+UNDECIDED = (
+    "Which routes and rows of network ACLs let it pass, this text doesn't tell: vpc why prints "
+    "it, by the words of vpc trace."
+)
+UNTOLD_PACKETS = (
+    "Of single packets vpc why tells more: it is asked where vpc stands beside this script, and "
+    "BUNDLE is a file."
+)
 
 
-def printed_walk(hops: list[Hop], end: Union[Stop, str]) -> list[str]:
-    """A walk as vpc prints it."""
-    lines = []
-    for number, it in enumerate(hops, 1):
-        by = "" if it.by is None else f" by {it.by}"
-        if isinstance(it.by, tuple):
-            by = f" by {it.by[0]} {'out' if it.kind == 'out' else 'in'} {it.by[1].name}"
-        lines.append(f"hop {number} {it.kind} {it.id} {it.header}{by}")
-    return [*lines, f"arrived {end}" if isinstance(end, str) else f"stopped {told_stop(end)}"]
+def unlike(walk: Walk, found: Sequence[Why]) -> None:
+    """Refuses a walk where the program tells others of its packet."""
+    others = [it.walk.lines for it in found]
+    if walk.lines in others:
+        raise NoText("what it says decided isn't true of the bundle")
+    alike = max(sum(1 for _ in itertools.takewhile(is_same, zip(walk.lines, it))) for it in others)
+    line = walk.lines[min(alike, len(walk.lines) - 1)]
+    raise NoText(f"{line!r} isn't true of the bundle")
 
 
-def told_stop(stop: Union[Stop, texts.Stopped]) -> str:
-    return f"{stop.name} {stop.id} {stop.rule}"
-
-
-def unlike(walk: texts.Walk, wanted: list[str]) -> None:
-    """Refuses a walk that the bundle doesn't bear out."""
-    shared = zip(walk.lines, wanted)
-    alike = min(len(walk.lines), len(wanted))
-    at = next((number for number, (one, other) in enumerate(shared) if one != other), alike)
-    if walk.lines != wanted:
-        raise NoText(f"line {walk.first + at} isn't true of the bundle")
+def is_same(pair: tuple[str, str]) -> bool:
+    return pair[0] == pair[1]
 
 
 class Answer:
     """An answer, read and told."""
 
-    def __init__(self, network: Network, first: str) -> None:
-        self.network, self.teller, self.first = network, Teller(network), first
+    def __init__(self, network: Network, program: Program, first: str) -> None:
+        self.network, self.program, self.first = network, program, first
+        self.teller = Teller(network)
         self.out: list[str] = []
 
     def tell(self, *lines: str) -> None:
@@ -100,59 +98,86 @@ class Answer:
 
     # -- walks
 
-    def tell_walk(self, hops: list[Hop], end: Union[Stop, str]) -> None:
-        self.tell(*self.teller.hop_lines(hops))
-        if isinstance(end, Stop):
-            self.tell(f"  It {self.ended(end)}.", *self.stop_lines(end))
+    def tell_walk(self, why: Why, label: Optional[str]) -> None:
+        self.tell(*self.teller.hop_lines(why.walk, why.decisions))
+        if isinstance(why.walk.end, Stopped):
+            stop = Way(self.network, why, label).stop()
+            self.tell(f"  It {self.ended(stop)}.", *self.stop_lines(stop))
         else:
-            self.tell(f"  It arrives at {self.named(end)}.")
+            self.tell(f"  It arrives at {self.named(why.walk.end.id)}.")
 
-    def trace(self, walk: texts.Walk) -> None:
-        first = walk.hops[0]
+    def trace(self, walk: Walk) -> None:
+        self.why(Why(walk, []))
+
+    def why(self, told: Why) -> None:
+        """A walk, of which the decisions are told, or aren't: then they are asked for."""
+        first, found = told.walk.hops[0], dict[str, Why]()
         if first.place not in ("out", "internet"):
             raise NoText("its first hop is no place where a packet starts")
-        labels = ("open", "answer")
-        start = self.known(first.id)
-        found = [Walker(self.network).walk(it, start, first.header) for it in labels]
-        fitting = [k for k, it in enumerate(found) if printed_walk(*it) == walk.lines]
-        chosen = fitting[0] if fitting else 0
-        hops, end = found[chosen]
-        unlike(walk, printed_walk(hops, end))
-        what = ", an answer" if chosen else ", the first packet of its connection"
-        what = "" if len(fitting) == 2 else what
-        self.tell(f"The packet is {packet_words(hops[0].header)}{what}.")
-        self.tell_walk(hops, end)
+        for label in ("open", "answer"):
+            it = self.program.why(label, self.known(first.id), first.header)
+            found.update({label: it} if it else {})
+        fitting = [it for it in found if is_like(told, found[it])]
+        if found and not fitting:
+            unlike(told.walk, list(found.values()))
+        # (a walk may be that of both)
+        sure = fitting[0] if len(fitting) == 1 and len(found) == 2 else None
+        kinds = {"open": ", the first packet of its connection", "answer": ", an answer"}
+        self.tell(f"The packet is {packet_words(first.header)}{kinds.get(sure or '', '')}.")
+        if not (fitting or told.decisions) and any(it.place in DECIDING for it in told.walk.hops):
+            self.tell(UNDECIDED)
+        best = found[fitting[0]] if fitting else told
+        whole = best if best.decisions else Why(told.walk, [[] for _ in told.walk.hops])
+        must_be_there(self.network, whole)
+        self.tell_walk(whole, sure)
 
     def reachable(self, answer: texts.Reachable) -> None:
-        start, goal = answer.request.hops[0].id, answer.request.end.id
-        if isinstance(answer.request.end, texts.Stopped):
-            goal = answer.request.end.name
-        found = round_trip(self.network, self.known(start), self.known(goal), answer.packet)
-        stopped: Union[Stop, str] = goal
-        if found.stop and found.phase == "request":
-            stopped = found.stop
-        unlike(answer.request, printed_walk(found.request, stopped))
-        reply = found.reply or []
-        unlike(answer.reply, printed_walk(reply, start) if reply and not found.stop else [])
+        start, goal = answer.request.hops[0].id, answer.reply.hops[0].id
+        asked = self.program.why("open", self.known(start), answer.packet)
+        if asked and asked.walk.lines != answer.request.lines:
+            unlike(answer.request, [asked])
+        request = asked or Why(answer.request, [[] for _ in answer.request.hops])
+        reply = Why(answer.reply, self.decided(answer.reply, self.known(goal)))
+        for it in (request, reply):
+            must_be_there(self.network, it)
+        ends = as_end(answer.request.end), as_end(answer.reply.end)
+        told = [it.hops[at].header for it in (answer.request, answer.reply) for at in (0, -1)]
+        due = [answer.packet, told[1], reply_of(told[1]), reply_of(answer.packet)]
+        if ends != (goal, start) or told != due:
+            raise NoText("its reply isn't that of its packet")
         way = f"from {self.named(start)} to {self.named(goal)}, and its reply comes back"
         first = f"The first is {packet_words(answer.packet)}."
-        self.tell(f"A packet gets through {way}. {first}", "The request:")
-        self.tell_walk(found.request, goal)
-        self.tell(f"The reply, {packet_words(reply[0].header)}:")
-        self.tell_walk(reply, start)
+        self.tell(f"A packet gets through {way}. {first}", *[UNDECIDED] * (not asked))
+        self.tell("The request:")
+        self.tell_walk(request, "open")
+        self.tell(f"The reply, {packet_words(answer.reply.hops[0].header)}:")
+        self.tell_walk(reply, "answer")
+
+    def decided(self, reply: Walk, goal: str) -> list[list[texts.Decision]]:
+        """What decided at each hop of a reply, as far as an answer goes the same way that has no
+        request before it: at each hop the routes and rows are those for its header."""
+        asked = self.program.why("answer", goal, reply.hops[0].header)
+        found = list[list[texts.Decision]]([[] for _ in reply.hops])
+        pairs = zip(reply.hops, asked.walk.hops) if asked else ()
+        for at, (one, other) in enumerate(pairs):
+            if (one.place, one.id, one.header) != (other.place, other.id, other.header):
+                break
+            is_last = asked is not None and at == len(asked.decisions) - 1
+            if asked and (not is_last or not isinstance(asked.walk.end, Stopped)):
+                found[at] = asked.decisions[at]
+        return found
 
     # -- reports
 
     def report(self, report: texts.Report) -> None:
         start, goal = self.known(report.start), self.known(report.goal)
         way = f"from {self.named(start)} to {self.named(goal)}: {box_words(report.box)}"
-        self.tell(f"No packet gets through {way}.")
-        groups: dict[tuple[str, str], list[int]] = {}
-        for number, row in enumerate(report.rows, 1):
-            groups.setdefault((row.phase, str(row.stop)), []).append(number)
-        for numbers in groups.values():
-            self.tell_rows(report, numbers)
         unknown = sum(it.stop.name == "Unmodelled" for it in report.rows)
+        self.tell(f"No packet {'is known to get' if unknown else 'gets'} through {way}.")
+        for numbers in self.reasons(report):
+            self.tell_rows(report, numbers)
+        if not self.program.is_there:
+            self.tell(UNTOLD_PACKETS)
         if unknown:
             what = f"what becomes of the packets of {counted(unknown, 'row')} is not known"
             self.tell(f"So this is no 'no': {what}.")
@@ -163,25 +188,92 @@ class Answer:
             what = f"{left_out}: it doesn't get through either, and {why}. {cells}"
             self.tell(f"The report was cut short. {what}")
 
+    def reasons(self, report: texts.Report) -> list[list[int]]:
+        """The numbers of the rows that have one reason: those at the ends that were asked about
+        come first, and of these the one where packets were to go."""
+        groups: dict[tuple[str, str], list[int]] = {}
+        for number, row in enumerate(report.rows, 1):
+            groups.setdefault((row.phase, str(row.stop)), []).append(number)
+        ends = [report.goal, report.start]
+
+        def place(numbers: list[int]) -> int:
+            stop = report.rows[numbers[0] - 1].stop
+            at_end = stop.id in ends and stop.name not in ("WrongPlace", "WrongReturn")
+            return ends.index(stop.id) if at_end else len(ends)
+
+        return sorted(groups.values(), key=place)
+
     def tell_rows(self, report: texts.Report, numbers: list[int]) -> None:
-        """What stops the packets of rows that have one reason: of the first packet of the first
-        such row, which it is true of."""
+        """What stops the packets of rows that have one reason, and why, of the first packet of the
+        first such row."""
         row = report.rows[numbers[0] - 1]
         header = low_corner(row.box)
-        found = round_trip(self.network, report.start, report.goal, header)
-        if not found.stop or not is_told(found, row.phase, row.stop):
+        found = self.fared(report, header, row.phase, row.stop)
+        if not found:
             raise NoText(f"row {numbers[0]} isn't true of the bundle")
         more = f" and {len(numbers) - 1:,} more" * (len(numbers) > 1)
         what = f"{'its' if len(numbers) == 1 else 'their'} requests"
         if row.phase == "request":
-            what += f" {self.ended(found.stop, True)}"
+            what += f" {self.ended(found, True)}"
         elif row.stop.name == "NoReply":
             what += " arrive, and have no reply (NoReply)"
         else:
-            what += f" arrive, and the replies {self.ended(found.stop, True)}"
-        first = f"Of the first, {packet_words(header)}:"
-        head = f"Row {numbers[0]}{more}: {what}. {first}"
-        self.tell(head, *self.stop_lines(found.stop))
+            what += f" arrive, and the replies {self.ended(found, True)}"
+        self.tell(f"Row {numbers[0]}{more}: {what}.")
+        boxes = [f"  {box_words(report.rows[it - 1].box)}" for it in numbers[:MOST_BOXES]]
+        left = len(numbers) - MOST_BOXES
+        self.tell(*boxes, *[f"  and {counted(left, 'more box', 'more boxes')}"] * (left > 0))
+        self.tell(*self.of_first(header, found), *self.stop_lines(found))
+
+    def of_first(self, header: Header, stop: Stop) -> list[str]:
+        """The packet that the sentences are about, where they are about one."""
+        return [f"  Of the first, {packet_words(header)}:"] if stop.facts else []
+
+    def fared(
+        self, report: texts.Report, header: Header, phase: str, stop: Stopped
+    ) -> Optional[Stop]:
+        """What the bundle tells of a stop of a packet; None where the program tells another."""
+        asked = self.program.why("open", report.start, header)
+        if not asked:
+            is_first = phase == "request" and stops_first(self.network, report.start, stop, header)
+            facts = {"header": header, "label": "open"}
+            bare = bare_stop(self.network, stop)
+            return bare._replace(facts=facts) if is_first else bare
+        must_be_there(self.network, asked)
+        end = as_end(asked.walk.end)
+        arrived = asked.walk.hops[-1].header
+        facts = {"start": report.start, "goal": report.goal, "header": arrived}
+        if phase == "request" and stop.name == "WrongPlace":
+            is_it = end == stop.id != report.goal
+            return Stop(stop.name, stop.id, stop.rule, facts) if is_it else None
+        if phase == "request":
+            return Way(self.network, asked, "open").stop() if end == as_end(stop) else None
+        answer = reply_of(arrived)
+        if end != report.goal or (stop.name == "NoReply") != (answer is None):
+            return None
+        if answer is None:
+            return Stop(stop.name, stop.id, stop.rule, facts)
+        wanted = {"start": report.start, "goal": report.goal, "wanted": reply_of(header)}
+        return self.reply_stop(asked.walk, answer, report.goal, stop, wanted)
+
+    # (of the request everything is told; of a reply, what is told of one without a request)
+    def reply_stop(
+        self, request: Walk, answer: Header, goal: str, stop: Stopped, wanted: dict[str, Any]
+    ) -> Stop:
+        """What stopped a reply: as the program tells it of an answer that has no request before
+        it, where that ends so too; else what the bundle tells."""
+        asked = self.program.why("answer", goal, answer)
+        if asked:
+            must_be_there(self.network, asked)
+            end = as_end(asked.walk.end)
+            if end == as_end(stop):
+                return Way(self.network, asked, "answer").stop()
+            if stop.name == "WrongReturn" and end == stop.id:
+                facts = {**wanted, "header": asked.walk.hops[-1].header}
+                return Stop(stop.name, stop.id, stop.rule, facts)
+        if stop.name == "WrongReturn":
+            return bare_stop(self.network, stop)._replace(facts=wanted)
+        return reply_stop(self.network, stop, request)
 
     # -- check and replay
 
@@ -209,7 +301,7 @@ class Answer:
             held = f"which row {rows[0]} holds"
             self.tell(f"The text isn't true of {packet}, {held}: {fare_words(fare)}.")
 
-    def untrue(self, row: int, h: Header, phase: str, stop: texts.Stopped) -> None:
+    def untrue(self, row: int, h: Header, phase: str, stop: Stopped) -> None:
         found = self.found_stop(h, phase, stop)
         is_reply = phase == "reply" and found.name != "NoReply"
         what = f"{'it arrives, and its reply' if is_reply else 'it'} {self.ended(found)}"
@@ -217,35 +309,48 @@ class Answer:
         self.tell(f"The report isn't true of {held}: in this bundle {what}.")
         self.tell(*self.stop_lines(found))
 
-    def found_stop(self, h: Header, phase: str, stop: texts.Stopped) -> Stop:
+    def found_stop(self, h: Header, phase: str, stop: Stopped) -> Stop:
         """The stop of a packet whose start isn't told: as it is from an end that may have sent it;
         else what the bundle tells of the component."""
-        interfaces = self.network.interfaces.values()
-        starts = [it.id for it in interfaces if h.src in it.addresses and not it.is_gateway]
-        if stop.name not in ("WrongPlace", "WrongReturn"):
-            for start in [*starts, "internet"]:
-                found = round_trip(self.network, start, None, h)
-                if found.stop and is_told(found, phase, stop):
-                    return found.stop
-        return self.bare_stop(stop)
+        bare = bare_stop(self.network, stop)
+        if stop.name in ("WrongPlace", "WrongReturn"):
+            return bare
+        for start in self.starts_of(h):
+            asked = self.program.why("open", start, h)
+            if asked and phase == "request" and as_end(asked.walk.end) == as_end(stop):
+                must_be_there(self.network, asked)
+                return Way(self.network, asked, "open").stop()
+            answer = reply_of(asked.walk.hops[-1].header) if asked else None
+            if asked and answer and phase == "reply" and asked.walk.end.id in self.ends():
+                return self.reply_stop(asked.walk, answer, asked.walk.end.id, stop, {})
+        return bare
 
-    def bare_stop(self, stop: texts.Stopped) -> Stop:
-        """A stop of which the packet isn't told."""
-        home = next((it for it, names in HOMES.items() if stop.name in names.split()), None)
-        if home and stop.id not in getattr(self.network, home):
-            raise NoText(f"{stop.id} isn't in the bundle")
-        return Stop(stop.name, stop.id, stop.rule, {})
+    def ends(self) -> Sequence[str]:
+        return ["internet", *self.network.interfaces]
+
+    def starts_of(self, h: Header) -> Iterator[str]:
+        """The ends that may have sent a packet."""
+        interfaces = self.network.interfaces.values()
+        yield from (it.id for it in interfaces if h.src in it.addresses and not it.is_gateway)
+        yield "internet"
 
     def replay(self, answer: texts.Events) -> None:
         for number, it in enumerate(answer.events, 1):
-            if isinstance(it.end, texts.Stopped):
-                stop = self.bare_stop(it.end)
+            if isinstance(it.end, Stopped):
+                stop = bare_stop(self.network, it.end)
                 self.tell(f"Event {number} {self.ended(stop)}.", *self.stop_lines(stop))
             elif it.header:
                 end = self.named(self.known(it.end.id))
                 self.tell(f"Event {number} arrives at {end}, as {packet_words(it.header)}.")
 
+    def listed(self, found: Any) -> None:
+        self.tell(*Listings(self.teller, self.found_stop, self.stop_lines).lines(found))
 
+
+# Where routes and rows of network ACLs decide.
+DECIDING = ("router", "enter", "tgw")
+# How many boxes are told of rows that have one reason.
+MOST_BOXES = 3
 # What becomes of packets that no check of a report, of reach or of diff says.
 UNTOLD = {"untrue": ("at",), "unlisted": ("at", "through", "same", "stopped")}
 YES = (
@@ -257,49 +362,28 @@ YES = (
 )
 
 
-def is_told(found: Round, phase: str, stop: texts.Stopped) -> bool:
-    """Whether what was found is the stop of a text."""
-    return bool(found.stop) and (found.phase, told_stop(stop)) == (phase, found_words(found))
+def is_like(told: Why, found: Why) -> bool:
+    """Whether the program tells of a packet what a text does."""
+    is_same = not told.decisions or told.decisions == found.decisions
+    return told.walk.lines == found.walk.lines and is_same
 
 
-def found_words(found: Round) -> str:
-    return told_stop(found.stop) if found.stop else ""
-
-
-def fare_words(fare: texts.Fare) -> str:
-    """What becomes of a packet in one network, or what changes for it between two."""
-    if fare.word == "same":
-        return "nothing changes for it"
-    if fare.word == "reached":
-        return f"it reaches {fare.end}, and its reply comes back"
-    if fare.word == "moved":
-        return f"it reaches {fare.after} after the change, in place of {fare.end}"
-    kept = "there is no such start"
-    if fare.stop and fare.stop.name != "Absent":
-        rule = "" if fare.stop.rule == "-" else f", rule {fare.stop.rule}"
-        who = "it" if fare.phase == "request" else "its reply"
-        kept = f"{who} is stopped by {fare.stop.name} of {fare.stop.id}{rule}"
-    if fare.word == "opened":
-        return f"it reaches {fare.end} after the change, and before it {kept}"
-    return f"it reached {fare.end} before the change, and after it {kept}"
-
-
-def tell(network: Network, data: bytes) -> str:
+def tell(network: Network, program: Program, data: bytes) -> str:
     """What is told of a text."""
     found: Any = texts.read_record(data, TOLD, "answer", MEANT, "")
-    answer = Answer(network, data.split(b"\n")[0][:60].decode("ascii"))
+    answer = Answer(network, program, data.split(b"\n")[0][:60].decode("ascii"))
     acts: dict[Any, Callable[[Any], None]] = {
-        texts.Walk: answer.trace, texts.Reachable: answer.reachable, texts.Report: answer.report,
-        texts.Verdict: answer.check, texts.Events: answer.replay,
+        texts.Walk: answer.trace, texts.Why: answer.why, texts.Reachable: answer.reachable,
+        texts.Report: answer.report, texts.Verdict: answer.check, texts.Events: answer.replay,
     }
-    acts[type(found)](found)
+    acts.get(type(found), answer.listed)(found)
     return "\n".join(answer.out) + "\n"
 
 
 def explained(bundle: str, path: Optional[str], text: Optional[bytes] = None) -> str:
     network, data = read_network(bundle), read(path) if text is None else text
     try:
-        return tell(network, data)
+        return tell(network, Program(bundle), data)
     except NoText as why:
         raise Refused(f"{path or 'the text'} can't be told of: {why}") from None
     except ODD:

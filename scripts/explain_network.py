@@ -1,4 +1,5 @@
-"""The rows of a bundle by their ids, as vpc reads them of a bundle that it accepts."""
+"""The rows of a bundle by their ids, as vpc reads them of a bundle that it accepts, and what single
+rows say of a header. Packets are not followed here."""
 
 from __future__ import annotations
 
@@ -261,8 +262,22 @@ def appliance_of(row: Row) -> Appliance:
     return Appliance(row["Kind"], 0, 0, block_of(row["Prefix"]) if row["Kind"] == "peer" else None)
 
 
+UNROUTABLE = [
+    block_of(it)
+    for it in (
+        "0.0.0.0/8", "10.0.0.0/8", "127.0.0.0/8", "169.254.0.0/16", "172.16.0.0/12",
+        "192.168.0.0/16", "224.0.0.0/3",
+    )
+]
+
+
+def is_unroutable(number: int) -> bool:
+    """Whether the internet doesn't carry an address."""
+    return any(it.holds(number) for it in UNROUTABLE)
+
+
 class Network:
-    """The rows of a bundle, and what its tables, lists and rules choose."""
+    """The rows of a bundle."""
 
     def __init__(self, objects: list[Row]) -> None:
         lists: dict[str, list[Any]] = collections.defaultdict(list)
@@ -407,34 +422,15 @@ class Network:
                 own = ((private, it.id) for private in it.addresses)
                 self.members.setdefault(group, {}).update(own)
 
-    # -- choices
+    # -- what one component does with a header
 
     def table_at(self, subnet: str) -> RouteTable:
         return self.table_of_subnet.get(subnet) or self.main_of[self.subnets[subnet].vpc]
 
-    def length_of(self, route: Route, number: int) -> Optional[int]:
-        """How long a route's destination is that holds an address; None where none does."""
+    def holds(self, route: Route, number: int) -> bool:
+        """Whether a route's destination holds an address."""
         blocks = [route.block] if route.block else self.lists.get(route.list or "", [])
-        return max((it.length for it in blocks if it.holds(number)), default=None)
-
-    def choose(self, table: RouteTable, number: int) -> Optional[Route]:
-        told = [(self.length_of(it, number), it) for it in table.routes]
-        found = [(length, it) for length, it in told if length is not None]
-        if any(it.kind == "local" for _, it in found):
-            found = [it for it in found if not it[1].propagated or it[1].kind == "local"]
-
-        def rank(it: tuple[int, Route]) -> tuple[int, int]:
-            return it[0], 0 if it[1].propagated else 2 if it[1].block else 1
-
-        return max(found, key=rank)[1] if found else None
-
-    def choose_transit(self, table: str, number: int) -> Optional[TransitRoute]:
-        found = [it for it in self.transit_tables[table] if it.block.holds(number)]
-
-        def rank(it: TransitRoute) -> tuple[int, bool]:
-            return it.block.length, not it.propagated
-
-        return max(found, key=rank) if found else None
+        return any(it.holds(number) for it in blocks)
 
     def decide(self, acl: Acl, outward: bool, h: Header) -> Optional[AclRow]:
         """The row that decides; None where none matches."""
@@ -475,14 +471,40 @@ class Network:
             group = self.groups[name]
             yield from ((name, it) for it in (group.outward if outward else group.inward))
 
-    def first_rule(
-        self, interface: Interface, outward: bool, h: Header
-    ) -> Optional[tuple[str, Rule]]:
+    def is_allowed(self, interface: Interface, outward: bool, h: Header) -> bool:
+        """Whether some rule of an interface's groups allows a header."""
         far = h.dst if outward else h.src
-        for group, it in self.rules_of(interface, outward):
-            if self.allows_flow(it, h) and self.allows_far(group, it, far):
-                return group, it
-        return None
+        return any(
+            self.allows_flow(it, h) and self.allows_far(group, it, far)
+            for group, it in self.rules_of(interface, outward)
+        )
+
+    # -- what lines name
+
+    def rule_named(self, group: str, outward: bool, name: str) -> Optional[Rule]:
+        found = self.groups.get(group)
+        rules = (found.outward if outward else found.inward) if found else []
+        return next((it for it in rules if it.name == name), None)
+
+    def row_numbered(self, acl: str, outward: bool, number: str) -> Optional[AclRow]:
+        found = self.acls[acl].rows if acl in self.acls else []
+        fitting = (it for it in found if (it.outward, str(it.number)) == (outward, number))
+        return next(fitting, None)
+
+    def route_named(self, table: str, reach: str, target: Optional[str]) -> Optional[Route]:
+        """The first row of a table with this destination and this target."""
+        found = self.tables[table].routes if table in self.tables else []
+        return next((it for it in found if (it.reach(), it.target) == (reach, target)), None)
+
+    def gone_route(self, table: str, reach: str) -> Optional[Route]:
+        """The first row of a table with this destination whose target is gone."""
+        found = self.tables[table].routes if table in self.tables else []
+        return next((it for it in found if it.reach() == reach and it.blackhole), None)
+
+    # -- what leads where
+
+    def host_of(self, vpc: str, number: int) -> Optional[Interface]:
+        return self.host_at.get((vpc, number))
 
     def zone_subnet(self, attachment: Attachment, subnet: str) -> Optional[str]:
         zone = self.subnets[subnet].zone
@@ -491,6 +513,24 @@ class Network:
     def other_side(self, peering: Peering, vpc: str) -> str:
         assert peering.pair
         return peering.pair[1] if peering.pair[0] == vpc else peering.pair[0]
+
+    def entered_by(self, route: Route, subnet: str, number: int) -> Optional[str]:
+        """The subnet that packets to an address enter which a subnet sends by a route; None where
+        it is none of this VPC, or isn't there."""
+        vpc = self.subnets[subnet].vpc
+        if route.kind == "local":
+            host = self.host_of(vpc, number)
+            return host.subnet if host else None
+        if route.kind == "nat" and route.target in self.nats:
+            return self.nats[route.target].subnet
+        if route.kind == "interface" and route.target in self.interfaces:
+            return self.interfaces[route.target].subnet
+        if route.kind == "transit":
+            wanted = (route.target, vpc)
+            found = (it for it in self.attachments.values() if (it.gateway, it.vpc) == wanted)
+            attachment = next(found, None)
+            return self.zone_subnet(attachment, subnet) if attachment else None
+        return None
 
 
 def read_network(path: str) -> Network:

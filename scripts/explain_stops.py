@@ -6,14 +6,16 @@ from collections.abc import Iterator
 from typing import Optional
 
 from scripts.bundles import harmless
-from scripts.explain_network import Interface, Route, Rule
-from scripts.explain_walk import MOST_PLACES, MOST_TRANSLATIONS, Stop, is_unroutable
+from scripts.explain_network import Interface, Route, Rule, is_unroutable
+from scripts.explain_told import Stop
 from scripts.explain_words import (
     Teller, appliance_words, direction, flow_words, icmp_words, list_words, packet_words,
     ports_words, some, way_words,
 )
 from scripts.headers import Header, dotted
 
+# How many places a walk has at most, and a NAT gateway translations to one destination.
+MOST_PLACES, MOST_TRANSLATIONS = 64, 55_000
 WAY_BACK = "back the way that the request came, so that its addresses are restored"
 ANOTHER = "or be deleted, so that another one is chosen"
 
@@ -246,9 +248,7 @@ class Why:
     @property
     def tables_on_the_way(self) -> str:
         """Those of which a route led the packet."""
-        notes = [it for hop in self.facts.get("hops", []) for it in hop.notes]
-        routes = [it[1:] for it in notes if it[0] in ("route", "transit")]
-        tables = [table if isinstance(table, str) else table.id for table, _ in routes]
+        tables = self.facts.get("tables", [])
         return f": those of {some(map(self.teller.named, tables))}" if tables else ""
 
     # -- components
@@ -488,11 +488,11 @@ class Why:
     def stop_wrongreturn(self) -> tuple[str, str]:
         lead = f"the routes of the reply would have to lead it {WAY_BACK}."
         arrived = f"the request arrived, but its reply arrived at {self.it}"
-        if not self.h:
+        if "wanted" not in self.facts:
             return f"{arrived}, or not as its reply.", lead
         start, wanted = self.facts["start"], self.facts["wanted"]
-        name = self.teller.named(start)
-        why = f"{arrived} as {packet_words(self.h)}, and not at {name} as {packet_words(wanted)}."
+        name, arrived_as = self.teller.named(start), f" as {packet_words(self.h)}" if self.h else ""
+        why = f"{arrived}{arrived_as}, and not at {name} as {packet_words(wanted)}."
         if start != "internet" and wanted.dst not in self.network.interfaces[start].addresses:
             change = f"the request would have to come from an address of {name}"
             return why, f"{change}, or routes to lead its reply to {name}."

@@ -2,15 +2,14 @@
 
 from __future__ import annotations
 
-from collections.abc import Iterable
+from collections.abc import Callable, Iterable, Iterator
 from typing import Any, Optional
 
 from scripts.bundles import harmless
-from scripts.explain_network import (
-    Acl, AclRow, Appliance, Attachment, Interface, Network, Route, RouteTable, Rule, TransitRoute,
-)
-from scripts.explain_walk import Hop, Note, is_unroutable
+from scripts.explain_network import AclRow, Appliance, Network, Route, Rule, is_unroutable
+from scripts.explain_told import Decisions, chosen_at, entered_at, route_at
 from scripts.headers import Block, Box, Header, dotted
+from scripts.texts import AclVerdict, ChosenRoute, Decision, Fare, Hop, NoText, Walk
 from scripts.words import PROTOCOLS
 
 
@@ -82,14 +81,19 @@ def range_words(first: Any, last: Any) -> str:
     return f"{first}" if first == last else f"{first}-{last}"
 
 
+ALL_PORTS = (0, 65535)
+
+
 def box_words(box: Box) -> str:
     (low, high), src, dst, p, q = box
     proto = PROTOCOLS.get(low, f"protocol {low}") if low == high else f"protocols {low}-{high}"
     sources, goals = (range_words(*map(dotted, it)) for it in (src, dst))
     words = [f"{proto} from {sources} to {goals}"]
     if low == high and low in (6, 17):
-        for name, (first, last) in (("source", p), ("destination", q)):
-            words.append(f"{name} port{'s' * (first < last)} {range_words(first, last)}")
+        if p != ALL_PORTS:
+            words.append(f"source port{'s' * (p[0] < p[1])} {range_words(*p)}")
+        ports = f"port{'s' * (q[0] < q[1])} {range_words(*q)}"
+        words.append(ports if q != ALL_PORTS else "all ports")
     elif low == high == 1:
         kinds = [icmp_words(it) for it in q]
         words.append(kinds[0] if q[0] == q[1] else f"{kinds[0]} to{kinds[1][4:]}")
@@ -124,6 +128,25 @@ PLACE_NAMES = {
     "tgw": "transit gateway, by attachment {}",
     "tgw-leave": "out of the transit gateway, by attachment {}",
 }
+
+
+def fare_words(fare: Fare, named: Callable[[str], str] = str) -> str:
+    """What becomes of a packet in one network, or what changes for it between two."""
+    if fare.word == "same":
+        return "nothing changes for it"
+    end = named(fare.end)
+    if fare.word == "reached":
+        return f"it reaches {end}, and its reply comes back"
+    if fare.word == "moved":
+        return f"it reaches {named(fare.after)} after the change, in place of {end}"
+    kept = "there is no such start"
+    if fare.stop and fare.stop.name != "Absent":
+        rule = "" if fare.stop.rule == "-" else f", rule {fare.stop.rule}"
+        who = "it" if fare.phase == "request" else "its reply"
+        kept = f"{who} is stopped by {fare.stop.name} of {named(fare.stop.id)}{rule}"
+    if fare.word == "opened":
+        return f"it reaches {end} after the change, and before it {kept}"
+    return f"it reached {end} before the change, and after it {kept}"
 
 
 class Teller:
@@ -163,7 +186,9 @@ class Teller:
         for it in rule.lists:
             if network.list_holds(it, far):
                 return f"; {self.named(it)} holds {dotted(far)}"
-        found = next(it for it in rule.groups if network.group_holds(group, it, far))
+        found = next((it for it in rule.groups if network.group_holds(group, it, far)), None)
+        if found is None:
+            raise NoText(f"rule {harmless(rule.name)} of {group} doesn't allow {dotted(far)}")
         return f"; {dotted(far)} is that of {self.named(network.members[found][far])}"
 
     def row_words(self, row: AclRow) -> str:
@@ -178,82 +203,137 @@ class Teller:
 
     # -- hops
 
-    def hop_lines(self, hops: list[Hop]) -> list[str]:
+    def hop_lines(self, walk: Walk, decisions: Decisions) -> list[str]:
         """A line for each hop: what let the packet pass there, or what it passed before it was
         stopped."""
         lines = []
-        for number, it in enumerate(hops, 1):
-            told = [self.place_words(it), *(self.note_words(note) for note in it.notes)]
-            words = "; ".join(filter(None, told))
-            name = PLACE_NAMES[it.kind].format(self.named(it.id))
+        following: list[Optional[Hop]] = [*walk.hops[1:], None]
+        for number, (it, found, after) in enumerate(zip(walk.hops, decisions, following), 1):
+            told = [self.place_words(it), *self.decided_words(it, found)]
+            words = "; ".join(filter(None, [*told, self.then_words(it, after)]))
+            name = PLACE_NAMES[it.place].format(self.named(it.id))
             lines.append(f"  {number}. {name}: {words}." if words else f"  {number}. {name}.")
         return lines
 
     def place_words(self, hop: Hop) -> str:
         """What let the packet pass at the place itself."""
         h = hop.header
-        if hop.kind == "internet" and not (is_unroutable(h.src) or is_unroutable(h.dst)):
+        if hop.place == "internet" and not (is_unroutable(h.src) or is_unroutable(h.dst)):
             return "its addresses are ones that the internet routes"
         if hop.by is None:
             return ""
         if hop.by == "none":
             return "it has no security groups, so every packet passes"
-        if isinstance(hop.by, str):
+        if hop.by == "tracked":
             what = "the answer to a connection that passed here before"
             return f"security groups let it pass as {what}"
-        outward, (group, rule) = hop.kind == "out", hop.by
+        outward = hop.place == "out"
+        group, _, rule_name = hop.by.split(" ")
+        name = f"{direction(outward)} rule {harmless(rule_name)} of {self.named(group)}"
+        rule = self.network.rule_named(group, outward, rule_name)
+        if not rule:
+            raise NoText(f"{name} isn't in the bundle")
         far = self.why_far(group, rule, h.dst if outward else h.src)
-        name = f"{direction(outward)} rule {harmless(rule.name)} of {self.named(group)}"
         return f"{name} allows {self.rule_words(rule, outward)}{far}"
 
-    def note_words(self, note: Note) -> str:
-        kind, *rest = note
-        return str(getattr(self, f"note_{kind}")(*rest))
+    # -- what was decided, as far as it let the packet pass
 
-    def note_acl(self, acl: Acl, row: AclRow, subnet: str) -> str:
-        name = f"{direction(row.outward)} row {harmless(row.number)} of {self.named(acl.id)}"
-        way = "out of" if row.outward else "into"
-        return f"{name} lets it {way} {self.named(subnet)} ({self.row_words(row)})"
+    def decided_words(self, hop: Hop, found: list[Decision]) -> Iterator[str]:
+        chosen = chosen_at(found)
+        if chosen and hop.place == "tgw":
+            yield self.transit_words(chosen)
+            return
+        route, entered = route_at(self.network, found), entered_at(self.network, hop, found)
+        if chosen and not route:
+            raise NoText(f"{chosen.table} has no route {chosen.reach} to {chosen.target}")
+        if chosen and route and route.blackhole:
+            return
+        if chosen and route:
+            yield f"{self.named(chosen.table)} sends it by its route {self.route_words(route)}"
+        if hop.place == "enter" or (route and route.kind == "local"):
+            yield self.host_words(hop, route)
+        verdicts = [it for it in found if isinstance(it, AclVerdict)]
+        for it in verdicts:
+            if it.allows:
+                outward = it.direction == "out"
+                yield self.acl_words(it, hop.id if outward else entered)
+        if route and not verdicts and entered == hop.id:
+            yield "it stays in the subnet, where no network ACL is evaluated"
 
-    def note_inside(self, subnet: str) -> str:
-        return "it stays in the subnet, where no network ACL is evaluated"
+    def transit_words(self, chosen: ChosenRoute) -> str:
+        """(a route whose target is gone, or isn't told, sends nothing)"""
+        found = self.network.transit_tables.get(chosen.table, [])
+        gone = any(str(it.block) == chosen.reach and it.blackhole for it in found)
+        if gone or chosen.target is None:
+            return ""
+        reach = f"{chosen.reach} to {self.named(chosen.target)}"
+        return f"its table {self.named(chosen.table)} sends it by its route {reach}"
 
-    def note_route(self, table: RouteTable, route: Route) -> str:
-        return f"{self.named(table.id)} sends it by its route {self.route_words(route)}"
+    def host_words(self, hop: Hop, route: Optional[Route]) -> str:
+        network, number = self.network, hop.header.dst
+        vpc = network.subnets[hop.id].vpc if route else hop.id
+        host = network.host_of(vpc, number)
+        return f"{dotted(number)} is an address of {self.named(host.id)}" if host else ""
 
-    def note_host(self, host: Interface, number: int) -> str:
-        return f"{dotted(number)} is an address of {self.named(host.id)}"
+    def acl_words(self, it: AclVerdict, subnet: Optional[str]) -> str:
+        outward = it.direction == "out"
+        row = self.network.row_numbered(it.acl, outward, str(it.number))
+        name = f"{direction(outward)} row {it.number} of {self.named(it.acl)}"
+        if not row or not row.allow:
+            raise NoText(f"{it.acl} has no {direction(outward)} row {it.number} that allows")
+        where = f" {'out of' if outward else 'into'} {self.named(subnet)}" if subnet else " pass"
+        return f"{name} lets it{where} ({self.row_words(row)})"
 
-    def note_appliance(self, appliance: Appliance) -> str:
-        return f"its appliance forwards {appliance_words(appliance)}"
+    # -- where the packet went on, and as what
 
-    def note_public(self, private: int, public: int) -> str:
-        return f"its source {dotted(private)} becomes the public address {dotted(public)}"
+    def then_words(self, hop: Hop, after: Optional[Hop]) -> str:
+        if not after:
+            return ""
+        words = {
+            "in": self.then_in, "igw-out": self.then_igw_out, "igw-in": self.then_igw_in,
+            "internet": self.then_internet, "nat-out": self.then_nat_out,
+            "nat-in": self.then_nat_in, "peer": self.then_peer, "tgw-leave": self.then_tgw_leave,
+        }
+        return words[hop.place](hop, after) if hop.place in words else ""
 
-    def note_owner(self, interface: Interface, number: int, vpc: str) -> str:
-        whose = f"{dotted(number)} is a public address of {self.named(interface.id)}"
-        return f"{whose}, so it comes in again by the internet gateway of {self.named(vpc)}"
+    def then_in(self, hop: Hop, after: Hop) -> str:
+        appliance = self.network.appliances.get(hop.id)
+        return f"its appliance forwards {appliance_words(appliance)}" if appliance else ""
 
-    def note_private(self, public: int, private: int) -> str:
-        return f"its destination {dotted(public)} becomes the private address {dotted(private)}"
+    def then_igw_out(self, hop: Hop, after: Hop) -> str:
+        source = f"its source {dotted(hop.header.src)}"
+        return f"{source} becomes the public address {dotted(after.header.src)}"
 
-    def note_translated(self, before: Header, after: Header) -> str:
-        what = "identifier" if after.proto == 1 else "port"
-        source = f"its source becomes the gateway's {dotted(after.src)}"
-        return f"{source}, and its {what} {before.p} becomes {after.p}"
+    def then_igw_in(self, hop: Hop, after: Hop) -> str:
+        goal = f"its destination {dotted(hop.header.dst)}"
+        return f"{goal} becomes the private address {dotted(after.header.dst)}"
 
-    def note_restored(self, before: Header, after: Header) -> str:
-        is_icmp = after.proto == 1
-        what, number = ("identifier", after.p) if is_icmp else ("port", after.q)
-        goal = f"its destination becomes {dotted(after.dst)} and its {what} {number} again"
+    def then_internet(self, hop: Hop, after: Hop) -> str:
+        owner = self.network.owner_of.get(hop.header.dst)
+        if not owner:
+            return ""
+        whose = f"{dotted(hop.header.dst)} is a public address of {self.named(owner[0].id)}"
+        return f"{whose}, so it comes in again by the internet gateway of {self.named(owner[2])}"
+
+    def then_nat_out(self, hop: Hop, after: Hop) -> str:
+        before, now = hop.header, after.header
+        what = "identifier" if now.proto == 1 else "port"
+        source = f"its source becomes the gateway's {dotted(now.src)}"
+        return f"{source}, and its {what} {before.p} becomes {now.p}"
+
+    def then_nat_in(self, hop: Hop, after: Hop) -> str:
+        now = after.header
+        what, number = ("identifier", now.p) if now.proto == 1 else ("port", now.q)
+        goal = f"its destination becomes {dotted(now.dst)} and its {what} {number} again"
         return f"it answers what went out here before, so {goal}"
 
-    def note_carried(self, vpc: str, other: str) -> str:
-        return f"from a block of {self.named(vpc)} to a block of {self.named(other)}"
+    def then_peer(self, hop: Hop, after: Hop) -> str:
+        peering = self.network.peerings[hop.id]
+        if not peering.pair or after.id not in peering.pair:
+            raise NoText(f"{hop.id} doesn't lead to {after.id}")
+        vpc = self.network.other_side(peering, after.id)
+        return f"from a block of {self.named(vpc)} to a block of {self.named(after.id)}"
 
-    def note_transit(self, table: str, route: TransitRoute) -> str:
-        reach = f"{route.block} to {self.named(route.attachment or '')}"
-        return f"its table {self.named(table)} sends it by its route {reach}"
-
-    def note_left(self, attachment: Attachment, subnet: str) -> str:
-        return f"into {self.named(attachment.vpc)}, by {self.named(subnet)}"
+    def then_tgw_leave(self, hop: Hop, after: Hop) -> str:
+        vpc = self.network.attachments[hop.id].vpc
+        return f"into {self.named(vpc)}, by {self.named(after.id)}"

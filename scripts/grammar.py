@@ -145,8 +145,16 @@ CHANGES = [
     "word=moved end:ID after:ID",
 ]
 FARES = ["word=through|same", *CHANGES, "word=reached end:ID", "PHASE STOP", "end:ID"]
+# What decided at a place, below its hop.
+DECISIONS = [
+    "group group:ID DIRECTION RULE",
+    "route table:ID reach:ID target:RULE",
+    "acl ID DIRECTION NUMBER verdict=allow|deny",
+    "becomes HEADER",
+]
 FORMS = {
     "trace": WALK,
+    "why": WALK + DECISIONS,
     "ask": [
         *(f"(phase) {it}" for it in WALK),
         "reachable",

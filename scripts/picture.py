@@ -1,7 +1,7 @@
 """Draws a text of vpc: picture [WORD..] [TEXT], picture --html [WORD..] TEXT..
 
-One SVG on standard output, of a text of trace, ask, matrix, reach or diff that stands in the file
-TEXT or comes on standard input:
+One SVG on standard output, of a text of trace, why, ask, matrix, reach or diff that stands in the
+file TEXT or comes on standard input:
 
     ./vpc ask shop.json from eni-web to eni-db port 5432-5432 | ./picture > answer.svg
 
@@ -14,8 +14,8 @@ TEXT or comes on standard input:
                    and no other file. With BUNDLE it has its checksum, when and of which account it
                    was collected, where it tells that, and what explain tells of each text
 
-A walk has its reply coming back beside it. A report is a plane of the two sides of its box that its
-rows cut into most pieces. A matrix is folded into classes of interfaces that reach and are reached
+A walk has its reply coming back beside it; that of why is drawn as trace tells it. A report is a plane
+of the two sides of its box that its rows cut into most pieces. A matrix is folded into classes of interfaces that reach and are reached
 alike, and so are the ends of reach and of diff; where that is more than is seen at once, by groups,
 else by subnets, else by VPCs, with how many pairs of hosts have each. Ports have one chip with
 however many ranges of addresses share them. What opens stands in red, what isn't known in grey.
@@ -42,7 +42,7 @@ from scripts.picture_classes import BY
 from scripts.picture_matrix import draw_matrix
 from scripts.picture_page import Bundle, Picture, page
 from scripts.picture_reports import draw_report
-from scripts.picture_walks import draw_reachable, draw_trace
+from scripts.picture_walks import draw_reachable, draw_trace, draw_why
 from scripts.picture_ways import draw_diff, draw_reach
 from scripts.texts import NoText
 
@@ -55,16 +55,17 @@ OWN_WORDS = (
     "reachable reached before now from to packet hop box next cells What Who reaches whom Nothing "
     "gets get through opens closes moves or +"
 ).split()
-DRAWN = ("trace", "ask", "matrix", "reach", "diff")
+DRAWN = ("trace", "why", "ask", "matrix", "reach", "diff")
 DRAWERS: dict[Any, Callable[[Any, Names, str], tuple[Drawing, str, str]]] = {
-    texts.Walk: draw_trace, texts.Reachable: draw_reachable, texts.Report: draw_report,
-    texts.Matrix: draw_matrix, texts.Reach: draw_reach, texts.Diff: draw_diff,
+    texts.Walk: draw_trace, texts.Why: draw_why, texts.Reachable: draw_reachable,
+    texts.Report: draw_report, texts.Matrix: draw_matrix, texts.Reach: draw_reach,
+    texts.Diff: draw_diff,
 }
 
 
 def read_text(data: bytes) -> texts.Record:
     """What a text says."""
-    meant = "text of trace, ask, matrix, reach or diff"
+    meant = "text of trace, why, ask, matrix, reach or diff"
     return texts.read_record(data, DRAWN, "text", meant, "..")
 
 

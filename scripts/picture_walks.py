@@ -11,7 +11,7 @@ from scripts.headers import Header
 from scripts.picture_canvas import (
     GAP, MARGIN, Drawing, Run, beside_or_below, chip_height, number, width_of, wrapped,
 )
-from scripts.texts import Arrived, End, Hop, Reachable, Stopped, Walk
+from scripts.texts import Arrived, End, Hop, Reachable, Stopped, Walk, Why
 from scripts.words import SIDES
 
 ICONS = {
@@ -329,6 +329,10 @@ def draw_trace(walk: Walk, names: Names, drawing_name: str) -> tuple[Drawing, st
     draw_walk(drawing, walk, names, 500)
     draw_walk_legend(drawing, walk)
     return drawing, f"{start} {end_words(walk.end)}", walk_words(walk)
+
+
+def draw_why(answer: Why, names: Names, drawing_name: str) -> tuple[Drawing, str, str]:
+    return draw_trace(answer.walk, names, drawing_name)
 
 
 def draw_reachable(answer: Reachable, names: Names, drawing_name: str) -> tuple[Drawing, str, str]:

@@ -65,6 +65,57 @@ class Walk:
 
 
 @dataclass
+class GroupRule:
+    """The rule of a group that let a packet pass."""
+
+    group: str
+    direction: str
+    rule: str
+
+    def __str__(self) -> str:
+        return f"{self.group} {self.direction} {self.rule}"
+
+
+@dataclass
+class ChosenRoute:
+    """The row that a route table chose, or a transit gateway's: its block or prefix list, and
+    `local` or the id of its target, which a row without one lacks."""
+
+    table: str
+    reach: str
+    target: Optional[str]
+
+
+@dataclass
+class AclVerdict:
+    """The row of a network ACL that judged a packet."""
+
+    acl: str
+    direction: str
+    number: int
+    allows: bool
+
+
+@dataclass
+class Rewritten:
+    """The header that comes to the next hop, where it is another."""
+
+    header: Header
+
+
+Decision = Union[GroupRule, ChosenRoute, AclVerdict, Rewritten]
+
+
+@dataclass
+class Why:
+    """A walk, whose lines are those of its hops and its end alone, and what decided at each
+    hop."""
+
+    walk: Walk
+    decisions: list[list[Decision]]
+
+
+@dataclass
 class Reachable:
     packet: Header
     request: Walk
@@ -174,14 +225,13 @@ class Events:
 
 @dataclass
 class Table:
-    """A text of which no picture and no sentence is made: make, expect, flows, unused, a
-    refusal."""
+    """A text that is told line by line: make, expect, flows, unused, a refusal."""
 
     name: str
     lines: list[Members]
 
 
-Record = Union[Walk, Reachable, Report, Matrix, Reach, Diff, Verdict, Events, Table]
+Record = Union[Walk, Why, Reachable, Report, Matrix, Reach, Diff, Verdict, Events, Table]
 
 
 def header_of(told: Members) -> Header:
@@ -213,6 +263,17 @@ def hop_of(told: Members) -> Hop:
     if by == "rule":
         by = f"{told['group']} {told['direction']} {'-' if told['rule'] is None else told['rule']}"
     return Hop(told["place"], told["id"], header_of(told), by)
+
+
+def decision_of(told: Members) -> Decision:
+    if told["line"] == "group":
+        return GroupRule(told["group"], told["direction"], told["rule"] or "-")
+    if told["line"] == "route":
+        return ChosenRoute(told["table"], told["reach"], told["target"])
+    if told["line"] == "acl":
+        is_allow = told["verdict"] == "allow"
+        return AclVerdict(told["id"], told["direction"], told["number"], is_allow)
+    return Rewritten(header_of(told))
 
 
 # ---- reading: which lines each text has, in order
@@ -277,6 +338,11 @@ def read_walk(text: Text, **around: str) -> Walk:
     last hop is."""
     first = text.at
     hops = [hop_of(it) for it in text.numbered("hop", **around)]
+    return ended_walk(text, first, hops, **around)
+
+
+def ended_walk(text: Text, first: int, hops: list[Hop], **around: str) -> Walk:
+    """The walk of these hops, whose end is the next line."""
     told = text.take("arrived", "stopped", **around)
     end: End = Arrived(told["id"]) if told["line"] == "arrived" else stop_of(told)
     text.must(hops, "it has a walk without hops")
@@ -287,7 +353,70 @@ def read_walk(text: Text, **around: str) -> Walk:
     elif judged and judged[-1] is hops[-1]:
         judged.pop()
     text.agrees(all(it.by for it in judged))
-    return Walk(hops, end, first + 1, text.lines[first : text.at])
+    lines = [it for it in text.lines[first : text.at] if it.partition(" ")[0] not in DECIDED]
+    return Walk(hops, end, first + 1, lines)
+
+
+# How the lines begin that tell what decided, and which of them may stand at a place, in order.
+DECIDED = ("group", "route", "acl", "becomes")
+DECIDED_AT: dict[str, list[type]] = {
+    "out": [GroupRule],
+    "in": [GroupRule],
+    "router": [ChosenRoute, AclVerdict, AclVerdict],
+    "enter": [AclVerdict],
+    "tgw": [ChosenRoute],
+    "igw-out": [Rewritten],
+    "igw-in": [Rewritten],
+    "nat-out": [Rewritten],
+    "nat-in": [Rewritten],
+}
+
+
+def read_why(text: Text) -> Why:
+    """A walk, with what decided below each hop."""
+    first, hops, decisions = text.at, list[Hop](), list[list[Decision]]()
+    for it in text.numbered("hop"):
+        hops.append(hop_of(it))
+        decisions.append(list(read_decisions(text)))
+    walk = ended_walk(text, first, hops)
+    following: list[Optional[Header]] = [*(it.header for it in hops[1:]), None]
+    for hop, found, after in zip(hops, decisions, following):
+        text.must(is_decided(hop, found, after))
+    refusals = [it for found in decisions for it in found if is_refusal(it)]
+    is_refused = isinstance(walk.end, Stopped) and walk.end.name in ("AclOut", "AclIn")
+    last = decisions[-1][-1:]
+    text.must(refusals == (last if is_refused else []) and (not is_refused or refuses(last, walk)))
+    return Why(walk, decisions)
+
+
+def read_decisions(text: Text) -> Iterator[Decision]:
+    while any(text.begins(it) for it in DECIDED):
+        yield decision_of(text.take(*DECIDED))
+
+
+def is_refusal(it: Decision) -> bool:
+    return isinstance(it, AclVerdict) and not it.allows
+
+
+def refuses(last: list[Decision], walk: Walk) -> bool:
+    """Whether a walk ends as the ACL refuses that judged last."""
+    it = last[0] if last else None
+    if not isinstance(it, AclVerdict):
+        return False
+    name = "AclOut" if it.direction == "out" else "AclIn"
+    return walk.end == Stopped(name, it.acl, str(it.number))
+
+
+def is_decided(hop: Hop, found: list[Decision], after: Optional[Header]) -> bool:
+    """Whether this may be what decided at a hop, behind which the packet has this header."""
+    kinds = DECIDED_AT.get(hop.place, [])
+    if [type(it) for it in found] != kinds[: len(found)]:
+        return False
+    rules = [str(it) for it in found if isinstance(it, GroupRule)]
+    rewritten = [it.header for it in found if isinstance(it, Rewritten)]
+    is_changed = after is not None and after != hop.header
+    has_rule = hop.by is not None and " " in hop.by
+    return rules == [hop.by] * has_rule and rewritten == [after] * is_changed
 
 
 def read_reachable(text: Text) -> Reachable:
@@ -454,6 +583,7 @@ def read_ask(text: Text) -> Union[Reachable, Report]:
 
 READERS: dict[str, Callable[[Text], Record]] = {
     "trace": read_walk,
+    "why": read_why,
     "ask": read_ask,
     "check": read_check,
     "replay": read_replay,
@@ -466,9 +596,11 @@ READERS: dict[str, Callable[[Text], Record]] = {
     "unused": read_unused,
     "refusal": read_refusal,
 }
+# The texts whose records are their lines.
+TABLES = ("make", "expect", "flows", "unused", "refusal")
+LINES_OF_WHY = tuple(f"{it} " for it in DECIDED)
 # Which text it is, by how its first line begins, or is.
 BEGINNINGS = {
-    **dict.fromkeys(["hop"], "trace"),
     **dict.fromkeys(["reachable", "vpc-report", "more boxes"], "ask"),
     **dict.fromkeys(["yes", "no"], "check"),
     **dict.fromkeys(["event"], "replay"),
@@ -488,6 +620,9 @@ def name_of(lines: list[str]) -> str:
     first = lines[0]
     if first.startswith(("line ", "ok ")):
         return "flows" if " differ " in lines[-1] else "expect"
+    if first.startswith("hop "):
+        # (of a walk of which nothing is told the two texts are one)
+        return "why" if any(it.startswith(LINES_OF_WHY) for it in lines) else "trace"
     return BEGINNINGS.get(first) or BEGINNINGS.get(first.partition(" ")[0]) or ""
 
 
@@ -515,7 +650,8 @@ def read_record(data: bytes, names: tuple[str, ...], what: str, meant: str, more
         first = lines[0] if len(lines[0]) <= 60 else lines[0][:60] + more
         raise NoText(f"{first!r} begins no {meant}")
     try:
-        return read_lines(name, lines, False)[0]
+        # (of a table its lines are the record)
+        return read_lines(name, lines, name in TABLES)[0]
     except NoText as why:
         if why.number is None:
             raise

@@ -29,7 +29,7 @@ behind() {
     (IFS='|' && printf '%s' "${COMPREPLY[*]}")
 }
 
-first='trace|ask|check|replay|make'
+first='trace|why|ask|check|replay|make'
 commands=$(sed -n "/^commands='\$/,/^'\$/s/^\([a-z]*\) .*/\1/p" "$top/vpc" | uniq | paste -sd '|')
 mkdir "$room/work" && cd "$room/work" || exit
 ln -s "$top/vpc" vpc
@@ -70,6 +70,9 @@ is 'words of trace' "$(behind './vpc trace shop.json ')" 'open|answer'
 is 'a label' "$(behind './vpc trace shop.json o')" open
 is 'from, of trace' "$(behind './vpc trace shop.json open ')" from
 is 'an end of trace' "$(behind './vpc trace shop.json open from eni-a')" eni-app
+is 'words of why' "$(behind './vpc why shop.json ')" 'open|answer'
+is 'an end of why' "$(behind './vpc why shop.json open from eni-a')" eni-app
+is 'a protocol of why' "$(behind './vpc why shop.json answer from eni-app ')" 'tcp|udp|icmp'
 is 'a protocol of trace' "$(behind './vpc trace shop.json open from eni-app ')" 'tcp|udp|icmp'
 is 'an address' "$(behind './vpc trace shop.json open from eni-app tcp ')" ''
 is 'behind the last word' "$(behind './vpc trace shop.json open from eni-app tcp 10.0.2.10 10.0.3.10 1 2 ')" ''
@@ -198,7 +201,7 @@ cd "$room/work" || exit
 # With the list of this program.
 if [[ ${1-} ]]; then
     is 'the program can be run' "$([[ -x $1 ]] && echo yes)" yes
-    for it in trace ask check replay make matrix reach diff expect flows unused ${commands//|/ }; do
+    for it in trace why ask check replay make matrix reach diff expect flows unused ${commands//|/ }; do
         is "the list has $it where the program does" "$(grep -q -x "$it" <<<"${commands//|/$'\n'}" && echo yes)" "$([[ $("$1" "$it") == 'refused words 1' ]] || echo yes)"
     done
 fi

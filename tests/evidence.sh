@@ -62,7 +62,7 @@ left() {
 run "$evidence" --to made shop.json report.txt reach.txt walk.txt
 is 'made: status' "$status $out $err" '0 made '
 is 'made: files' "$(cd made && find . -type f | sort | tr '\n' ' ')" \
-    './SHA256SUMS ./bundle.json ./checks/reach.txt ./checks/report.txt ./page.html ./sentences/report.txt ./sentences/walk.txt ./survey.txt ./texts/reach.txt ./texts/report.txt ./texts/walk.txt ./verify.sh ./version.txt '
+    './SHA256SUMS ./bundle.json ./checks/reach.txt ./checks/report.txt ./page.html ./sentences/reach.txt ./sentences/report.txt ./sentences/walk.txt ./survey.txt ./texts/reach.txt ./texts/report.txt ./texts/walk.txt ./verify.sh ./version.txt '
 is 'made: nothing else' "$(left)" 'made '
 is 'made: the bundle' "$(cmp shop.json made/bundle.json && echo same)" same
 for it in report reach walk; do is "made: $it" "$(cmp $it.txt made/texts/$it.txt && echo same)" same; done

@@ -5,10 +5,13 @@ Each of the 35 stops has a row in STOPS: a small network, a packet or a question
 they ask for. PROGRAM answers, `explain` tells of the answer, the change is made, and PROGRAM no longer stops there. In N networks made
 at random (as tests/fuzz.py has them) each sentence is tried likewise: where it says that a row of an ACL or a route let a packet pass,
 PROGRAM stops the packet there once that row denies, or the route is a blackhole; and what would have to change is changed. Answers that
-are damaged, or about another bundle, are refused. The last line is 'N passed, M failed'.
+are damaged, or about another bundle, are refused. What `explain` asks is `why` of PROGRAM, or where that doesn't know the command
+tests/follow.py in its place; that follows packets itself, and the sentences about a stop have to be those that it makes, or less where
+nobody tells the way of a reply. The last line is 'N passed, M failed'.
 """
 
 import argparse
+import collections
 import contextlib
 import copy
 import functools
@@ -22,16 +25,19 @@ import subprocess
 import sys
 import tempfile
 
+import follow
 import networks
+from follow import Network, Walker, header_of, round_trip
 
 TOP = os.path.dirname(os.path.dirname(os.path.abspath(__file__)))
 sys.path.insert(0, TOP)
 
-from scripts import explain as script
-from scripts.explain_network import Network
-from scripts.explain_walk import Walker, round_trip
-from scripts.headers import Header, address, block_of, dotted, low_corner
-from scripts.words import PROTOCOL_NUMBERS, STOPS as ALL_STOPS
+from scripts import explain as script, explain_program
+from scripts.commands import ODD, Refused
+from scripts.explain_stops import stop_lines
+from scripts.explain_words import Teller
+from scripts.headers import address, block_of, dotted, low_corner
+from scripts.words import STOPS as ALL_STOPS
 
 DATA = os.path.join(TOP, "crates", "cli_rows", "data")
 ANYWHERE = "0.0.0.0/0"
@@ -214,7 +220,7 @@ STOPS = [
     ("NatProtocol", nothing, "trace", "open from eni-a 50 10.1.1.10 198.51.100.7 0 0", "stopped NatProtocol nat-1 -", "the packet is protocol 50, and a NAT gateway carries TCP, UDP and ICMP alone", "would have to be one of these", "open from eni-a udp 10.1.1.10 198.51.100.7 1 2"),
     ("NatFull", nothing, "replay", "\n".join(f"open from eni-a tcp 10.1.1.10 198.51.100.7 {1024 + k} 443" for k in range(MANY + 1)), f"event {MANY + 1} stopped NatFull nat-1 -", "55,000 connections over nat-1 share its protocol, destination and destination port already",
      "fewer connections would have to go there at a time", "\n".join(f"open from eni-a tcp 10.1.1.10 198.51.100.7 {1024 + k} 443" for k in range(MANY))),
-    ("NatUnsolicited", nothing, "trace", "open from internet tcp 198.51.100.7 203.0.113.5 443 5000", "stopped NatUnsolicited nat-1 -", "it opens a connection, and NAT gateway nat-1 lets in only the answers to what it sent out", "or the packet to go to a public address that is the host's own",
+    ("NatUnsolicited", nothing, "trace", "open from internet tcp 198.51.100.7 203.0.113.5 443 5000", "stopped NatUnsolicited nat-1 -", "NAT gateway nat-1 lets in only the answers to what it sent out", "or the packet to go to a public address that is the host's own",
      "open from internet tcp 198.51.100.7 203.0.113.10 443 5000"),
     ("NatUnsolicited, replayed", nothing, "replay", "answer from internet tcp 198.51.100.7 203.0.113.5 443 5000", "event 1 stopped NatUnsolicited nat-1 -", "it answers nothing that went out there: NAT gateway nat-1 lets in only the answers",
      "the connection would have to be opened from inside", "open from eni-a tcp 10.1.1.10 198.51.100.7 5000 443\nanswer from internet tcp 198.51.100.7 203.0.113.5 443 5000"),
@@ -243,7 +249,7 @@ STOPS = [
     ("WrongPlace", act(permitted, "sg-b", False, "10.1.1.10/32", port=80), "ask", "from eni-a to eni-c dst 10.2.1.10/32 port 80-80", "request WrongPlace eni-b -", "nothing stopped it, but it arrived at eni-b as tcp from 10.1.1.10 port 0 to 10.2.1.10 port 80, and not at eni-c",
      "the packet would have to go to an address of eni-c", "from eni-a to eni-c dst 10.1.3.10/32 port 80-80"),
     ("WrongPlace, for the internet", nothing, "ask", "from eni-a to internet dst 203.0.113.10/32 port 80-80", "request WrongPlace eni-c -", "it arrived at eni-c", "the packet would have to go to an address that is none of the bundle's public ones", "from eni-a to internet dst 198.51.100.7/32 port 80-80"),
-    ("WrongReturn", borrowed_address, "ask", "from eni-a to eni-b src 10.1.3.10/32 port 5432-5432", "reply WrongReturn eni-c -", "its reply arrived at eni-c as tcp from 10.2.1.10 port 5432 to 10.1.3.10 port 0, and not at eni-a (web one)",
+    ("WrongReturn", borrowed_address, "ask", "from eni-a to eni-b src 10.1.3.10/32 port 5432-5432", "reply WrongReturn eni-c -", "the request arrived, but its reply arrived at eni-c, and not at eni-a (web one) as tcp from 10.2.1.10 port 5432 to 10.1.3.10 port 0.",
      "the request would have to come from an address of eni-a (web one)", "from eni-a to eni-b src 10.1.1.10/32 port 5432-5432"),
     ("WrongReturn, by a route", borrowed_address, "ask", "from eni-a to eni-b src 10.1.3.10/32 port 5432-5432", "reply WrongReturn eni-c -", "the request arrived, but its reply arrived at eni-c", "or routes to lead its reply to eni-a (web one)",
      act(routed, "rtb-a", "10.1.3.10/32", NetworkInterfaceId="eni-a")),
@@ -269,6 +275,36 @@ class Input:
 
     def __init__(self, data):
         self.buffer = io.BytesIO(data)
+
+
+def stand_in(program, folder):
+    """Has explain ask PROGRAM, or what stands in its place."""
+    path = os.path.join(folder, "base.json")
+    with open(path, "w", encoding="utf-8") as file:
+        json.dump(BASE, file)
+    ran = subprocess.run([program, "why", path, *TO_B.format(22).split()], capture_output=True, check=False)
+    if ran.returncode in (0, 1):
+        explain_program.LAUNCHER = program
+        return True
+    explain_program.Program.printed = lambda self, words: printed_why(self.bundle, words)
+    return False
+
+
+def printed_why(path, words):
+    try:
+        return follow.why(path, words).encode()
+    except ODD:
+        raise Refused(f"{path} is no bundle that vpc accepts") from None
+
+
+@contextlib.contextmanager
+def no_program():
+    """explain as where no program stands beside it."""
+    before, explain_program.LAUNCHER = explain_program.LAUNCHER, "none"
+    try:
+        yield
+    finally:
+        explain_program.LAUNCHER = before
 
 
 def explain(data, *words):
@@ -302,6 +338,12 @@ class Asked:
         return ran.stdout.decode()
 
 
+def sentences_due(network, stop):
+    """The sentences that may stand of a stop: all, and such as say less, of a label, a subnet or a packet that isn't known."""
+    facts = [stop.facts, {**stop.facts, "label": None}, {**stop.facts, "subnet": None}, {**stop.facts, "label": None, "subnet": None}, {}]
+    return [stop_lines(Teller(network), stop._replace(facts=it)) for it in facts if it or stop.name not in ("NoGateway",)]
+
+
 def sentences(text):
     """What is told why, and what would have to change."""
     return re.findall(r"^  Why: (.*)$", text, re.M), re.findall(r"^  To change: (.*)$", text, re.M)
@@ -325,7 +367,15 @@ def run_stop(results, asked, it):
     results.add(f"{name}: to change", [change] if any(change in it for it in changes) else changes, [change])
     if isinstance(act_of, str):
         results.add(f"{name}: changed", stop in asked.answer(bundle, command, act_of), False)
-    elif act_of:
+    if command == "trace":
+        why = follow.why(asked.path, words.split())
+        results.add(f"{name}: by the text of why", explain(why, asked.path), (status, out, err))
+    with no_program():
+        alone = explain(text, asked.path)
+        results.add(f"{name}: without a program", (alone[0], alone[2], len(sentences(alone[1])[0])), (0, "", 1))
+        if command == "trace":
+            results.add(f"{name}: by the text of why, without a program", sentences(explain(why, asked.path)[1]), (whys, changes))
+    if act_of and not isinstance(act_of, str):
         act_of(bundle)
         changed = asked.answer(bundle, command, words)
         results.add(f"{name}: changed", (stop in changed, changed.startswith("refused")), (False, False))
@@ -431,12 +481,6 @@ def block_text_of(chosen):
     return str(chosen.block) if chosen.block else chosen.list
 
 
-def header_of(words):
-    """The header of five words."""
-    proto, src, dst, p, q = words
-    return Header(PROTOCOL_NUMBERS.get(proto) or int(proto), address(src), address(dst), int(p), int(q))
-
-
 def box_of(text):
     """The five ranges of a box."""
     return [tuple((address if side in (1, 2) else int)(it) for it in ends.split("-")) for side, ends in enumerate(text.split(" "))]
@@ -446,12 +490,12 @@ def walk_of(network, words, text):
     """The walk of a packet's words that is the text: its hops and its end."""
     label, _, start, *header = words.split(" ")
     hops, end = Walker(network).walk(label, start, header_of(header))
-    assert "\n".join([*script.printed_walk(hops, end), ""]) == text
+    assert "\n".join([*follow.printed_walk(hops, end), ""]) == text
     return hops, end
 
 
 def run_random(results, asked, cases):
-    wrong, told_of, tried = [], set(), 0
+    wrong, told_of, tried, less = [], set(), 0, collections.Counter()
     for case in range(cases):
         rng = random.Random(case)
         text = networks.network(rng)
@@ -468,23 +512,30 @@ def run_random(results, asked, cases):
             if not refused and len(whys) != len(changes):
                 wrong.append((case, command, words, out))
             if command == "trace" and not refused:
-                tried += try_trace(wrong, told_of, asked, bundle, words, answer, (case, words))
+                tried += try_trace(wrong, told_of, asked, bundle, words, answer, (case, words), out)
             if command == "ask" and not refused and not answer.startswith("reachable"):
-                tried += try_report(wrong, told_of, asked, bundle, words, answer, (case, words))
+                tried += try_report(wrong, told_of, asked, bundle, words, answer, (case, words), out, less)
     for it in wrong[:20]:
         print("FAILED:", it)
     results.add("sentences about networks made at random", len(wrong), 0)
     results.add("what was tried", tried > cases * 3, True)
+    print(f"stops of which all is told, or less: {dict(less)}")
+    results.add("stops of requests of which less is told", less["request, less"], 0)
+    results.add("stops of replies of which less is told", less["reply, less"] * 10 <= less["reply, all"], True)
     results.add("stops that were met", len(told_of) >= 16 or cases < 100, True)
 
 
-def try_trace(wrong, told_of, asked, bundle, words, answer, name):
+def try_trace(wrong, told_of, asked, bundle, words, answer, name, out):
     """Turns all that let the packet pass, one after the other, and changes what would have to change."""
     network = Network(bundle if isinstance(bundle, list) else [bundle])
     hops, end = walk_of(network, words, answer)
-    tried = 0
+    tried, lines = 0, [it for it in out.splitlines() if re.match(r"  \d+\. ", it)]
+    if len(lines) != len(hops) or not isinstance(end, str) and out.splitlines()[-2:] not in sentences_due(network, end)[:2]:
+        wrong.append((name, out, end))
     for number, hop in enumerate(hops, 1):
         for note in hop.notes:
+            if note_words(network, note) not in lines[number - 1]:
+                wrong.append((name, note, lines[number - 1]))
             other = copy.deepcopy(bundle)
             due = turned(other, note)
             if due:
@@ -505,7 +556,21 @@ def try_trace(wrong, told_of, asked, bundle, words, answer, name):
     return tried
 
 
-def try_report(wrong, told_of, asked, bundle, words, answer, name):
+def note_words(network, note):
+    """What a sentence has to say of what let a packet pass."""
+    kind, *of = note
+    named = Teller(network).named
+    if kind == "acl":
+        return f"{'outbound' if of[1].outward else 'inbound'} row {of[1].number} of {named(of[0].id)} lets it {'out of' if of[1].outward else 'into'} {named(of[2])}"
+    if kind == "route":
+        return f"{named(of[0].id)} sends it by its route {Teller(network).route_words(of[1])}"
+    if kind == "transit":
+        return f"its table {named(of[0])} sends it by its route {of[1].block} to {named(of[1].attachment)}"
+    return {"inside": "it stays in the subnet", "host": "is an address of", "appliance": "its appliance forwards", "public": "becomes the public address", "owner": "is a public address of",
+            "private": "becomes the private address", "translated": "its source becomes the gateway's", "restored": "it answers what went out here before", "carried": "from a block of", "left": "into"}[kind]
+
+
+def try_report(wrong, told_of, asked, bundle, words, answer, name, out, less):
     """Changes what would have to change for the first packet of a row, which then isn't stopped as the row says."""
     network, tried = Network([bundle]), 0
     start, goal = re.search(r"^query from (\S+) to (\S+)$", answer, re.M).groups()
@@ -517,6 +582,12 @@ def try_report(wrong, told_of, asked, bundle, words, answer, name):
         header = low_corner(box_of(it[3]))
         told = round_trip(network, start, goal, header)
         told_of.add(told.stop.name)
+        found = re.search(rf"^Row {it[0].split(' ')[1]}\b.*\n(?:  .*\n)*?(  Why: .*)\n(  To change: .*)$", out, re.M)
+        allowed = sentences_due(network, told.stop)
+        if not found or list(found.groups()) not in allowed:
+            wrong.append((name, it[0], found and found.groups(), allowed))
+        else:
+            less[f"{it[1]}, {'all' if list(found.groups()) == allowed[0] else 'less'}"] += 1
         other = copy.deepcopy(bundle)
         if mended(other, told.stop):
             tried += 1
@@ -542,9 +613,19 @@ QUESTIONS = [
     ("three-tiers", "ask", "from eni-app-a-1 to eni-db-a port 0-5431", ["Row 1 and 1 more: their requests are stopped by GroupsOut of eni-app-a-1.", "To 10.20.128.4 it allows tcp 5432 and tcp 443 alone."]),
     ("three-tiers", "ask", "from internet to eni-db-a", ["its source 0.0.0.0 and its destination 0.0.0.0 are non-routable", "NAT gateway nat-a lets in only the answers"]),
     ("three-tiers", "ask", "from internet to eni-db-a max 100", ["The report was cut short."]),
-    ("three-tiers", "ask", "from eni-app-a-1 to internet dst 52.218.0.0/17", ["not known", "So this is no 'no'"]),
+    ("three-tiers", "ask", "from eni-app-a-1 to internet dst 52.218.0.0/17", ["No packet is known to get through from eni-app-a-1 to the internet: tcp from 10.20.16.4 to 52.218.0.0-52.218.127.255, all ports.", "not known", "So this is no 'no'"]),
     ("two-accounts", "ask", "from eni-build-1 to eni-shop-1 sport 1024-65535 port 22-22", ["peering pcx-shop-tools"]),
     ("hub", "ask", "from eni-dev-1 to eni-prod-1", ["its appliance forwards tcp and udp to and from port 443 alone", "by its route prefix list pl-spokes"]),
+    ("shop", "reach", "from internet", ["In 10 boxes all packets get through", "From the internet to eni-web (web-1):", "  Row 1: tcp from 1.0.0.0-3.4.255.255 to 203.0.113.10, port 443."]),
+    ("shop", "reach", "from internet max 1", ["In 1 box all packets", "The text was cut short: tcp from", "is the first packet that it leaves out, and it gets through too."]),
+    ("shop", "reach", "from eni-db to eni-web port 1-1", ["No packet is known to get through."]),
+    ("shop", "matrix", "", ["Of 3 interfaces, 6 pairs: 4 open something, 2 open nothing that is known, and 0 have no address.", "eni-db (db-1) is reached on tcp 5432 from eni-app (app-1)."]),
+    ("one-subnet", "unused", "from eni-a to eni-b", ["Of 4 rules 2 decide nothing of this query.", "Without inbound row 100 of acl-1, which allows all protocols from anywhere, nothing would be otherwise.",
+                                                    "Without inbound rule 1 of sg-b, which allows tcp 443 from 10.0.1.0/24, it would be otherwise of tcp from 10.0.1.10 port 0 to 10.0.1.20 port 443."]),
+    ("one-subnet", "flows", os.path.join(TOP, "examples", "one-subnet.log"), ["2 lines agree with the rules, and 1 is otherwise.", "Line 3 was accepted, and by the rules it is stopped by GroupsIn of eni-b.", "Of 1 line nothing is said."]),
+    ("three-tiers", "expect", os.path.join(TOP, "examples", "three-tiers.rules"), ["25 rules hold, 0 fail, and of 0 it is not known."]),
+    ("shop", "diff", os.path.join(TOP, "examples", "one-subnet.json") + " from eni-web to eni-app", ["The change closes 1 box.", "Row 1: from eni-web (web-1), tcp from 10.0.1.10 to 10.0.2.10, port 8080.",
+                                                                                                    "Of each packet: it reached eni-app (app-1) before the change, and after it there is no such start."]),
     ("hub", "ask", "from eni-sandbox-1 to eni-shared-1 sport 1024-65535", ["its requests arrive, and the replies are stopped by TgwBlackhole", "of tgw-rtb-spokes, which is chosen for 10.43.16.4, is a blackhole"]),
 ]
 
@@ -583,11 +664,22 @@ def run_others(results, asked):
                        ("event 1 arrived eni-b tcp 10.0.1.10 10.0.1.20 5000 443\nevent 2 stopped GroupsOut eni-b -\n", "no outbound rule of sg-b allows the packet")):
         status, out, err = explain(text, small)
         results.add(f"told: {told}", (status, err, told in out), (0, "", True))
+    rows = explain(asked.answer(BASE, "ask", "from eni-a to eni-b src 10.1.1.0/28 port 22-22"), asked.path)[1]
+    results.add("rows at the ends that were asked about", re.findall(r"^Row .*$|^  tcp .*$", rows, re.M), [
+        "Row 2: its requests are stopped by GroupsIn of eni-b.", "  tcp from 10.1.1.10 to 10.2.1.10, port 22",
+        "Row 1 and 1 more: their requests are stopped by SourceCheck of eni-a (web one).", "  tcp from 10.1.1.0-10.1.1.9 to 10.2.1.10, port 22", "  tcp from 10.1.1.11-10.1.1.15 to 10.2.1.10, port 22"])
+    with no_program():
+        alone = explain(asked.answer(BASE, "ask", "from eni-a to eni-b src 10.1.1.0/28 port 22-22"), asked.path)[1]
+    results.add("without a program: where it starts", "10.1.1.0 is none of the private addresses of eni-a (web one) (10.1.1.10)" in alone, True)
+    results.add("without a program: further on", "no inbound rule of sg-b (database of the shop) allows the packet." in alone and "Of single packets vpc why tells more" in alone, True)
     walk = asked.answer(BASE, "trace", TO_B.format(22))
     answer = asked.answer(BASE, "ask", "from eni-a to eni-b")
     blocked = asked.answer(BASE, "ask", "from eni-a to eni-b port 22-22")
+    why = follow.why(asked.path, TO_B.format(22).split())
     for name, text in (
-        ("nothing", ""), ("a newline", "\n"), ("words", "refused words 1\n"), ("a file", "read fault 1\n"), ("memory", "want of memory\n"), ("a matrix", "matrix\n"), ("made", "make 1\npair eni-1 internet blocked\n"),
+        ("another route of why", why.replace("tgw-1", "tgw-2")), ("another row of why", why.replace("acl-a out 100", "acl-a out 99")), ("a table of why that isn't there", why.replace("rtb-a", "rtb-z")),
+        ("another rule of why", why.replace("sg-a out 1", "sg-a out 2")), ("a verdict of why", why.replace("acl-a in 100 allow", "acl-a in 100 deny")), ("less of why", why.replace("acl acl-a in 100 allow\n", "")),
+        ("nothing", ""), ("a newline", "\n"), ("words", "refused words 1\n"), ("a file", "read fault 1\n"), ("memory", "want of memory\n"), ("made", "make 1\npair eni-1 internet blocked\n"),
         ("bytes", b"\xff\n"), ("carriage returns", walk.replace("\n", "\r\n")), ("two", walk + walk), ("a hop less", "\n".join(walk.splitlines()[1:]) + "\n"), ("another hop", walk.replace("subnet-a", "subnet-b")),
         ("another rule", walk.replace("out 1", "out 2")), ("another stop", walk.replace("GroupsIn", "GroupsOut")), ("another component", walk.replace("stopped GroupsIn eni-b", "stopped GroupsIn eni-a")),
         ("another address", walk.replace("10.1.1.10", "10.1.1.11")), ("an end that isn't there", walk.replace("eni-a", "eni-z")), ("another packet", answer.replace("packet tcp 10.1.1.10 10.2.1.10 0", "packet tcp 10.1.1.10 10.2.1.10 1")),
@@ -610,7 +702,10 @@ def run_others(results, asked):
     with open(os.path.join(asked.folder, "text"), "w", encoding="utf-8") as file:
         file.write(walk)
     ran = subprocess.run([os.path.join(TOP, "explain"), asked.path, file.name], capture_output=True, check=False)
-    results.add("as a process", (ran.returncode, ran.stdout.decode(), ran.stderr), (0, explain(walk, asked.path)[1], b""))
+    # (it asks the program that stands beside it, if that knows the command)
+    with no_program():
+        alone = explain(walk, asked.path)[1]
+    results.add("as a process", (ran.returncode, ran.stdout.decode() in (alone, explain(walk, asked.path)[1]), ran.stderr), (0, True, b""))
 
 
 # ---- bundles that were written to deceive, and such as vpc alone takes
@@ -744,6 +839,8 @@ def main():
     results = Results()
     with tempfile.TemporaryDirectory() as folder:
         asked = Asked(os.path.abspath(told.program), folder)
+        if not stand_in(asked.program, folder):
+            print("the program has no why: tests/follow.py stands in its place")
         for it in STOPS:
             run_stop(results, asked, it)
         results.add("all stops", {it[0].split(",")[0].split(" ")[0] for it in STOPS}, set(ALL_STOPS))

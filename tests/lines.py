@@ -48,6 +48,31 @@ hop 1 internet internet udp 198.51.100.7 203.0.113.5 53 5000
 stopped AclIn acl-1 32767
 {"text":"trace","line":"stopped","name":"AclIn","id":"acl-1","rule":"32767"}
 
+hop 1 out eni-a tcp 10.0.1.10 10.0.2.20 5000 443 by sg-a out 1
+{"text":"why","line":"hop","n":1,"place":"out","id":"eni-a","proto":"tcp","src":"10.0.1.10","dst":"10.0.2.20","p":5000,"q":443,"by":"rule","group":"sg-a","direction":"out","rule":"1"}
+group sg-a out 1
+{"text":"why","line":"group","group":"sg-a","direction":"out","rule":"1"}
+hop 2 router subnet-a tcp 10.0.1.10 10.0.2.20 5000 443
+{"text":"why","line":"hop","n":2,"place":"router","id":"subnet-a","proto":"tcp","src":"10.0.1.10","dst":"10.0.2.20","p":5000,"q":443}
+route rtb-main pl-inner nat-1
+{"text":"why","line":"route","table":"rtb-main","reach":"pl-inner","target":"nat-1"}
+acl acl-1 out 100 allow
+{"text":"why","line":"acl","id":"acl-1","direction":"out","number":100,"verdict":"allow"}
+hop 3 nat-out nat-1 tcp 10.0.1.10 10.0.2.20 5000 443
+{"text":"why","line":"hop","n":3,"place":"nat-out","id":"nat-1","proto":"tcp","src":"10.0.1.10","dst":"10.0.2.20","p":5000,"q":443}
+becomes tcp 10.0.3.5 10.0.2.20 5000 443
+{"text":"why","line":"becomes","proto":"tcp","src":"10.0.3.5","dst":"10.0.2.20","p":5000,"q":443}
+hop 4 router subnet-n tcp 10.0.3.5 10.0.2.20 5000 443
+{"text":"why","line":"hop","n":4,"place":"router","id":"subnet-n","proto":"tcp","src":"10.0.3.5","dst":"10.0.2.20","p":5000,"q":443}
+route rtb-main 10.0.0.0/16 local
+{"text":"why","line":"route","table":"rtb-main","reach":"10.0.0.0/16","target":"local"}
+acl acl-1 out 100 allow
+{"text":"why","line":"acl","id":"acl-1","direction":"out","number":100,"verdict":"allow"}
+acl acl-b in 32767 deny
+{"text":"why","line":"acl","id":"acl-b","direction":"in","number":32767,"verdict":"deny"}
+stopped AclIn acl-b 32767
+{"text":"why","line":"stopped","name":"AclIn","id":"acl-b","rule":"32767"}
+
 reachable
 {"text":"ask","line":"reachable"}
 packet icmp 10.0.1.10 10.0.2.20 0 2048
@@ -467,6 +492,33 @@ rule acl-1 in 100 needed tcp 10.0.1.10 10.0.2.20 0 0
 rule acl-1 out 100 needed tcp 10.0.1.10 10.0.2.20 0 0
 
 rules 0
+
+hop 1 internet internet tcp 198.51.100.7 203.0.113.80 5000 443
+hop 2 igw-in igw-1 tcp 198.51.100.7 203.0.113.80 5000 443
+becomes tcp 198.51.100.7 10.0.1.10 5000 443
+hop 3 enter vpc-1 tcp 198.51.100.7 10.0.1.10 5000 443
+acl acl-1 in 100 allow
+hop 4 in eni-a tcp 198.51.100.7 10.0.1.10 5000 443 by none
+hop 5 out eni-a tcp 198.51.100.7 10.0.1.10 5000 443 by none
+hop 6 router subnet-a tcp 198.51.100.7 10.0.1.10 5000 443
+route rtb-a 10.0.0.0/8 tgw-1
+acl acl-1 out 100 allow
+acl acl-1 in 100 allow
+hop 7 tgw att-a tcp 198.51.100.7 10.0.1.10 5000 443
+route tgw-rtb-a 10.0.0.0/8 -
+stopped Unmodelled tgw-rtb-a -
+
+hop 1 out eni-a tcp 10.0.1.10 10.9.0.1 1 2 by none
+hop 2 router subnet-a tcp 10.0.1.10 10.9.0.1 1 2
+route rtb-a 10.9.0.0/16 pcx-9
+stopped Blackhole rtb-a 10.9.0.0/16
+
+hop 1 out eni-a tcp 10.0.1.10 10.9.0.1 1 2 by none
+hop 2 router subnet-a tcp 10.0.1.10 10.9.0.1 1 2
+route rtb-a 10.9.0.0/16 igw-1
+acl acl-1 out 7 allow
+hop 3 igw-out igw-1 tcp 10.0.1.10 10.9.0.1 1 2
+stopped NoPublic igw-1 -
 """
 
 # The stops, each with a component and a rule as it has them.
@@ -521,6 +573,18 @@ hop 1 out eni-b udp 10.0.1.20 10.0.1.10 54 53 by tracked
 hop 2 in eni-a udp 10.0.1.20 10.0.1.10 54 53 by tracked
 arrived eni-a
 """
+WHY = f"""{HOP}group sg-a out 1
+hop 2 router subnet-a tcp 10.0.1.10 10.0.2.20 1 2
+route rtb-a 0.0.0.0/0 nat-1
+acl acl-1 out 100 allow
+acl acl-2 in 90 allow
+hop 3 nat-out nat-1 tcp 10.0.1.10 10.0.2.20 1 2
+becomes tcp 10.0.3.5 10.0.2.20 1025 2
+hop 4 router subnet-n tcp 10.0.3.5 10.0.2.20 1025 2
+route rtb-n 10.0.0.0/16 local
+acl acl-2 out 80 deny
+stopped AclOut acl-2 80
+"""
 REPORT = f"vpc-report 1\nquery from eni-a to eni-b\nbox {BOX}\n"
 
 # What is no text, or only looks like one.
@@ -542,6 +606,13 @@ NONE = [
     REACHABLE.replace("out eni-b", "out eni-c"), REACHABLE.replace("arrived eni-b", "stopped GroupsIn eni-b -"), REACHABLE.replace("arrived eni-a", "stopped GroupsIn eni-a -"),
     REACHABLE.replace("reply\n", ""), REACHABLE.replace("request\n", ""), REACHABLE.replace("reply", "request"), REACHABLE[: REACHABLE.index("reply")], REACHABLE + "cells 7\n",
     HOP.replace(" out ", " router ", 1).replace(" by sg-a out 1", "") + "stopped NoRoute rtb-1 -\n", HOP + HOP.replace("hop 1 out", "hop 2 in") + "arrived eni-b\n",
+    # walks with what decided
+    HOP + "group sg-a out 2\nstopped NoRoute rtb-1 -\n", HOP + "group sg-a out 1\ngroup sg-a out 1\nstopped NoRoute rtb-1 -\n", HOP + "route rtb-a 10.0.0.0/8 local\nstopped NoRoute rtb-1 -\n",
+    "group sg-a out 1\n" + HOP + "stopped NoRoute rtb-1 -\n", WHY.replace("group sg-a out 1\n", ""), WHY.replace("route rtb-a", "route rtb-a 10.0.0.0/8"), WHY.replace("route rtb-a 0.0.0.0/0 nat-1\n", ""),
+    WHY.replace("becomes tcp 10.0.3.5", "becomes tcp 10.0.3.6"), WHY.replace("becomes tcp 10.0.3.5 10.0.2.20 1025 2\n", ""), WHY.replace("acl acl-1 out 100 allow\n", "acl acl-1 out 100 allow\nacl acl-1 out 100 allow\n"),
+    WHY.replace("100 allow", "100 deny"), WHY.replace("80 deny", "80 allow"), WHY.replace("out 80", "in 80"), WHY.replace("AclOut acl-2 80", "AclOut acl-2 81"), WHY.replace("AclOut acl-2 80", "NoHost vpc-1 -"),
+    WHY.replace("acl acl-2 out 80 deny\n", ""), WHY.replace("out 80 deny", "out 080 deny"), WHY.replace("stopped AclOut acl-2 80\n", ""), WHY.replace("100 allow", "100 passes"), WHY.replace("acl-1 out 100", "acl-1 up 100"),
+    WHY + "acl acl-2 out 80 deny\n", WHY.replace("hop 4 router subnet-n", "hop 4 enter vpc-1"), WHY.replace("becomes tcp 10.0.3.5 10.0.2.20 1025 2\n", "becomes tcp 10.0.3.5 10.0.2.20 1025 2\n" * 2),
     # reports
     REPORT, REPORT + "end 1\n", REPORT + f"row 2 request GroupsIn eni-b - {BOX}\nend 1\n", REPORT + f"row 1 request GroupsIn eni-b - {BOX}\nend 2\n",
     REPORT + f"row 1 request GroupsIn eni-b - {BOX.replace('80-80', '80-81')}\nend 1\n", REPORT + f"row 1 request GroupsIn eni-b - {BOX.replace('80-80', '80-79')}\nend 1\n",

@@ -19,10 +19,9 @@ import tempfile
 TOP = os.path.dirname(os.path.dirname(os.path.abspath(__file__)))
 sys.path.insert(0, TOP)
 
-from scripts import explain, explain_stops, explain_words, grammar, headers, picture_walks, texts, words
+from scripts import explain_stops, explain_told, explain_words, grammar, headers, picture_walks, texts, words
 from scripts.bundles import LISTS
 from scripts.commands import COMMANDS
-from scripts.explain_walk import Walker
 
 SOURCES = [os.path.relpath(it, TOP) for it in sorted(glob.glob(os.path.join(TOP, "scripts", "*.py")))] + ["scripts/make-zipapp", *COMMANDS]
 COLUMNS, MOST_LINES = 100, 40
@@ -87,13 +86,15 @@ def run_tables(results):
     """What has a row for each stop or place."""
     told = {it for it in explain_stops.SENTENCES} | {it for it in words.STOPS if hasattr(explain_stops.Why, f"stop_{it.lower()}")}
     results.add("stops with sentences", told, set(words.STOPS))
-    homes = " ".join(explain.HOMES.values()).split()
+    homes = " ".join(explain_told.HOMES.values()).split()
     results.add("homes of stops", (len(homes), set(homes) - set(words.STOPS)), (len(set(homes)), set()))
     results.add("endings", set(explain_stops.ENDINGS) - set(words.STOPS), set())
     results.add("drawn places", set(picture_walks.KINDS), set(words.PLACES))
     results.add("icons", {icon for icon, _ in picture_walks.KINDS.values()}, set(picture_walks.ICONS))
     results.add("told places", set(explain_words.PLACE_NAMES), set(words.PLACES))
-    results.add("followed places", {it[3:].replace("_", "-") for it in dir(Walker) if it.startswith("at_")}, set(words.PLACES))
+    results.add("places of stops", {it[3:].replace("_", "-") for it in dir(explain_told.Way) if it.startswith("at_")}, set(words.PLACES))
+    results.add("places with components", {*explain_told.PLACE_HOMES, "internet"}, set(words.PLACES))
+    results.add("places where something decides", set(texts.DECIDED_AT) - set(words.PLACES), set())
     results.add("texts with readers", set(texts.READERS), set(grammar.FORMS))
     # (a list of stops elsewhere would have most of them in a few lines)
     several = [path for path in SOURCES if path != "scripts/words.py" for it in re.findall(r'"[\w ]{200,}"', source(path)) if len(set(it.strip('"').split()) & set(words.STOPS)) > 5]

@@ -56,6 +56,20 @@ STOPPED = """hop 1 out eni-a tcp 10.0.1.10 10.0.1.20 5000 80 by none
 hop 2 router subnet-a tcp 10.0.1.10 10.0.1.20 5000 80
 stopped AclIn acl-1 90
 """
+# A walk with what decided, which is drawn as it is without.
+WHY = """hop 1 out eni-a tcp 10.0.1.10 198.51.100.7 0 443 by sg-a out 1
+group sg-a out 1
+hop 2 router subnet-a tcp 10.0.1.10 198.51.100.7 0 443
+route rtb-a 0.0.0.0/0 nat-1
+acl acl-1 out 100 allow
+acl acl-1 in 100 allow
+hop 3 nat-out nat-1 tcp 10.0.1.10 198.51.100.7 0 443
+becomes tcp 10.0.3.5 198.51.100.7 1024 443
+hop 4 router subnet-n tcp 10.0.3.5 198.51.100.7 1024 443
+route rtb-n 0.0.0.0/0 igw-1
+acl acl-1 out 90 deny
+stopped AclOut acl-1 90
+"""
 REPORT = """vpc-report 1
 query from eni-a to eni-b
 box 6-6 10.0.1.10-10.0.1.10 10.0.2.20-10.0.2.20 0-32767 443-443
@@ -282,6 +296,16 @@ def run_texts(results, path):
         check_picture(results, f"{name}, ids of signs", odd, is_wrapped=True)
 
 
+def run_why(results, path):
+    alone = "".join(f"{it}\n" for it in WHY.splitlines() if it.split(" ")[0] in ("hop", "stopped"))
+    for more in ([], ["--names", path]):
+        results.add(f"what decided {more}", picture(WHY, *more), picture(alone, *more))
+    for name, old, new in (("another rule", "group sg-a out 1", "group sg-a out 2"), ("another header", "becomes tcp 10.0.3.5", "becomes tcp 10.0.3.6"), ("no route", "route rtb-a 0.0.0.0/0 nat-1\n", ""),
+                           ("another row", "90 deny", "91 deny"), ("a row that allows", "90 deny", "90 allow"), ("another place", "hop 4 router", "hop 4 enter")):
+        status, out, err = picture(WHY.replace(old, new))
+        results.add(f"what decided: {name}", (status, out, err.count("\n")), (2, "", 1))
+
+
 def run_refused(results):
     for name, text in REFUSED:
         status, out, err = picture(text)
@@ -307,12 +331,12 @@ def run_words(results, folder):
     results.add("a file", picture("", text), whole)
     results.add("names before", picture("", "--names", bundle, text), picture("", text, "--names", bundle))
     for words, why in (
-        ([other], f"{other} can't be drawn: 'yes' begins no text of trace, ask, matrix, reach or diff"), (["none"], "none can't be read: No such file or directory"),
+        ([other], f"{other} can't be drawn: 'yes' begins no text of trace, why, ask, matrix, reach or diff"), (["none"], "none can't be read: No such file or directory"),
         (["--names", "none"], "none can't be read: No such file or directory"), (["--names", text], f"{text} is no bundle: it is not one JSON value in UTF-8"),
         (["--by", "zone"], "--by takes host, group, subnet or vpc"), (["--by", "group"], "--by group takes --names BUNDLE, which tells the group of each interface"),
         (["--by"], "--by is not one of its words; --help says more"), (["--title", "a", "--title", "b"], "--title is not one of its words; --help says more"),
         ([text, text], f"{text} is not one of its words; --help says more"), (["--name"], "--name is not one of its words; --help says more"),
-        (["--names"], "--names is not one of its words; --help says more"), (["--html", text, other], f"{other} can't be drawn: 'yes' begins no text of trace, ask, matrix, reach or diff"),
+        (["--names"], "--names is not one of its words; --help says more"), (["--html", text, other], f"{other} can't be drawn: 'yes' begins no text of trace, why, ask, matrix, reach or diff"),
     ):
         results.add(f"words {words}", picture(NAT, *words), (2, "", f"picture: {why}\n"))
     with open(other, "w", encoding="utf-8") as file:
@@ -912,6 +936,7 @@ def main(words):
     results = Results()
     with tempfile.TemporaryDirectory() as folder:
         run_texts(results, os.path.join(folder, "names.json"))
+        run_why(results, os.path.join(folder, "names.json"))
         run_refused(results)
         run_words(results, folder)
         run_page(results, folder)

@@ -197,6 +197,17 @@ def told(top, folder, words):
     return ran.stdout, ran.returncode, said.stdout + said.stderr
 
 
+def knows(program, command):
+    """Whether a command is one of the program's."""
+    return subprocess.run([program, command], capture_output=True, check=False).stdout != b"refused words 1\n"
+
+
+def of_why():
+    """What is said of words of `why`: the same as of those of `trace`."""
+    rows = [it for it in SENTENCES if isinstance(it[0], str) and it[0].startswith("trace ")]
+    return [(f"why {line[6:]}", said.replace("./vpc trace ", "./vpc why ")) for line, said in rows]
+
+
 class Counts:
     """How many passed and failed."""
 
@@ -289,8 +300,9 @@ def main(words):
     with tempfile.TemporaryDirectory() as room, concurrent.futures.ThreadPoolExecutor(4) as lanes:
         write_files(room)
         top = checkout(room, program)
-        lists = [it.split() if isinstance(it, str) else it for it, _ in SENTENCES]
-        for (line, wanted), (text, status, said) in zip(SENTENCES, lanes.map(lambda it: told(top, room, it), lists)):
+        sentences = SENTENCES + (of_why() if knows(program, "why") else [])
+        lists = [it.split() if isinstance(it, str) else it for it, _ in sentences]
+        for (line, wanted), (text, status, said) in zip(sentences, lanes.map(lambda it: told(top, room, it), lists)):
             counts.expect(f"{line} is refused: {text[:80]!r}", status in REFUSED, True)
             counts.expect(line, said.decode("ascii", "replace"), f"vpc: {wanted}\n" if wanted else "")
         stored = list(stored_refusals())

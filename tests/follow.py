@@ -1,21 +1,21 @@
-"""Follows packets through a network, as docs/WALK.md tells, and keeps what was asked on the way."""
+"""Follows packets through a network, as docs/WALK.md tells, to judge what `explain` tells: the rows are read as scripts/ reads them,
+and what is chosen of them is chosen here. It prints walks as `trace` and `why` do, and stands in for a program without `why`."""
 
 from __future__ import annotations
 
+import os
+import sys
 from typing import Any, NamedTuple, Optional, Union
 
-from scripts.bundles import Row
-from scripts.explain_network import Appliance, Interface, Network, Route, Rule
-from scripts.headers import Header, block_of, reply_of
-from scripts.words import PROTOCOLS
+sys.path.insert(0, os.path.dirname(os.path.dirname(os.path.abspath(__file__))))
 
-UNROUTABLE = [
-    block_of(it)
-    for it in (
-        "0.0.0.0/8", "10.0.0.0/8", "127.0.0.0/8", "169.254.0.0/16", "172.16.0.0/12",
-        "192.168.0.0/16", "224.0.0.0/3",
-    )
-]
+from scripts import explain_network
+from scripts.bundles import Row, json_in, objects_of
+from scripts.explain_network import Appliance, Interface, Route, RouteTable, Rule, TransitRoute, is_unroutable
+from scripts.explain_told import Stop
+from scripts.headers import Header, address, reply_of
+from scripts.words import PROTOCOL_NUMBERS, PROTOCOLS
+
 MOST_PLACES, MOST_TRANSLATIONS, FIRST_PORT = 64, 55_000, 1024
 
 # Where a packet is: the kind of place, its id, and where it came from where that matters.
@@ -24,15 +24,6 @@ Place = tuple[Any, ...]
 By = Union[None, str, tuple[str, Rule]]
 # What was asked at a hop and let the packet pass: its kind, and what it is about.
 Note = tuple[Any, ...]
-
-
-class Stop(NamedTuple):
-    """What stopped a packet; `facts` are what that is about."""
-
-    name: str
-    id: str
-    rule: str
-    facts: dict[str, Any]
 
 
 class Hop(NamedTuple):
@@ -61,8 +52,39 @@ Then = Union[Go, Stop, str]
 Step = tuple[By, Then]
 
 
-def is_unroutable(number: int) -> bool:
-    return any(it.holds(number) for it in UNROUTABLE)
+class Network(explain_network.Network):
+    """The rows of a bundle, and what its tables and rules choose."""
+
+    def length_of(self, route: Route, number: int) -> Optional[int]:
+        """How long a route's destination is that holds an address; None where none does."""
+        blocks = [route.block] if route.block else self.lists.get(route.list or "", [])
+        return max((it.length for it in blocks if it.holds(number)), default=None)
+
+    def choose(self, table: RouteTable, number: int) -> Optional[Route]:
+        told = [(self.length_of(it, number), it) for it in table.routes]
+        found = [(length, it) for length, it in told if length is not None]
+        if any(it.kind == "local" for _, it in found):
+            found = [it for it in found if not it[1].propagated or it[1].kind == "local"]
+
+        def rank(it: tuple[int, Route]) -> tuple[int, int]:
+            return it[0], 0 if it[1].propagated else 2 if it[1].block else 1
+
+        return max(found, key=rank)[1] if found else None
+
+    def choose_transit(self, table: str, number: int) -> Optional[TransitRoute]:
+        found = [it for it in self.transit_tables[table] if it.block.holds(number)]
+
+        def rank(it: TransitRoute) -> tuple[int, bool]:
+            return it.block.length, not it.propagated
+
+        return max(found, key=rank) if found else None
+
+    def first_rule(self, interface: Interface, outward: bool, h: Header) -> Optional[tuple[str, Rule]]:
+        far = h.dst if outward else h.src
+        for group, it in self.rules_of(interface, outward):
+            if self.allows_flow(it, h) and self.allows_far(group, it, far):
+                return group, it
+        return None
 
 
 class Walker:
@@ -88,7 +110,8 @@ class Walker:
                 return hops, then
             if then.place in seen or len(hops) == MOST_PLACES:
                 name = "Loop" if then.place in seen else "TooFar"
-                facts = {"place": then.place, "hops": hops}
+                chosen = [note for it in hops for note in it.notes if note[0] in ("route", "transit")]
+                facts = {"tables": [it[1] if it[0] == "transit" else it[1].id for it in chosen]}
                 return hops, Stop(name, self.printed(then.place), "-", facts)
             place, header = then
 
@@ -325,7 +348,7 @@ class Walker:
         if table is None or table not in network.transit_tables:
             return None, Stop("TgwNoTable", place[1], "-", {"header": h, "table": table})
         route = network.choose_transit(table, h.dst)
-        facts = {"header": h, "attachment": place[1], "route": route}
+        facts = {"header": h, "attachment": place[1], "route": route, "table": table}
         if not route:
             return None, Stop("TgwNoRoute", table, "-", facts)
         if route.blackhole:
@@ -400,3 +423,86 @@ def round_trip(network: Network, start: str, goal: Optional[str], header: Header
         facts = {**facts, "header": returned, "goal": end, "wanted": wanted}
         return Round("reply", Stop("WrongReturn", final, "-", facts), hops, back, end)
     return Round("reply", None, hops, back, end)
+
+
+# ---- texts
+
+
+def printed_walk(hops: list[Hop], end: Union[Stop, str]) -> list[str]:
+    """A walk as `trace` prints it."""
+    lines = []
+    for number, it in enumerate(hops, 1):
+        by = "" if it.by is None else f" by {it.by}"
+        if isinstance(it.by, tuple):
+            by = f" by {rule_words(it)}"
+        lines.append(f"hop {number} {it.kind} {it.id} {it.header}{by}")
+    return [*lines, f"arrived {end}" if isinstance(end, str) else f"stopped {end.name} {end.id} {end.rule}"]
+
+
+def rule_words(hop: Hop) -> str:
+    assert isinstance(hop.by, tuple)
+    return f"{hop.by[0]} {'out' if hop.kind == 'out' else 'in'} {hop.by[1].name}"
+
+
+def printed_why(hops: list[Hop], end: Union[Stop, str]) -> list[str]:
+    """A walk as `why` prints it."""
+    *lines, last = printed_walk(hops, end)
+    told = []
+    for number, (line, hop) in enumerate(zip(lines, hops), 1):
+        told += [line, *decided(hop)]
+        if number == len(hops) and isinstance(end, Stop):
+            told += refused(hop, end)
+        elif number < len(hops) and hops[number].header != hop.header:
+            told.append(f"becomes {hops[number].header}")
+    return [*told, last]
+
+
+def decided(hop: Hop) -> list[str]:
+    """What let the packet pass."""
+    lines = [f"group {rule_words(hop)}"] if isinstance(hop.by, tuple) else []
+    for kind, *of in hop.notes:
+        if kind == "route":
+            lines.append(f"route {of[0].id} {of[1].reach()} {of[1].target}")
+        elif kind == "transit":
+            lines.append(f"route {of[0]} {of[1].block} {of[1].attachment}")
+        elif kind == "acl":
+            lines.append(f"acl {of[0].id} {'out' if of[1].outward else 'in'} {of[1].number} allow")
+    return lines
+
+
+def refused(hop: Hop, end: Stop) -> list[str]:
+    """What stopped it."""
+    route = end.facts.get("route")
+    if end.name in ("AclOut", "AclIn"):
+        return [f"acl {end.id} {end.name[3:].lower()} {end.rule} deny"]
+    if end.name == "Blackhole" and route:
+        return [f"route {end.id} {route.reach()} {route.target}"]
+    if hop.kind == "tgw" and route:
+        return [f"route {end.facts['table']} {route.block} {route.attachment or '-'}"]
+    return []
+
+
+def why(path: str, words: list[str]) -> str:
+    """What `vpc why` prints of a packet, by the words behind FILE; nothing where it refuses."""
+    label, _, start, *header = words
+    hops, end = Walker(network_of(path)).walk(label, start, header_of(header))
+    return "\n".join([*printed_why(hops, end), ""])
+
+
+# The network of the file that was read last.
+READ: dict[str, Any] = {}
+
+
+def network_of(path: str) -> Network:
+    with open(path, "rb") as file:
+        data = file.read()
+    if READ.get("data") != data:
+        READ.update(data=data, network=Network(objects_of(json_in(path))))
+    found: Network = READ["network"]
+    return found
+
+
+def header_of(words: list[str]) -> Header:
+    """The header of five words."""
+    proto, src, dst, p, q = words
+    return Header(PROTOCOL_NUMBERS.get(proto) or int(proto), address(src), address(dst), int(p), int(q))
