@@ -14,15 +14,15 @@ file TEXT or comes on standard input:
                    and no other file. With BUNDLE it has its checksum, when and of which account it
                    was collected, where it tells that, and what explain tells of each text
 
-A walk has its reply coming back beside it; that of why is drawn as trace tells it. A report is a plane
-of the two sides of its box that its rows cut into most pieces. A matrix is folded into classes of interfaces that reach and are reached
-alike, and so are the ends of reach and of diff; where that is more than is seen at once, by groups,
-else by subnets, else by VPCs, with how many pairs of hosts have each. Ports have one chip with
-however many ranges of addresses share them. What opens stands in red, what isn't known in grey.
-Whatever is too much to be drawn is counted. Each word of a picture stands in the text or in BUNDLE,
-but for those of OWN_WORDS in scripts/picture.py. The colours are ones that colour-blind readers can
-tell, with a word beside each; the reader's light or dark scheme decides the rest. Pictures prove
-nothing: what they show is what the text says.
+A walk has its reply coming back beside it; that of why is drawn as trace tells it. A report is a
+plane of the two sides of its box that its rows cut into most pieces. A matrix is folded into
+classes of interfaces that reach and are reached alike, and so are the ends of reach and of diff;
+where that is more than is seen at once, by groups, else by subnets, else by VPCs, with how many
+pairs of hosts have each. Ports have one chip with however many ranges of addresses share them. What
+opens stands in red, what isn't known in grey. Whatever is too much to be drawn is counted. Each
+word of a picture stands in the text or in BUNDLE, but for those of OWN_WORDS in scripts/picture.py.
+The colours are ones that colour-blind readers can tell, with a word beside each; the reader's light
+or dark scheme decides the rest. Pictures prove nothing: what they show is what the text says.
 
 Status 0; 2: TEXT is no text that can be drawn, or something can't be read, as one line on standard
 error says. It needs Python 3.9 or later alone.

@@ -521,7 +521,7 @@ def run_random(results, asked, cases):
     results.add("what was tried", tried > cases * 3, True)
     print(f"stops of which all is told, or less: {dict(less)}")
     results.add("stops of requests of which less is told", less["request, less"], 0)
-    results.add("stops of replies of which less is told", less["reply, less"] * 10 <= less["reply, all"], True)
+    results.add("stops of replies of which less is told", less["reply, less"] * 5 <= less["reply, all"] + 5, True)
     results.add("stops that were met", len(told_of) >= 16 or cases < 100, True)
 
 
