@@ -4,7 +4,7 @@ use Rattle.std.specs.List.{flat_map}
 use Rattle.std.proofs.lemmas.Grind.{flat_map-append}
 use Rattle.vpc_base.specs.Cuts.{AreAmong, CutLists, joined_cuts, no_cuts}
 use Rattle.vpc_model.specs.Cuts.{address_cuts, all_cuts, asked_at, cuts_at, cuts_at_interface, cuts_at_tgw_table, cuts_of, cuts_of_acl, cuts_of_appliance, cuts_of_blocks, cuts_of_group, cuts_of_group_id, cuts_of_interface, cuts_of_list, cuts_of_table, cuts_of_tgw_table, cuts_of_vpc, fixed_cuts, pair_cuts, unbounded_asked, unbounded_standing}
-use Rattle.vpc_model.specs.Lookup.{addresses_in, both_addresses, group_at, group_of_id, interface_at, no_group, table_at, table_of}
+use Rattle.vpc_model.specs.Lookup.{addresses_in, both_addresses, group_at, group_of_id, interface_at, no_group, no_table, no_tgw_table, table_at, table_of}
 use Rattle.vpc_model.specs.Near.{cuts_of_hops}
 use Rattle.vpc_model.specs.Transit.{table_of_attachment}
 use Rattle.vpc_model.specs.Verdict.{reply_hops, request_walk}
@@ -67,7 +67,7 @@ groups-among d ids = rows_among (cuts_of_group_id d) (all_cuts (cuts_of_group d)
 
 tgw-among : (d : Description) (o : Option TgwTableNo) → AreAmong (cuts_at_tgw_table d o) (all_cuts cuts_of_tgw_table d.tgw_tables)
 tgw-among d None = none_among (all_cuts cuts_of_tgw_table d.tgw_tables)
-tgw-among d (Some t) = row-at-among cuts_of_tgw_table (record { id = []; routes = [] }) d.tgw_tables t.0 refl
+tgw-among d (Some t) = row-at-among cuts_of_tgw_table no_tgw_table d.tgw_tables t.0 refl
 
 asked-among : (d : Description) (p : Place) → AreAmong (asked_at d p) (unbounded_asked d)
 asked-among d p = by p
@@ -98,7 +98,7 @@ asked-among d p = by p
     by (places.Into i) = of-groups (cuts_at_interface d i) (groups-among d (interface_at d i).groups)
     by (places.Router s came) =
         of-tables (cuts_of_table d (table_at d (table_of d s)))
-        (row-at-among (cuts_of_table d) (record { id = []; vpc = []; main = false; subnets = []; routes = [] }) d.tables (table_of d s).0 refl)
+        (row-at-among (cuts_of_table d) no_table d.tables (table_of d s).0 refl)
     by (places.Tgw a entered) = of-transit (cuts_at_tgw_table d (table_of_attachment d a)) (tgw-among d (table_of_attachment d a))
     by (places.Enter v b) = none_among (unbounded_asked d)
     by (places.IgwOut v) = none_among (unbounded_asked d)

@@ -15,6 +15,7 @@ use Rattle.vpc_model.specs.declared.outcomes.Verdict.TheVariants as verdicts
 use Rattle.vpc_examples.specs.Examples.{a_to_server, att, eni, first_walk, places_of, subnet, tcp, verdict_in, vpc}
 use Rattle.vpc_examples.specs.Networks.{acl, anywhere, bare, behind_nat, block, host, main_table, open_rows, peered, route, site_host, site_table, site_vpc, subnet_row, subnet_table, tgw_route, v4}
 use Rattle.vpc_examples.specs.Stops.{open_from_a, site, to_all_at}
+use Rattle.vpc_model.specs.Lookup.{no_vpc}
 
 -- the first two sites send each other their packets over their peering; the second has a block more, 10.5.0.0/16, with a host in it
 abbrev pub joined : Description
@@ -85,7 +86,7 @@ next_site k = if k == 19 then site 0 else site (k + 1)
 -- 20 VPCs at a transit gateway, which sends what comes from each to the next one and from the last to the first; a host in a
 -- subnet of its own sends there through a NAT gateway
 abbrev pub ring_of_sites : Description
-ring_of_sites = record (bare (map (λ k. record { id = site k; blocks = [] }) ring) (map (λ k. subnet_row (site k) (site k) (site 0)) ring ++ subnet_row (codes "h") (site 0) (site 0) ∷ [])) {
+ring_of_sites = record (bare (map (λ k. record no_vpc { id = site k }) ring) (map (λ k. subnet_row (site k) (site k) (site 0)) ring ++ subnet_row (codes "h") (site 0) (site 0) ∷ [])) {
   interfaces = record (host (codes "h") (codes "h") (v4 10 1 1 10) (site 0)) { groups = [] } ∷ record (host (codes "n") (site 0) (v4 10 1 2 5) (site 0)) { groups = [] } ∷ [];
   tables = subnet_table (codes "h") (site 0) (codes "h") (route anywhere (targets.Nat (codes "n")) ∷ []) ∷ map (λ k. main_table (site k) (site k) (to_all_at (site 0) ∷ [])) ring;
   acls = acl (site 0) (codes "h" ∷ map site ring) open_rows ∷ [];

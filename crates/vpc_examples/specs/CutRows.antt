@@ -11,10 +11,11 @@ use Rattle.vpc_base.specs.Cuts.{CutLists}
 use Rattle.vpc_examples.specs.Examples.{eni, nat, subnet, vpc}
 use Rattle.vpc_examples.specs.Networks.{acl, bare, block, group, host_with, https_from, list_route, main_table, route, site_attachment, subnet_row, tcp_row, tgw_blackhole, v4}
 use Rattle.vpc_model.specs.Cuts.{cuts_at, cuts_of, cuts_of_rule, on_sides, standing_cuts}
+use Rattle.vpc_model.specs.Lookup.{no_vpc}
 
 -- one row of each kind that cuts, each with a number of its own
 abbrev pub cut_apart : Description
-cut_apart = record (bare (record { id = codes "vpc-1"; blocks = block (v4 10 0 0 0) 16 ∷ [] } ∷ []) (subnet_row (codes "subnet-a") (codes "vpc-1") (codes "z") ∷ [])) {
+cut_apart = record (bare (record no_vpc { id = codes "vpc-1"; blocks = block (v4 10 0 0 0) 16 ∷ [] } ∷ []) (subnet_row (codes "subnet-a") (codes "vpc-1") (codes "z") ∷ [])) {
   interfaces = host_with (codes "eni-a") (codes "subnet-a") (v4 10 0 1 10) (Some (v4 203 0 113 10)) (codes "sg-a") ∷ [];
   tables = main_table (codes "rtb-1") (codes "vpc-1") (route (block (v4 10 7 0 0) 16) targets.Local ∷ list_route (codes "pl-1") (targets.Other (codes "vpce-1")) ∷ []) ∷ [];
   lists = record { id = codes "pl-1"; entries = block (v4 52 0 0 0) 8 ∷ [] } ∷ [];

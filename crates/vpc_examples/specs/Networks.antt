@@ -6,6 +6,7 @@ use Rattle.vpc_model.specs.declared.rows.NatLife.TheVariants as lives
 use Rattle.vpc_model.specs.declared.rows.Reach.TheVariants as reaches
 use Rattle.vpc_model.specs.declared.rows.Target.TheVariants as targets
 use Rattle.vpc_model.specs.Nat.{inward}
+use Rattle.vpc_model.specs.Lookup.{no_subnet, no_vpc}
 
 -- ---- addresses, rules and routes
 
@@ -71,7 +72,7 @@ abbrev pub subnet_table : List ℕ → List ℕ → List ℕ → List Route → 
 subnet_table id vpc subnet routes = record { id = id; vpc = vpc; main = false; subnets = subnet ∷ []; routes = routes }
 
 abbrev pub subnet_row : List ℕ → List ℕ → List ℕ → Subnet
-subnet_row id vpc zone = record { id = id; vpc = vpc; zone = zone }
+subnet_row id vpc zone = record no_subnet { id = id; vpc = vpc; zone = zone }
 
 -- an interface with one address, maybe a public one, and one group
 abbrev pub host_with : List ℕ → List ℕ → ℕ → Option ℕ → List ℕ → Interface
@@ -124,7 +125,7 @@ rows_out_of_order = tcp_row 200 false false 443 443 anywhere ∷ tcp_row 100 fal
 -- ---- one VPC
 
 abbrev pub vpc_1 : Vpc
-vpc_1 = record { id = codes "vpc-1"; blocks = block (v4 10 0 0 0) 16 ∷ [] }
+vpc_1 = record no_vpc { id = codes "vpc-1"; blocks = block (v4 10 0 0 0) 16 ∷ [] }
 
 abbrev pub local_1 : Route
 local_1 = route (block (v4 10 0 0 0) 16) targets.Local
@@ -187,7 +188,7 @@ low_ports_in = allow_row 90 false (block (v4 10 0 0 0) 16) ∷ tcp_row 100 false
 -- ---- several VPCs: each site c has the VPC 10.n.0.0/16, a host 10.n.1.10, a group and an ACL that allow everything
 
 abbrev pub site_vpc : List ℕ → ℕ → Vpc
-site_vpc c n = record { id = codes "vpc-" ++ c; blocks = block (v4 10 n 0 0) 16 ∷ [] }
+site_vpc c n = record no_vpc { id = codes "vpc-" ++ c; blocks = block (v4 10 n 0 0) 16 ∷ [] }
 
 abbrev pub site_subnet : List ℕ → Subnet
 site_subnet c = subnet_row (codes "subnet-" ++ c) (codes "vpc-" ++ c) (codes "z")

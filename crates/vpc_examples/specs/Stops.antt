@@ -17,6 +17,7 @@ use Rattle.vpc_model.specs.declared.outcomes.Verdict.TheVariants as verdicts
 use Rattle.vpc_examples.specs.Examples.{a_to_c, a_to_server, att, eni, first_walk, from_server, hop, hop_by, nat, outcome_of, subnet, tcp, verdict_in, vpc, walk_after}
 use Rattle.vpc_examples.specs.Networks.{acl, acl_1, allow_all, allow_row, anywhere, attached, bare, behind_nat, block, eni_n, gone_route, group, host, host_with, https_from, https_from_group, local_1, main_table, open_rows, peered, public_hosts, route, site_group, site_host, site_subnet, tcp_row, tgw_route, transit, transit_subnet, two_subnets, v4}
 use Rattle.vpc_model.specs.Terms.{attachment_for, chosen_tgw_route, first_rule, interface_at, is_unroutable, leave_subnet, reference_counts}
+use Rattle.vpc_model.specs.Lookup.{no_subnet, no_vpc}
 
 -- where a first packet from the first host, or from the internet, ends
 abbrev pub open_from_a : Description → Header → Outcome
@@ -345,7 +346,7 @@ to_all_at gateway = route anywhere (targets.Transit gateway)
 
 -- 22 VPCs at a transit gateway, which sends what comes from each to the next one
 abbrev pub row_of_sites : Description
-row_of_sites = record (bare (map (λ k. record { id = site k; blocks = [] }) sites) (map (λ k. record { id = site k; vpc = site k; zone = site 0 }) sites)) {
+row_of_sites = record (bare (map (λ k. record no_vpc { id = site k }) sites) (map (λ k. record no_subnet { id = site k; vpc = site k; zone = site 0 }) sites)) {
   interfaces = record (host (site 0) (site 0) (v4 10 1 1 10) (site 0)) { groups = [] } ∷ [];
   tables = map (λ k. main_table (site k) (site k) (to_all_at (site 0) ∷ [])) sites;
   acls = acl (site 0) (map site sites) open_rows ∷ [];

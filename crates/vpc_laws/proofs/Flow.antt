@@ -1,5 +1,5 @@
 -- What a step leads to: the header and the place that come next, and the stops.
-use Rattle.std.proofs.Common.{Bool, List, None, Option, Some, [], ap, cond, false, find, is_none, not, refl, slice_index_or, sym, true, ℕ, ◌&&◌, ◌<◌, ◌==◌, ◌^◌, ◌||◌, ◌∙◌, ◌∷◌, ◌≡◌}
+use Rattle.std.proofs.Common.{Bool, List, None, Option, Some, [], ap, cond, false, find, is_none, not, option_and_then, refl, slice_index_or, sym, true, ℕ, ◌&&◌, ◌<◌, ◌==◌, ◌^◌, ◌||◌, ◌∙◌, ◌∷◌, ◌≡◌}
 use Rattle.std.specs.List.{AllByRecursion}
 use Rattle.std.proofs.lemmas.Bool.{cond_both, and_parts, eqb-true, true≢false}
 use Rattle.vpc_base.specs.declared.headers.Dir.TheVariants.{Inward, Outward}
@@ -7,11 +7,12 @@ use Rattle.vpc_base.specs.declared.headers.Label.TheVariants.{Answer, Opening}
 use Rattle.vpc_model.specs.declared.places.Place.TheVariants.{OutOf, Router, Enter, Into, IgwOut, Internet, IgwIn, NatOut, NatIn, Peer, Tgw, TgwLeave}
 use Rattle.vpc_model.specs.declared.rows.NatLife.TheVariants.{Gone, Unmodelled as WithoutSubnet, Live}
 use Rattle.vpc_model.specs.declared.rows.Target.TheVariants.{Local, Internet as ToInternet, Nat as ToNat, Transit as ToTransit, Peer as ToPeer, Interface as ToInterface, Other}
-use Rattle.vpc_model.specs.declared.stops.Stop.TheVariants.{AclIn, AclOut, ApplianceDrop, NotAHost}
+use Rattle.vpc_model.specs.declared.stops.Stop.TheVariants.{AclIn, AclOut, ApplianceDrop, BlockPublicAccess, NotAHost}
+use Rattle.vpc_model.specs.declared.places.EnterBy.TheVariants.{Gateway}
 use Rattle.vpc_model.specs.declared.places.End.TheVariants.{Interface}
 use Rattle.vpc_laws.specs.Types.{AttNo, Box5, By, Came, Description, EniNo, EnterBy, Header, IgwNo, Label, NatLife, NatNo, PeerNo, Place, Stop, SubnetNo, TableNo, Target, TgwTableNo, VpcNo}
 use Rattle.vpc_laws.specs.Terms.{GoesOn, IsDoor, IsTranslation, KeepsFlow, LeadsOn, LiesIn, Refuses, SendsSame, StopsItself, across, door_of, host, into, is_in_subnet, is_of_step, is_rewriting, nat_answered, nat_asked, out_of, past_none, refuser_of}
-use Rattle.vpc_model.specs.Terms.{Appliances, Connection, Moment, Next, Step, Translation, acl_at, acl_of, acl_verdict, arrive, attachment_for, attachment_of_id, boxes_at, by_attachment, by_pair, by_route, by_tgw_route, by_tgw_table, chosen_route, chosen_tgw_route, crossing, deliver, deliver_by, eni_no, enter_host, entering, forwarded, from_inward, gateway_of, go, go_public, has_address, has_block, has_vpc, host_of, igw_no, in_passing, interface_at, inward, is_attached, is_full, is_gateway, is_translatable, is_unroutable, leave_by, leave_subnet, leaving, nat_at, nat_no, nat_of, no_route, no_tgw_route, or_else, other_side, out_passing, over_peering, own_address, own_subnet, owner_of, passes, passing_of, peer_no, peering_at, public_of, same_header, step_at, step_internet, step_into, step_nat_in, step_nat_out, step_of, step_out, step_router, stop, subnet_no, subnet_of, table_at, table_of, table_of_attachment, tgw_table_at, to_attachment, to_host, to_interface, to_internet, to_nat, to_owner, to_peer, to_target, to_transit, to_zone, translate, translation_of, unless_stopped, vpc_at, vpc_no, vpc_of_subnet, zone_subnet}
+use Rattle.vpc_model.specs.Terms.{Appliances, Connection, Moment, Next, Step, Translation, acl_at, acl_of, acl_verdict, arrive, attachment_for, attachment_of_id, blocked, blocked_at, boxes_at, by_attachment, by_pair, by_route, by_tgw_route, by_tgw_table, chosen_route, chosen_tgw_route, crossing, deliver, deliver_by, eni_no, enter_host, entering, forwarded, from_inward, gateway_of, go, go_private, go_public, has_address, has_block, has_vpc, host_of, igw_no, in_passing, interface_at, inward, is_attached, is_blocked, is_full, is_gateway, is_translatable, is_unroutable, leave_by, leave_subnet, leaving, nat_at, nat_no, nat_of, no_route, no_tgw_route, or_else, other_side, out_passing, over_peering, own_address, own_subnet, owner_of, passes, passing_of, peer_no, peering_at, private_of, public_of, same_header, step_at, step_internet, step_into, step_nat_in, step_nat_out, step_of, step_out, step_router, stop, subnet_no, subnet_of, table_at, table_of, table_of_attachment, tgw_table_at, to_attachment, to_host, to_interface, to_internet, to_nat, to_owner, to_peer, to_target, to_transit, to_zone, translate, translation_of, unless_stopped, vpc_at, vpc_no, vpc_of_subnet, zone_subnet}
 use Rattle.vpc_laws.proofs.Ports.{new_translation-fits}
 
 -- the header that comes next: that of an open keeps protocol and q, and its p fits its field where the first one's does; where
@@ -297,9 +298,21 @@ module _ (opens : Type 0) (d : Description) where
       unless_stopped-flow (Enter v by) h (entering d (subnet_of d i) h) (deliver d i h) (entering-stops (Enter v by) (subnet_of d i) h)
       (λ passed. deliver_by-flow (Enter v by) h v i (nat_of d i) found refl (λ q lies. into v by (subnet_of d i) refl lies passed))
 
+  blocked-stops : (p : Place) (h : Header) (i : Option EniNo) → StopsAt p h (option_and_then (blocked d) i)
+  blocked-stops p h None = tt
+  blocked-stops p h (Some i) = cond_both (is_blocked d i) (Some (BlockPublicAccess (subnet_of d i))) None (StopsAt p h) (λ _. (refl, (tt, tt))) (λ _. tt)
+
   go_public-flow : (v : VpcNo) (h : Header) (a : Option ℕ) → Flows opens d (IgwOut v) h (go_public d v h a)
   go_public-flow v h None = (refl, (tt, tt))
-  go_public-flow v h (Some a) = (past_none refl refl, record { proto = λ _. refl; q = λ _. refl; p = λ _ fits. fits; same = λ e. absurd (true≢false e) })
+  go_public-flow v h (Some a) =
+      unless_stopped-flow (IgwOut v) h (blocked_at d v h.src) (go Internet (record h { src = a })) (blocked-stops (IgwOut v) h (host_of d v h.src))
+      (λ _. (past_none refl refl, record { proto = λ _. refl; q = λ _. refl; p = λ _ fits. fits; same = λ e. absurd (true≢false e) }))
+
+  go_private-flow : (v : VpcNo) (h : Header) (a : Option ℕ) → Flows opens d (IgwIn v) h (go_private d v h a)
+  go_private-flow v h None = (past_none refl refl, itself)
+  go_private-flow v h (Some a) =
+      unless_stopped-flow (IgwIn v) h (blocked_at d v a) (go (Enter v Gateway) (record h { dst = a })) (blocked-stops (IgwIn v) h (host_of d v a))
+      (λ _. (past_none refl refl, record { proto = λ _. refl; q = λ _. refl; p = λ _ fits. fits; same = λ e. absurd (true≢false e) }))
 
   to_owner-flow : (h : Header) (v : Option VpcNo) → Flows opens d Internet h (to_owner d h v)
   to_owner-flow h None = tt
@@ -353,7 +366,7 @@ step_at-flow d appliances label (Enter v by) m = enter_host-flow _ d v by m.head
 step_at-flow d appliances label (Into i) m = step_into-flow _ d appliances label i m
 step_at-flow d appliances label (IgwOut v) m = go_public-flow _ d v m.header (public_of d v m.header.src)
 step_at-flow d appliances label Internet m = step_internet-flow _ d m
-step_at-flow d appliances label (IgwIn v) m = (past_none refl refl, record { proto = λ _. refl; q = λ _. refl; p = λ _ fits. fits; same = λ e. absurd (true≢false e) })
+step_at-flow d appliances label (IgwIn v) m = go_private-flow _ d v m.header (private_of d v m.header.dst)
 step_at-flow d appliances label (NatOut n) m = step_nat_out-flow d label n m
 step_at-flow d appliances label (NatIn n) m = step_nat_in-flow d label n m
 step_at-flow d appliances label (Peer x v) m = let row = peering_at d x in by_pair-flow _ d x v m.header row.pair

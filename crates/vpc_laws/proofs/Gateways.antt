@@ -4,9 +4,10 @@ use Rattle.std.specs.List.{AllByRecursion}
 use Rattle.vpc_base.proofs.Lemmas.{AllByRecursion-at, Contains-push, and_parts, cases_Bool, cond_both, eq-eqb, eqb-true, filter-member, filter_map-member, find-member, flat_map-member, none-some, same_Some}
 use Rattle.vpc_base.specs.Header.{echo_reply, exchanged, reply_of}
 use Rattle.vpc_base.specs.declared.headers.Label.TheVariants.{Answer, Opening}
-use Rattle.vpc_model.specs.declared.places.Place.TheVariants.{IgwIn, IgwOut, NatIn, NatOut}
-use Rattle.vpc_laws.specs.Types.{Description, Header, Hop, Label, NatNo, Place, VpcNo}
-use Rattle.vpc_model.specs.Terms.{Appliances, Connection, Moment, Next, Step, Translation, arrive, from_inward, go, go_public, inward, is_full, is_header, is_in_vpc, is_translatable, nat_at, new_translation, own_address, pair_of, pairs_in, pairs_of, private_of, same_header, step_at, step_nat_in, step_nat_out, step_of, stop, translate, translation_of, walk_of}
+use Rattle.vpc_model.specs.declared.places.Place.TheVariants.{Enter, IgwIn, IgwOut, Internet, NatIn, NatOut}
+use Rattle.vpc_model.specs.declared.places.EnterBy.TheVariants.{Gateway}
+use Rattle.vpc_laws.specs.Types.{Description, Header, Hop, Label, NatNo, Place, Stop, VpcNo}
+use Rattle.vpc_model.specs.Terms.{Appliances, Connection, Moment, Next, Step, Translation, arrive, blocked_at, from_inward, go, go_private, go_public, inward, is_full, is_header, is_in_vpc, is_translatable, nat_at, new_translation, own_address, pair_of, pairs_in, pairs_of, private_of, same_header, step_at, step_nat_in, step_nat_out, step_of, stop, translate, translation_of, unless_stopped, walk_of}
 use Rattle.vpc_laws.specs.Terms.{ChangesDestination, ChangesSource, ChangesSourceAndPort, HasPair, IfGoes, IsBook, IsGivenBack, IsToOwn, IsTranslation, KeepsFlow}
 use Rattle.vpc_laws.proofs.Books.{AllByRecursion-push}
 use Rattle.vpc_laws.proofs.ByMemory.{by_memory}
@@ -34,19 +35,28 @@ pairs_in-member d v p has =
     let pair = filter_map-member pair_of e.addresses p found.2 in
     (e, row.1, row.0, subst (λ x. Contains e.addresses x) (pair_of-some pair.0 p pair.2) pair.1)
 
+-- what holds of the header that comes next holds where a stop comes before it
+unless-goes : (s : Option Stop) (q : Place) (k : Header) (P : Header → Type 0) → P k → IfGoes (unless_stopped s (go q k)) P
+unless-goes None q k P holds = holds
+unless-goes (Some s) q k P holds = tt
+
 public-found : (d : Description) (v : VpcNo) (h : Header) (p : Option (ℕ × ℕ)) → find (λ (p : ℕ × ℕ). p.0 == h.src) (pairs_in d v) ≡ p
     → IfGoes (go_public d v h (option_map (λ (p : ℕ × ℕ). p.1) p)) (λ k. ChangesSource h k × HasPair d v h.src k.src)
 public-found d v h None e = tt
 public-found d v h (Some p) e =
     let found = find-member (λ (p : ℕ × ℕ). p.0 == h.src) (pairs_in d v) p e in
+    unless-goes (blocked_at d v h.src) Internet (record h { src = p.1 }) (λ k. ChangesSource h k × HasPair d v h.src k.src)
     (refl, subst (λ own. HasPair d v own p.1) (eqb-true p.0 h.src found.0) (pairs_in-member d v p found.1))
 
-private-found : (d : Description) (v : VpcNo) (public : ℕ) (p : Option (ℕ × ℕ)) → find (λ (p : ℕ × ℕ). p.1 == public) (pairs_in d v) ≡ p
-    → let own = option_map (λ (p : ℕ × ℕ). p.0) p in HasPair d v (unwrap_or own public) public ⊎ ((own ≡ None) × (unwrap_or own public ≡ public))
-private-found d v public None e = inr (refl, refl)
-private-found d v public (Some p) e =
-    let found = find-member (λ (p : ℕ × ℕ). p.1 == public) (pairs_in d v) p e in
-    inl (subst (λ a. HasPair d v p.0 a) (eqb-true p.1 public found.0) (pairs_in-member d v p found.1))
+private-found : (d : Description) (v : VpcNo) (h : Header) (p : Option (ℕ × ℕ)) → find (λ (p : ℕ × ℕ). p.1 == h.dst) (pairs_in d v) ≡ p
+    → let own = option_map (λ (p : ℕ × ℕ). p.0) p in
+    IfGoes (go_private d v h own) (λ k. ChangesDestination h k × (HasPair d v k.dst h.dst ⊎ ((own ≡ None) × (k.dst ≡ h.dst))))
+private-found d v h None e = (refl, inr (refl, refl))
+private-found d v h (Some p) e =
+    let found = find-member (λ (p : ℕ × ℕ). p.1 == h.dst) (pairs_in d v) p e in
+    let own : Option ℕ = Some p.0 in
+    unless-goes (blocked_at d v p.0) (Enter v Gateway) (record h { dst = p.0 }) (λ k. ChangesDestination h k × (HasPair d v k.dst h.dst ⊎ ((own ≡ None) × (k.dst ≡ h.dst))))
+    (refl, inl (subst (λ a. HasPair d v p.0 a) (eqb-true p.1 h.dst found.0) (pairs_in-member d v p found.1)))
 
 -- a step at a place that is given
 at-place : (d : Description) (appliances : Appliances) (label : Label) (m : Moment) (p : Place) (P : Step → Type 0) → m.place ≡ p → P (step_at d appliances label p m) → P (step_of d appliances label m)
@@ -63,7 +73,7 @@ pub inward_changes_destination : (d : Description) (appliances : Appliances) (la
     IfGoes s.next (λ k. ChangesDestination m.header k × (HasPair d v k.dst m.header.dst ⊎ ((private_of d v m.header.dst ≡ None) × (k.dst ≡ m.header.dst))))
 inward_changes_destination d appliances label m v here =
     at-place d appliances label m (IgwIn v) (λ (s : Step). IfGoes s.next (λ k. ChangesDestination m.header k × (HasPair d v k.dst m.header.dst ⊎ ((private_of d v m.header.dst ≡ None) × (k.dst ≡ m.header.dst))))) here
-    (refl, private-found d v m.header.dst (find (λ (p : ℕ × ℕ). p.1 == m.header.dst) (pairs_in d v)) refl)
+    (private-found d v m.header (find (λ (p : ℕ × ℕ). p.1 == m.header.dst) (pairs_in d v)) refl)
 
 -- ---- out by NAT gateways
 

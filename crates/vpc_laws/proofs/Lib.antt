@@ -13,6 +13,8 @@ pub mod Stepping
 pub mod Passing
 pub mod Adding
 pub mod Gateways
+pub mod Opened
+pub mod Modes
 pub mod Accepting
 pub mod Numbering
 pub mod Sounding

@@ -15,7 +15,7 @@ use Rattle.vpc_model.specs.declared.rows.NatLife.TheVariants as lives
 use Rattle.vpc_model.specs.declared.refusals.Refusal.TheVariants as refusals
 use Rattle.vpc_model.specs.Accepted.{IsAccepted, is_main_of, is_subnet_of, is_table_of}
 use Rattle.vpc_model.specs.Choice.{or_else}
-use Rattle.vpc_model.specs.Lookup.{acl_of, eni_no, has_address, has_interface, has_subnet, interface_at, is_listed, nat_at, no_interface, subnet_at, subnet_no, table_at, table_of}
+use Rattle.vpc_model.specs.Lookup.{acl_of, eni_no, has_address, has_interface, has_subnet, interface_at, is_listed, nat_at, no_acl, no_igw, no_interface, no_nat, no_peering, no_subnet, no_table, no_vpc, subnet_at, subnet_no, table_at, table_of}
 use Rattle.vpc_model.specs.Sound.{is_acl, is_eni, is_nat, is_subnet, is_table}
 use Rattle.vpc_laws.specs.Accepted.{IdsHaveNumbers, NumbersAreInRange, NumbersAreOwn}
 use Rattle.vpc_laws.proofs.Accepting.{accepted_has_all_named, accepted_has_nothing_twice, accepted_is_faultless}
@@ -27,27 +27,6 @@ id-found : {X : Type 0} (id_of : X → List ℕ) (xs : List X) (d : X) (id : Lis
 id-found id_of xs d id some =
     let found = found-at (λ x. bytes_eq (id_of x) id) xs d some in
     (found.0, same_bytes (id_of (slice_index_or xs (position_or_len (λ x. bytes_eq (id_of x) id) xs) d)) id found.1)
-
-abbrev no_vpc : Vpc
-no_vpc = record { id = []; blocks = [] }
-
-abbrev pub no_subnet : Subnet
-no_subnet = record { id = []; vpc = []; zone = [] }
-
-abbrev pub no_igw : InternetGateway
-no_igw = record { id = []; vpcs = [] }
-
-abbrev pub no_nat : NatGateway
-no_nat = record { id = []; life = lives.Gone }
-
-abbrev no_peering : Peering
-no_peering = record { id = []; pair = None }
-
-abbrev pub no_table : RouteTable
-no_table = record { id = []; vpc = []; main = false; subnets = []; routes = [] }
-
-abbrev no_acl : Acl
-no_acl = record { id = []; subnets = []; rows = [] }
 
 pub ids_are_found : (d : Description) → IdsHaveNumbers d
 ids_are_found d = record {

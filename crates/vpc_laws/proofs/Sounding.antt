@@ -8,16 +8,18 @@ use Rattle.vpc_model.specs.declared.outcomes.By.TheVariants as bys
 use Rattle.vpc_model.specs.declared.places.End.TheVariants as ends
 use Rattle.vpc_model.specs.declared.stops.Foreign.TheVariants as foreign
 use Rattle.vpc_model.specs.declared.rows.NatLife.TheVariants as lives
+use Rattle.vpc_model.specs.declared.places.EnterBy.TheVariants as through
 use Rattle.vpc_model.specs.declared.places.Place.TheVariants as places
 use Rattle.vpc_model.specs.declared.stops.Stop.TheVariants as stops
 use Rattle.vpc_model.specs.declared.rows.Target.TheVariants as targets
-use Rattle.vpc_model.specs.Terms.{Appliances, Connection, IsAccepted, Moment, Next, Step, Translation, acl_at, acl_of, acl_verdict, arrive, attachment_at, attachment_for, attachment_of_id, beats, beats_tgw, boxes_at, by_attachment, by_pair, by_route, by_tgw_route, by_tgw_table, chosen_route, chosen_tgw_route, crossing, deliver, deliver_by, eni_no, enter_host, entering, first_rule_of, first_subnet, forwarded, from_inward, from_nat, gateway_of, go, go_public, group_at, group_of_id, has_address, has_block, has_foreign_text, has_gateway, has_rule, has_subnet, has_text, has_vpc, host_of, igw_no, in_passing, interface_at, inward, is_attached, is_attachment, is_candidate, is_eni, is_eni_of, is_entry, is_full, is_gateway, is_group, is_igw, is_in_vpc, is_in_zone, is_listed, is_live, is_nat, is_origin, is_peering, is_route, is_rule, is_side, is_sound, is_subnet, is_subnet_of, is_table, is_tgw_route, is_tgw_table, is_translatable, is_unbeaten, is_unroutable, is_vpc, joins, leave_by, leave_subnet, leaving, nat_at, nat_no, nat_of, new_translation, no_group, no_interface, no_permission, no_route, no_tgw_route, or_else, other_side, out_passing, own_address, own_subnet, owned_by, owner_of, pairs_of, passes, passing_of, peer_no, peering_at, permission_allows, permissions_of, public_of, rule_of_group, step_at, step_internet, step_into, step_nat_in, step_nat_out, step_of, step_out, stop, subnet_at, subnet_no, subnet_of, table_at, table_of, table_of_attachment, tgw_table_at, tgw_table_of_id, to_attachment, to_host, to_interface, to_internet, to_nat, to_owner, to_peer, to_target, to_transit, to_zone, translate, translation_of, unless_stopped, vpc_at, vpc_no, vpc_of_interface, vpc_of_subnet, zone_subnet}
+use Rattle.vpc_model.specs.Terms.{Appliances, Connection, IsAccepted, Moment, Next, Step, Translation, acl_at, acl_of, acl_verdict, arrive, attachment_at, attachment_for, attachment_of_id, beats, beats_tgw, blocked, blocked_at, boxes_at, by_attachment, by_pair, by_route, by_tgw_route, by_tgw_table, chosen_route, chosen_tgw_route, crossing, deliver, deliver_by, eni_no, enter_host, entering, first_rule_of, first_subnet, forwarded, from_inward, from_nat, gateway_of, go, go_private, go_public, group_at, group_of_id, has_address, has_block, has_foreign_text, has_gateway, has_rule, has_subnet, has_text, has_vpc, host_of, igw_no, in_passing, interface_at, inward, is_attached, is_attachment, is_blocked, is_candidate, is_eni, is_eni_of, is_entry, is_full, is_gateway, is_group, is_igw, is_in_vpc, is_in_zone, is_listed, is_live, is_nat, is_origin, is_peering, is_route, is_rule, is_side, is_sound, is_subnet, is_subnet_of, is_table, is_tgw_route, is_tgw_table, is_translatable, is_unbeaten, is_unroutable, is_vpc, joins, leave_by, leave_subnet, leaving, nat_at, nat_no, nat_of, new_translation, no_group, no_interface, no_permission, no_route, no_tgw_route, or_else, other_side, out_passing, own_address, own_subnet, owned_by, owner_of, pairs_of, passes, passing_of, peer_no, peering_at, permission_allows, permissions_of, private_of, public_of, rule_of_group, step_at, step_internet, step_into, step_nat_in, step_nat_out, step_of, step_out, stop, subnet_at, subnet_no, subnet_of, table_at, table_of, table_of_attachment, tgw_table_at, tgw_table_of_id, to_attachment, to_host, to_interface, to_internet, to_nat, to_owner, to_peer, to_target, to_transit, to_zone, translate, translation_of, unless_stopped, vpc_at, vpc_no, vpc_of_interface, vpc_of_subnet, zone_subnet}
 use Rattle.prefix_text.specs.Block.{holds}
 use Rattle.vpc_laws.specs.Terms.{AsksGroups, HasAllNamed, HasTarget, IdsHaveNumbers, LeadsWell, LetsPass, NumbersAreInRange, own_connection}
 use Rattle.vpc_laws.proofs.Accepting.{accepted_has_all_named}
 use Rattle.vpc_laws.proofs.Flow.{taken_by}
-use Rattle.vpc_laws.proofs.Numbering.{accepted_numbers_are_in_range, ids_are_found, no_igw, no_nat, no_subnet, no_table}
+use Rattle.vpc_laws.proofs.Numbering.{accepted_numbers_are_in_range, ids_are_found}
 use Rattle.vpc_laws.proofs.Passing.{packets_pass_by_groups}
+use Rattle.vpc_model.specs.Lookup.{no_attachment, no_igw, no_nat, no_subnet, no_table, no_tgw_table}
 
 -- what is known of a description
 pub record IsKnown (d : Description) : Type 0 where
@@ -79,9 +81,6 @@ listed-found d known vpc id e =
     let parts = and_parts (has_subnet d id) (bytes_eq row.vpc vpc) e in
     (ids.subnet id parts.0).0
 
-abbrev no_attachment : Attachment
-no_attachment = record { id = []; gateway = []; vpc = []; subnets = [] }
-
 attached-subnet : (d : Description) → IsKnown d → (a : AttNo) → is_attachment d a ≡ true → (let att = attachment_at d a in has_vpc d att.vpc ≡ true) → (id : List ℕ) → (let att = attachment_at d a in Contains att.subnets id) → is_subnet d (subnet_no d id) ≡ true
 attached-subnet d known a inside there id has =
     let named = known.named in
@@ -118,9 +117,6 @@ attachment_of_id-found d id =
     let p : Attachment → Bool = λ a. bytes_eq a.id id in
     let make : ℕ → AttNo = λ k. record { 0 = k } in
     found-by make (is_attachment d) p d.attachments no_attachment (λ k inside _. inside) (position p d.attachments) refl
-
-abbrev no_tgw_table : TgwTable
-no_tgw_table = record { id = []; routes = [] }
 
 tgw_table-found : (d : Description) (id : List ℕ) → IfFound (is_tgw_table d) (tgw_table_of_id d id)
 tgw_table-found d id =
@@ -322,9 +318,26 @@ attached-igw : (d : Description) (o : Option IgwNo) → IfFound (is_igw d) o →
 attached-igw d None found e = absurd (false≢true e)
 attached-igw d (Some g) found e = found
 
-go_public-well : (d : Description) (v : VpcNo) (h : Header) (a : Option ℕ) → has_gateway d v ≡ true → LeadsWell d (go_public d v h a)
-go_public-well d v h None has = attached-igw d (gateway_of d v) (gateway-found d v) (and_parts (is_vpc d v) (is_some (gateway_of d v)) has).1
-go_public-well d v h (Some a) has = refl
+blocked-told : (d : Description) → IsKnown d → (i : Option EniNo) → IfFound (is_eni d) i → IfStopped d (option_and_then (blocked d) i)
+blocked-told d known None found = tt
+blocked-told d known (Some i) found =
+    let range = known.range in
+    let s = subnet_of d i in
+    let lies = range.subnet_of_interface i found in
+    cond_both (is_blocked d i) (Some (stops.BlockPublicAccess s)) None (IfStopped d) (λ _. and_from (is_subnet d s) (is_subnet d s) lies lies) (λ _. tt)
+
+blocked_at-told : (d : Description) → IsKnown d → (v : VpcNo) (own : ℕ) → IfStopped d (blocked_at d v own)
+blocked_at-told d known v own = blocked-told d known (host_of d v own) (host-found d v own)
+
+go_public-well : (d : Description) → IsKnown d → (v : VpcNo) (h : Header) (a : Option ℕ) → has_gateway d v ≡ true → LeadsWell d (go_public d v h a)
+go_public-well d known v h None has = attached-igw d (gateway_of d v) (gateway-found d v) (and_parts (is_vpc d v) (is_some (gateway_of d v)) has).1
+go_public-well d known v h (Some a) has = unless-well d (blocked_at d v h.src) (go places.Internet (record h { src = a })) (blocked_at-told d known v h.src) refl
+
+go_private-well : (d : Description) → IsKnown d → (v : VpcNo) (h : Header) (a : Option ℕ) → has_gateway d v ≡ true → LeadsWell d (go_private d v h a)
+go_private-well d known v h None has = and_from (is_vpc d v) true (and_parts (is_vpc d v) (is_some (gateway_of d v)) has).0 refl
+go_private-well d known v h (Some a) has =
+    unless-well d (blocked_at d v a) (go (places.Enter v through.Gateway) (record h { dst = a })) (blocked_at-told d known v a)
+    (and_from (is_vpc d v) true (and_parts (is_vpc d v) (is_some (gateway_of d v)) has).0 refl)
 
 not-none : {X : Type 0} (o : Option X) → is_none o ≡ false → is_some o ≡ true
 not-none None e = absurd (false≢true (sym e))
@@ -494,9 +507,9 @@ step_at-well d known appliances label (places.Router s came) m sound =
     let table = table_at d (table_of d s) in
     by_route-well d known s m.header (chosen_route d table.routes m.header.dst) inside (route-found d known s inside m.header.dst (chosen_route d table.routes m.header.dst) refl)
 step_at-well d known appliances label (places.Enter v by) m sound = enter_host-well d known v m.header (host_of d v m.header.dst) (and_parts (is_vpc d v) (is_entry d by) sound).0 (host-found d v m.header.dst)
-step_at-well d known appliances label (places.IgwOut v) m sound = go_public-well d v m.header (public_of d v m.header.src) sound
+step_at-well d known appliances label (places.IgwOut v) m sound = go_public-well d known v m.header (public_of d v m.header.src) sound
 step_at-well d known appliances label places.Internet m sound = step_internet-well d known m
-step_at-well d known appliances label (places.IgwIn v) m sound = and_from (is_vpc d v) true (and_parts (is_vpc d v) (is_some (gateway_of d v)) sound).0 refl
+step_at-well d known appliances label (places.IgwIn v) m sound = go_private-well d known v m.header (private_of d v m.header.dst) sound
 step_at-well d known appliances label (places.NatOut n) m sound = step_nat_out-well d known label n m sound
 step_at-well d known appliances label (places.NatIn n) m sound = step_nat_in-well d known label n m sound
 step_at-well d known appliances label (places.Peer x v) m sound =

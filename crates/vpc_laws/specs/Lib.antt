@@ -8,5 +8,6 @@ pub mod Equality
 pub mod Choice
 pub mod Rewriting
 pub mod Accepted
+pub mod Access
 pub mod Sound
 pub mod Terms

@@ -3,6 +3,7 @@
 #![tactic(auto)]
 
 pub mod accepted;
+pub mod access;
 pub mod choice;
 pub mod equality;
 pub mod nats;

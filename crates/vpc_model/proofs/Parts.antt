@@ -27,6 +27,7 @@ rebuilt is.NoGateway (at.Vpc v) by.None = Some (stops.NoGateway v)
 rebuilt is.GatewayDetached (at.InternetGateway g) by.None = Some (stops.GatewayDetached g)
 rebuilt is.NoPublic (at.InternetGateway g) by.None = Some (stops.NoPublic g)
 rebuilt is.PrivateAddress (at.End ends.Internet) by.None = Some stops.PrivateAddress
+rebuilt is.BlockPublicAccess (at.Subnet s) (by.Access _) = Some (stops.BlockPublicAccess s)
 rebuilt is.NatNotAvailable (at.NatGateway g) by.None = Some (stops.NatNotAvailable g)
 rebuilt is.NatAnswer (at.NatGateway g) by.None = Some (stops.NatAnswer g)
 rebuilt is.NatProtocol (at.NatGateway g) by.None = Some (stops.NatProtocol g)

@@ -9,6 +9,7 @@ pub mod Acls
 pub mod Groups
 pub mod Connections
 pub mod Internet
+pub mod Access
 pub mod Peerings
 pub mod Nat
 pub mod Transit

@@ -14,13 +14,21 @@ is_listed id ids = list_any (λ i. bytes_eq i id) ids
 
 -- ---- rows by number
 
+-- a VPC without blocks
+abbrev pub no_vpc : Vpc
+no_vpc = record { id = []; blocks = []; access = None }
+
 -- a row of DescribeVpcs (EC2 API, DescribeVpcs)
 abbrev pub vpc_at : Description → VpcNo → Vpc
-vpc_at d v = slice_index_or d.vpcs v.0 (record { id = []; blocks = [] })
+vpc_at d v = slice_index_or d.vpcs v.0 no_vpc
+
+-- a subnet of no VPC
+abbrev pub no_subnet : Subnet
+no_subnet = record { id = []; vpc = []; zone = []; access = None }
 
 -- a row of DescribeSubnets (EC2 API, DescribeSubnets)
 abbrev pub subnet_at : Description → SubnetNo → Subnet
-subnet_at d s = slice_index_or d.subnets s.0 (record { id = []; vpc = []; zone = [] })
+subnet_at d s = slice_index_or d.subnets s.0 no_subnet
 
 -- an interface that sends and receives nothing
 abbrev pub no_interface : Interface
@@ -30,13 +38,21 @@ no_interface = record { id = []; subnet = []; primary = None; addresses = []; gr
 abbrev pub interface_at : Description → EniNo → Interface
 interface_at d i = slice_index_or d.interfaces i.0 no_interface
 
+-- a table without routes
+abbrev pub no_table : RouteTable
+no_table = record { id = []; vpc = []; main = false; subnets = []; routes = [] }
+
 -- a row of DescribeRouteTables (EC2 API, DescribeRouteTables)
 abbrev pub table_at : Description → TableNo → RouteTable
-table_at d t = slice_index_or d.tables t.0 (record { id = []; vpc = []; main = false; subnets = []; routes = [] })
+table_at d t = slice_index_or d.tables t.0 no_table
+
+-- an ACL without rows
+abbrev pub no_acl : Acl
+no_acl = record { id = []; subnets = []; rows = [] }
 
 -- a row of DescribeNetworkAcls (EC2 API, DescribeNetworkAcls)
 abbrev pub acl_at : Description → AclNo → Acl
-acl_at d a = slice_index_or d.acls a.0 (record { id = []; subnets = []; rows = [] })
+acl_at d a = slice_index_or d.acls a.0 no_acl
 
 -- a group without rules
 abbrev pub no_group : Group
@@ -46,25 +62,45 @@ no_group = record { id = []; vpc = []; inward = []; outward = [] }
 abbrev pub group_at : Description → GroupNo → Group
 group_at d g = slice_index_or d.groups g.0 no_group
 
+-- an internet gateway that is attached to nothing
+abbrev pub no_igw : InternetGateway
+no_igw = record { id = []; vpcs = [] }
+
 -- a row of DescribeInternetGateways (EC2 API, DescribeInternetGateways)
 abbrev pub igw_at : Description → IgwNo → InternetGateway
-igw_at d g = slice_index_or d.igws g.0 (record { id = []; vpcs = [] })
+igw_at d g = slice_index_or d.igws g.0 no_igw
+
+-- a NAT gateway that is gone
+abbrev pub no_nat : NatGateway
+no_nat = record { id = []; life = lives.Gone }
 
 -- a row of DescribeNatGateways (EC2 API, DescribeNatGateways)
 abbrev pub nat_at : Description → NatNo → NatGateway
-nat_at d n = slice_index_or d.nats n.0 (record { id = []; life = lives.Gone })
+nat_at d n = slice_index_or d.nats n.0 no_nat
+
+-- a peering that isn't active
+abbrev pub no_peering : Peering
+no_peering = record { id = []; pair = None }
 
 -- a row of DescribeVpcPeeringConnections (EC2 API, DescribeVpcPeeringConnections)
 abbrev pub peering_at : Description → PeerNo → Peering
-peering_at d x = slice_index_or d.peerings x.0 (record { id = []; pair = None })
+peering_at d x = slice_index_or d.peerings x.0 no_peering
+
+-- an attachment without subnets
+abbrev pub no_attachment : Attachment
+no_attachment = record { id = []; gateway = []; vpc = []; subnets = [] }
 
 -- a row of DescribeTransitGatewayVpcAttachments (EC2 API, DescribeTransitGatewayVpcAttachments)
 abbrev pub attachment_at : Description → AttNo → Attachment
-attachment_at d a = slice_index_or d.attachments a.0 (record { id = []; gateway = []; vpc = []; subnets = [] })
+attachment_at d a = slice_index_or d.attachments a.0 no_attachment
+
+-- a transit gateway table without routes
+abbrev pub no_tgw_table : TgwTable
+no_tgw_table = record { id = []; routes = [] }
 
 -- a row of SearchTransitGatewayRoutes, by table (EC2 API, SearchTransitGatewayRoutes)
 abbrev pub tgw_table_at : Description → TgwTableNo → TgwTable
-tgw_table_at d t = slice_index_or d.tgw_tables t.0 (record { id = []; routes = [] })
+tgw_table_at d t = slice_index_or d.tgw_tables t.0 no_tgw_table
 
 -- ---- numbers by id
 

@@ -22,6 +22,7 @@ name_text names.NoGateway = codes "NoGateway"
 name_text names.GatewayDetached = codes "GatewayDetached"
 name_text names.NoPublic = codes "NoPublic"
 name_text names.PrivateAddress = codes "PrivateAddress"
+name_text names.BlockPublicAccess = codes "BlockPublicAccess"
 name_text names.NatNotAvailable = codes "NatNotAvailable"
 name_text names.NatAnswer = codes "NatAnswer"
 name_text names.NatProtocol = codes "NatProtocol"
@@ -47,8 +48,8 @@ abbrev pub all_names : List StopName
 all_names =
     names.Detached ∷ names.SourceCheck ∷ names.DestCheck ∷ names.GroupsOut ∷ names.GroupsIn ∷ names.NotAHost
     ∷ names.ApplianceDrop ∷ names.NoRoute ∷ names.Blackhole ∷ names.AclOut ∷ names.AclIn ∷ names.NoHost ∷ names.NoGateway
-    ∷ names.GatewayDetached ∷ names.NoPublic ∷ names.PrivateAddress ∷ names.NatNotAvailable ∷ names.NatAnswer
-    ∷ names.NatProtocol ∷ names.NatFull ∷ names.NatUnsolicited ∷ names.PeerNotActive ∷ names.PeerSource
+    ∷ names.GatewayDetached ∷ names.NoPublic ∷ names.PrivateAddress ∷ names.BlockPublicAccess ∷ names.NatNotAvailable
+    ∷ names.NatAnswer ∷ names.NatProtocol ∷ names.NatFull ∷ names.NatUnsolicited ∷ names.PeerNotActive ∷ names.PeerSource
     ∷ names.PeerDestination ∷ names.TgwNoAttachment ∷ names.TgwNoZone ∷ names.TgwNoTable ∷ names.TgwNoRoute
     ∷ names.TgwBlackhole ∷ names.Unmodelled ∷ names.Loop ∷ names.TooFar ∷ names.WrongPlace ∷ names.WrongReturn
     ∷ names.NoReply ∷ []

@@ -143,6 +143,7 @@ has_component d (at.Table t) = is_table d t
 has_component d (at.Target t k) = is_route d t k
 has_component d (at.Acl a) = is_acl d a
 has_component d (at.Vpc v) = is_vpc d v
+has_component d (at.Subnet s) = is_subnet d s
 has_component d (at.InternetGateway g) = is_igw d g
 has_component d (at.NatGateway n) = is_nat d n
 has_component d (at.Peering x) = is_peering d x
@@ -158,6 +159,7 @@ has_stop_rule d by.None = true
 has_stop_rule d (by.AclRow n) = true
 has_stop_rule d (by.Route t k) = is_route d t k
 has_stop_rule d (by.TransitRoute t k) = is_tgw_route d t k
+has_stop_rule d (by.Access s) = is_subnet d s
 
 -- the rows and places that a stop carries give its id and rule
 abbrev pub has_text : Description → Stop → Bool

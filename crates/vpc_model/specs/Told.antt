@@ -11,6 +11,7 @@ use Rattle.vpc_model.specs.declared.stops.Stop.TheVariants as stops
 use Rattle.vpc_model.specs.declared.stops.StopRule.TheVariants as by
 use Rattle.vpc_model.specs.declared.rows.Target.TheVariants as targets
 use Rattle.prefix_text.specs.Block.{block_text}
+use Rattle.vpc_model.specs.Access.{access_of, access_text}
 use Rattle.vpc_model.specs.Lookup.{acl_at, attached_gateway, attachment_at, igw_at, interface_at, nat_at, peering_at, subnet_at, table_at, tgw_table_at, vpc_at}
 use Rattle.vpc_model.specs.Step.Router.{no_route}
 use Rattle.vpc_model.specs.Step.Transit.{no_tgw_route}
@@ -57,6 +58,7 @@ parts_of (stops.NoGateway v) = (is.NoGateway, at.Vpc v, by.None)
 parts_of (stops.GatewayDetached g) = (is.GatewayDetached, at.InternetGateway g, by.None)
 parts_of (stops.NoPublic g) = (is.NoPublic, at.InternetGateway g, by.None)
 parts_of stops.PrivateAddress = (is.PrivateAddress, at.End ends.Internet, by.None)
+parts_of (stops.BlockPublicAccess s) = (is.BlockPublicAccess, at.Subnet s, by.Access s)
 parts_of (stops.NatNotAvailable g) = (is.NatNotAvailable, at.NatGateway g, by.None)
 parts_of (stops.NatAnswer g) = (is.NatAnswer, at.NatGateway g, by.None)
 parts_of (stops.NatProtocol g) = (is.NatProtocol, at.NatGateway g, by.None)
@@ -123,6 +125,7 @@ component_id d (at.Table t) = let table = table_at d t in table.id
 component_id d (at.Target t k) = route_target_id d t k
 component_id d (at.Acl a) = let row = acl_at d a in row.id
 component_id d (at.Vpc v) = let row = vpc_at d v in row.id
+component_id d (at.Subnet s) = let row = subnet_at d s in row.id
 component_id d (at.InternetGateway g) = let row = igw_at d g in row.id
 component_id d (at.NatGateway n) = let row = nat_at d n in row.id
 component_id d (at.Peering x) = let row = peering_at d x in row.id
@@ -147,6 +150,7 @@ rule_text d by.None = codes "-"
 rule_text d (by.AclRow n) = decimal n
 rule_text d (by.Route t k) = let table = table_at d t in let r = slice_index_or table.routes k no_route in reach_text r.reach
 rule_text d (by.TransitRoute t k) = let table = tgw_table_at d t in let r = slice_index_or table.routes k no_tgw_route in block_text r.block
+rule_text d (by.Access s) = access_text (access_of d s)
 
 -- the rule that stopped the packet, or a dash
 abbrev pub stop_rule : Description → Stop → List ℕ

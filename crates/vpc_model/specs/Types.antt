@@ -6,6 +6,7 @@ pub use Rattle.prefix_text.specs.Block.{Block}
 pub use Rattle.header_boxes.specs.declared.boxes.Box5.{Box5}
 pub use Rattle.header_boxes.specs.declared.rows.Row.{Row}
 pub use Rattle.vpc_model.specs.declared.rows.Description.{Description}
+pub use Rattle.vpc_model.specs.declared.rows.Access.{Access}
 pub use Rattle.vpc_model.specs.declared.rows.Vpc.{Vpc}
 pub use Rattle.vpc_model.specs.declared.rows.Subnet.{Subnet}
 pub use Rattle.vpc_model.specs.declared.rows.Interface.{Interface}

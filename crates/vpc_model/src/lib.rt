@@ -24,9 +24,9 @@ pub use outcomes::{By, Event, Hop, Outcome, Phase, RuleRef, Verdict};
 pub use places::{Came, End, EnterBy, Place, start_place};
 pub use refusals::{ListName, Refusal};
 pub use rows::{
-    Acl, AclRow, Appliance, ApplianceKind, Association, Attachment, Description, Group, Interface,
-    InterfaceKind, InternetGateway, NatGateway, NatLife, Peering, Permission, PrefixList, Reach,
-    Route, RouteTable, Subnet, Target, TgwRoute, TgwTable, Vpc,
+    Access, Acl, AclRow, Appliance, ApplianceKind, Association, Attachment, Description, Group,
+    Interface, InterfaceKind, InternetGateway, NatGateway, NatLife, Peering, Permission,
+    PrefixList, Reach, Route, RouteTable, Subnet, Target, TgwRoute, TgwTable, Vpc,
 };
 pub use same::{same_stop, same_verdict};
 pub use stop_texts::StopText;

@@ -3,11 +3,25 @@ use crate::Id;
 use prefix_text::Prefix;
 use vpc_base::OwnList;
 
+/// What Block Public Access lets past internet gateways: the InternetGatewayBlockMode of BlockPublicAccessStates
+/// (DescribeVpcs, DescribeSubnets).
+#[derive(Clone, Copy, PartialEq, Eq)]
+pub enum Access {
+    /// All.
+    Off,
+    /// What NAT gateways carry alone.
+    BlockIngress,
+    /// Nothing.
+    BlockBidirectional,
+}
+
 /// A VPC with its IPv4 blocks (DescribeVpcs).
 #[derive(Drop)]
 pub struct Vpc {
     pub id: Id,
     pub blocks: OwnList<Prefix>,
+    /// The mode of its subnets that have none of their own, if it is told.
+    pub access: Option<Access>,
 }
 
 /// A subnet with its availability zone (DescribeSubnets).
@@ -16,6 +30,8 @@ pub struct Subnet {
     pub id: Id,
     pub vpc: Id,
     pub zone: Id,
+    /// Its own mode, if it is told.
+    pub access: Option<Access>,
 }
 
 /// Whether packets may be sent to an interface by its address alone.

@@ -2,7 +2,9 @@
 ghost use Rattle.std.specs.Prelude.{◌≡◌};
 ghost use Rattle.vpc_model.specs.Told.{component_of, name_of, parts_of, rule_of};
 
-use crate::{AclNo, AttNo, End, EniNo, IgwNo, NatNo, PeerNo, Place, TableNo, TgwTableNo, VpcNo};
+use crate::{
+    AclNo, AttNo, End, EniNo, IgwNo, NatNo, PeerNo, Place, SubnetNo, TableNo, TgwTableNo, VpcNo,
+};
 
 /// What leads out of the networks that are followed.
 #[derive(Clone, Copy, PartialEq, Eq)]
@@ -56,6 +58,8 @@ pub enum Stop {
     NoPublic(IgwNo),
     /// The internet carries no packet from or to such an address.
     PrivateAddress,
+    /// Block Public Access stops what interfaces of the subnet send to the internet or get from it.
+    BlockPublicAccess(SubnetNo),
     NatNotAvailable(NatNo),
     /// A NAT gateway translates only first packets outward.
     NatAnswer(NatNo),
@@ -111,6 +115,7 @@ pub enum StopName {
     GatewayDetached,
     NoPublic,
     PrivateAddress,
+    BlockPublicAccess,
     NatNotAvailable,
     NatAnswer,
     NatProtocol,
@@ -141,6 +146,7 @@ pub enum Component {
     Target(TableNo, u32),
     Acl(AclNo),
     Vpc(VpcNo),
+    Subnet(SubnetNo),
     InternetGateway(IgwNo),
     NatGateway(NatNo),
     Peering(PeerNo),
@@ -161,6 +167,8 @@ pub enum StopRule {
     Route(TableNo, u32),
     /// A route of a transit gateway's table, likewise.
     TransitRoute(TgwTableNo, u32),
+    /// What Block Public Access lets past internet gateways from and to a subnet.
+    Access(SubnetNo),
 }
 
 impl Stop {
@@ -188,6 +196,7 @@ impl Stop {
             Stop::GatewayDetached(g) => (is::GatewayDetached, at::InternetGateway(g), by::None),
             Stop::NoPublic(g) => (is::NoPublic, at::InternetGateway(g), by::None),
             Stop::PrivateAddress => (is::PrivateAddress, at::End(End::Internet), by::None),
+            Stop::BlockPublicAccess(s) => (is::BlockPublicAccess, at::Subnet(s), by::Access(s)),
             Stop::NatNotAvailable(g) => (is::NatNotAvailable, at::NatGateway(g), by::None),
             Stop::NatAnswer(g) => (is::NatAnswer, at::NatGateway(g), by::None),
             Stop::NatProtocol(g) => (is::NatProtocol, at::NatGateway(g), by::None),

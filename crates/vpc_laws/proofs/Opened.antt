@@ -1,0 +1,443 @@
+-- The steps of a network, and of the same one in which no mode of Block Public Access is told.
+use Rattle.std.proofs.Common.{Bool, List, None, Option, Some, [], ap, ap₂, bytes_eq, cond, false, filter, find, flat_map, get_or, inl, inr, is_none, is_some, length, map, not, option_and_then, option_map, position, refl, slice_index_or, suc, sym, true, unwrap_or, zero, ℕ, ◌&&◌, ◌+◌, ◌++◌, ◌==◌, ◌||◌, ◌∙◌, ◌∷◌, ◌≡◌, ◌⊎◌}
+use Rattle.std.specs.List.{list_any, position_or_len}
+use Rattle.std.specs.Prelude.{nat_lt}
+use Rattle.vpc_base.specs.declared.headers.Dir.TheVariants as dirs
+use Rattle.vpc_base.specs.declared.headers.Label.TheVariants as labels
+use Rattle.vpc_model.specs.declared.outcomes.By.TheVariants as bys
+use Rattle.vpc_model.specs.declared.places.Came.TheVariants as from
+use Rattle.vpc_base.proofs.Lemmas.{cond_both, false≢true}
+use Rattle.prefix_text.specs.Block.{holds}
+use Rattle.vpc_laws.specs.Access.{IsBlockedNext, IsOff, open_subnet, open_vpc, opened}
+use Rattle.vpc_laws.specs.Types.{Access, Acl, AclNo, AttNo, By, Description, Dir, EniNo, Header, IgwNo, Interface, Label, NatGateway, NatLife, NatNo, PeerNo, Place, RuleRef, Stop, Subnet, SubnetNo, TableNo, Target, TgwTableNo, Vpc, VpcNo}
+use Rattle.vpc_model.specs.Terms.{Appliances, Connection, Moment, Next, Passing, Step, Translation, access_in, access_of, acl_at, acl_of, acl_verdict, answer_passing, attached_gateway, attachment_at, attachment_for, blocked, blocked_at, by_pair, by_route, chosen_route, crossing, deliver, eni_no, enter_host, entering, first_rule_of, first_subnet, from_inward, from_nat, gateway_of, go, go_private, go_public, group_of_id, has_address, has_block, has_vpc, host_of, igw_no, in_passing, interface_at, inward, is_attached, is_blocked, is_full, is_gateway, is_in_vpc, is_in_zone, is_listed, is_tracked, is_translatable, is_unroutable, label_passing, leave_by, leave_subnet, leaving, nat_at, nat_no, nat_of, new_translation, no_route, no_subnet, no_vpc, open_passing, or_else, other_side, out_passing, over_peering, own_address, own_subnet, owned_by, owner_of, pairs_in, pairs_of, passing_groups, passing_of, peer_no, peering_at, plain, private_of, public_of, rule_of_group, step_at, step_into, step_nat_in, step_nat_out, step_out, stop, stops_at, subnet_at, subnet_no, subnet_of, table_at, table_of, to_host, to_interface, to_internet, to_nat, to_owner, to_peer, to_target, to_transit, to_zone, translate, translated_to, translation_of, unless_stopped, vpc_at, vpc_no, vpc_of_interface, vpc_of_subnet, zone_subnet}
+use Rattle.vpc_model.specs.declared.places.EnterBy.TheVariants as through
+use Rattle.vpc_model.specs.declared.places.Place.TheVariants as places
+use Rattle.vpc_model.specs.declared.rows.Access.TheVariants as modes
+use Rattle.vpc_model.specs.declared.rows.NatLife.TheVariants as lives
+use Rattle.vpc_model.specs.declared.rows.Target.TheVariants as targets
+use Rattle.vpc_model.specs.declared.stops.Foreign.TheVariants as foreign
+use Rattle.vpc_model.specs.declared.stops.Stop.TheVariants as stops
+
+-- ---- lists
+
+get-map : {X Y : Type 0} (f : X → Y) (xs : List X) (k : ℕ) (none : X) → get_or (map f xs) k (f none) ≡ f (get_or xs k none)
+get-map f [] k none = refl
+get-map f (x ∷ xs) zero none = refl
+get-map f (x ∷ xs) (suc k) none = get-map f xs k none
+
+any-map : {X Y : Type 0} (p : Y → Bool) (f : X → Y) (xs : List X) → list_any p (map f xs) ≡ list_any (λ x. p (f x)) xs
+any-map p f [] = refl
+any-map p f (x ∷ xs) = ap (λ b. p (f x) || b) (any-map p f xs)
+
+first-map : {X Y : Type 0} (p : Y → Bool) (f : X → Y) (xs : List X) → position_or_len p (map f xs) ≡ position_or_len (λ x. p (f x)) xs
+first-map p f [] = refl
+first-map p f (x ∷ xs) = ap (λ n. cond (not (p (f x))) (1 + n) 0) (first-map p f xs)
+
+first-same : {X : Type 0} (p q : X → Bool) → ((x : X) → p x ≡ q x) → (xs : List X) → position_or_len p xs ≡ position_or_len q xs
+first-same p q same [] = refl
+first-same p q same (x ∷ xs) = ap₂ (λ b n. cond (not b) (1 + n) 0) (same x) (first-same p q same xs)
+
+position-same : {X : Type 0} (p q : X → Bool) → ((x : X) → p x ≡ q x) → (xs : List X) → position p xs ≡ position q xs
+position-same p q same xs = ap (λ k. cond (nat_lt k (length xs)) (Some k) None) (first-same p q same xs)
+
+filter-same : {X : Type 0} (p q : X → Bool) → ((x : X) → p x ≡ q x) → (xs : List X) → filter p xs ≡ filter q xs
+filter-same p q same [] = refl
+filter-same p q same (x ∷ xs) = ap₂ (λ b rest. cond b (x ∷ rest) rest) (same x) (filter-same p q same xs)
+
+find-same : {X : Type 0} (p q : X → Bool) → ((x : X) → p x ≡ q x) → (xs : List X) → find p xs ≡ find q xs
+find-same p q same [] = refl
+find-same p q same (x ∷ xs) = ap₂ (λ b rest. cond b (Some x) rest) (same x) (find-same p q same xs)
+
+flat_map-same : {X Y : Type 0} (f g : X → List Y) → ((x : X) → f x ≡ g x) → (xs : List X) → flat_map f xs ≡ flat_map g xs
+flat_map-same f g same [] = refl
+flat_map-same f g same (x ∷ xs) = ap₂ (λ a rest. a ++ rest) (same x) (flat_map-same f g same xs)
+
+option_map-same : {X Y : Type 0} (f g : X → Y) → ((x : X) → f x ≡ g x) → (o : Option X) → option_map f o ≡ option_map g o
+option_map-same f g same None = refl
+option_map-same f g same (Some x) = ap (λ y. Some y) (same x)
+
+module _ (d : Description) where
+  abbrev e : Description
+  e = opened d
+
+  -- ---- rows and their numbers
+
+  pub vpc-same : (v : VpcNo) → vpc_at e v ≡ open_vpc (vpc_at d v)
+  vpc-same v = get-map open_vpc d.vpcs v.0 no_vpc
+
+  pub subnet-same : (s : SubnetNo) → subnet_at e s ≡ open_subnet (subnet_at d s)
+  subnet-same s = get-map open_subnet d.subnets s.0 no_subnet
+
+  vpc_no-same : (id : List ℕ) → vpc_no e id ≡ vpc_no d id
+  vpc_no-same id = let make : ℕ → VpcNo = λ k. record { 0 = k } in ap make (first-map (λ (v : Vpc). bytes_eq v.id id) open_vpc d.vpcs)
+
+  has_vpc-same : (id : List ℕ) → has_vpc e id ≡ has_vpc d id
+  has_vpc-same id = any-map (λ (v : Vpc). bytes_eq v.id id) open_vpc d.vpcs
+
+  pub subnet_no-same : (id : List ℕ) → subnet_no e id ≡ subnet_no d id
+  subnet_no-same id = let make : ℕ → SubnetNo = λ k. record { 0 = k } in ap make (first-map (λ (s : Subnet). bytes_eq s.id id) open_subnet d.subnets)
+
+  pub subnet_of-same : (i : EniNo) → subnet_of e i ≡ subnet_of d i
+  subnet_of-same i = let r = interface_at d i in subnet_no-same r.subnet
+
+  vpc_of_subnet-same : (s : SubnetNo) → vpc_of_subnet e s ≡ vpc_of_subnet d s
+  vpc_of_subnet-same s = ap (λ (r : Subnet). vpc_no e r.vpc) (subnet-same s) ∙ (let r = subnet_at d s in vpc_no-same r.vpc)
+
+  vpc_of_interface-same : (r : Interface) → vpc_of_interface e r ≡ vpc_of_interface d r
+  vpc_of_interface-same r = ap (λ (s : SubnetNo). (subnet_at e s).vpc) (subnet_no-same r.subnet) ∙ ap (λ (s : Subnet). s.vpc) (subnet-same (subnet_no d r.subnet))
+
+  is_in_vpc-same : (v : VpcNo) (r : Interface) → is_in_vpc e v r ≡ is_in_vpc d v r
+  is_in_vpc-same v r = ap₂ (λ (a : List ℕ) (b : List ℕ). bytes_eq a b) (vpc_of_interface-same r) (ap (λ (x : Vpc). x.id) (vpc-same v))
+
+  pub host_of-same : (v : VpcNo) (a : ℕ) → host_of e v a ≡ host_of d v a
+  host_of-same v a =
+      let make : ℕ → EniNo = λ k. record { 0 = k } in
+      ap (option_map make) (position-same (λ (r : Interface). has_address r a && is_in_vpc e v r) (λ (r : Interface). has_address r a && is_in_vpc d v r)
+      (λ r. ap (λ (b : Bool). has_address r a && b) (is_in_vpc-same v r)) d.interfaces)
+
+  table_of-same : (s : SubnetNo) → table_of e s ≡ table_of d s
+  table_of-same s =
+      ap (λ (row : Subnet). record { 0 = unwrap_or (or_else (position (λ t. is_listed row.id t.subnets) d.tables) (position (λ t. t.main && bytes_eq t.vpc row.vpc) d.tables)) (length d.tables) })
+      (subnet-same s)
+
+  acl_of-same : (s : SubnetNo) → acl_of e s ≡ acl_of d s
+  acl_of-same s = ap (λ (row : Subnet). record { 0 = position_or_len (λ a. is_listed row.id a.subnets) d.acls }) (subnet-same s)
+
+  gateway_of-same : (v : VpcNo) → gateway_of e v ≡ gateway_of d v
+  gateway_of-same v = let make : ℕ → IgwNo = λ k. record { 0 = k } in ap (λ (row : Vpc). option_map make (position (λ g. is_listed row.id g.vpcs) d.igws)) (vpc-same v)
+
+  attached_gateway-same : (v : VpcNo) → attached_gateway e v ≡ attached_gateway d v
+  attached_gateway-same v = ap (λ (o : Option IgwNo). unwrap_or o (record { 0 = length d.igws })) (gateway_of-same v)
+
+  has_block-same : (v : VpcNo) (a : ℕ) → has_block e v a ≡ has_block d v a
+  has_block-same v a = ap (λ (row : Vpc). list_any (λ b. holds a b) row.blocks) (vpc-same v)
+
+  -- ---- public addresses
+
+  pairs_in-same : (v : VpcNo) → pairs_in e v ≡ pairs_in d v
+  pairs_in-same v = ap (flat_map pairs_of) (filter-same (is_in_vpc e v) (is_in_vpc d v) (is_in_vpc-same v) d.interfaces)
+
+  public_of-same : (v : VpcNo) (own : ℕ) → public_of e v own ≡ public_of d v own
+  public_of-same v own = ap (λ (ps : List (ℕ × ℕ)). option_map (λ p. p.1) (find (λ p. p.0 == own) ps)) (pairs_in-same v)
+
+  private_of-same : (v : VpcNo) (public : ℕ) → private_of e v public ≡ private_of d v public
+  private_of-same v public = ap (λ (ps : List (ℕ × ℕ)). option_map (λ p. p.0) (find (λ p. p.1 == public) ps)) (pairs_in-same v)
+
+  owned_by-same : (r : Interface) → owned_by e r ≡ owned_by d r
+  owned_by-same r =
+      ap (λ (id : List ℕ). map (λ p. (vpc_no e id, p.1)) (pairs_of r)) (vpc_of_interface-same r)
+      ∙ ap (λ (v : VpcNo). map (λ p. (v, p.1)) (pairs_of r)) (vpc_no-same (vpc_of_interface d r))
+
+  owner_of-same : (public : ℕ) → owner_of e public ≡ owner_of d public
+  owner_of-same public = ap (λ (os : List (VpcNo × ℕ)). option_map (λ o. o.0) (find (λ o. o.1 == public) os)) (flat_map-same (owned_by e) (owned_by d) owned_by-same d.interfaces)
+
+  -- ---- transit gateways
+
+  is_in_zone-same : (zone id : List ℕ) → is_in_zone e zone id ≡ is_in_zone d zone id
+  is_in_zone-same zone id =
+      ap (λ (s : SubnetNo). bytes_eq (subnet_at e s).zone zone) (subnet_no-same id) ∙ ap (λ (s : Subnet). bytes_eq s.zone zone) (subnet-same (subnet_no d id))
+
+  zone_subnet-same : (a : AttNo) (s : SubnetNo) → zone_subnet e a s ≡ zone_subnet d a s
+  zone_subnet-same a s =
+      let att = attachment_at d a in
+      let row = subnet_at d s in
+      ap (λ (r : Subnet). option_map (subnet_no e) (find (is_in_zone e r.zone) att.subnets)) (subnet-same s)
+      ∙ ap (option_map (subnet_no e)) (find-same (is_in_zone e row.zone) (is_in_zone d row.zone) (is_in_zone-same row.zone) att.subnets)
+      ∙ option_map-same (subnet_no e) (subnet_no d) subnet_no-same (find (is_in_zone d row.zone) att.subnets)
+
+  attachment_for-same : (gateway : List ℕ) (s : SubnetNo) → attachment_for e gateway s ≡ attachment_for d gateway s
+  attachment_for-same gateway s =
+      let make : ℕ → AttNo = λ k. record { 0 = k } in
+      ap (λ (row : Subnet). option_map make (position (λ a. bytes_eq a.gateway gateway && bytes_eq a.vpc row.vpc) d.attachments)) (subnet-same s)
+
+  first_subnet-same : (ids : List (List ℕ)) → first_subnet e ids ≡ first_subnet d ids
+  first_subnet-same [] = refl
+  first_subnet-same (id ∷ ids) = ap (λ (s : SubnetNo). Some s) (subnet_no-same id)
+
+  leave_subnet-same : (a : AttNo) (s : SubnetNo) → leave_subnet e a s ≡ leave_subnet d a s
+  leave_subnet-same a s =
+      let att = attachment_at d a in
+      ap₂ (λ (b : Bool) (o : Option SubnetNo). cond b o None) (has_vpc-same att.vpc)
+      (ap₂ (λ (x y : Option SubnetNo). or_else x y) (zone_subnet-same a s) (first_subnet-same att.subnets))
+
+  -- ---- ACLs
+
+  leaving-same : (s : SubnetNo) (h : Header) → leaving e s h ≡ leaving d s h
+  leaving-same s h =
+      ap (λ (n : AclNo). let a = acl_at d n in let verdict = acl_verdict a.rows dirs.Outward h in cond verdict.0 None (Some (stops.AclOut n verdict.1))) (acl_of-same s)
+
+  entering-same : (s : SubnetNo) (h : Header) → entering e s h ≡ entering d s h
+  entering-same s h =
+      ap (λ (n : AclNo). let a = acl_at d n in let verdict = acl_verdict a.rows dirs.Inward h in cond verdict.0 None (Some (stops.AclIn n verdict.1))) (acl_of-same s)
+
+  crossing-same : (s t : SubnetNo) (h : Header) → crossing e s t h ≡ crossing d s t h
+  crossing-same s t h = ap₂ (λ (out into : Option Stop). cond (s.0 == t.0) None (or_else out into)) (leaving-same s h) (entering-same t h)
+
+  -- ---- routers
+
+  to_host-same : (s : SubnetNo) (h : Header) (i : Option EniNo) → to_host e s h i ≡ to_host d s h i
+  to_host-same s h None = ap (λ (v : VpcNo). stop (stops.NoHost v)) (vpc_of_subnet-same s)
+  to_host-same s h (Some i) =
+      ap (λ (t : SubnetNo). unless_stopped (crossing e s t h) (deliver d i h)) (subnet_of-same i)
+      ∙ ap (λ (o : Option Stop). unless_stopped o (deliver d i h)) (crossing-same s (subnet_of d i) h)
+
+  to_internet-same : (s : SubnetNo) (h : Header) (g : IgwNo) → to_internet e s h g ≡ to_internet d s h g
+  to_internet-same s h g =
+      let v = vpc_of_subnet d s in
+      ap (λ (w : VpcNo). cond (is_attached g (gateway_of e w)) (unless_stopped (leaving e s h) (go (places.IgwOut w) h)) (stop (stops.GatewayDetached g))) (vpc_of_subnet-same s)
+      ∙ ap₂ (λ (o : Option IgwNo) (t : Option Stop). cond (is_attached g o) (unless_stopped t (go (places.IgwOut v) h)) (stop (stops.GatewayDetached g))) (gateway_of-same v) (leaving-same s h)
+
+  to_nat-same : (s : SubnetNo) (h : Header) (n : NatNo) (life : NatLife) → to_nat e s h n life ≡ to_nat d s h n life
+  to_nat-same s h n lives.Gone = refl
+  to_nat-same s h n lives.Unmodelled = refl
+  to_nat-same s h n (lives.Live subnet eni address) =
+      ap (λ (t : SubnetNo). unless_stopped (crossing e s t h) (go (places.NatOut n) h)) (subnet_no-same subnet)
+      ∙ ap (λ (o : Option Stop). unless_stopped o (go (places.NatOut n) h)) (crossing-same s (subnet_no d subnet) h)
+
+  to_peer-same : (s : SubnetNo) (h : Header) (x : PeerNo) (pair : Option (List ℕ × List ℕ)) → to_peer e s h x pair ≡ to_peer d s h x pair
+  to_peer-same s h x None = refl
+  to_peer-same s h x (Some pair) =
+      let v = vpc_of_subnet d s in
+      let row = vpc_at d v in
+      ap (λ (w : VpcNo). let r = vpc_at e w in cond (has_vpc e (other_side r.id pair)) (unless_stopped (leaving e s h) (go (places.Peer x w) h)) (stop (stops.Unmodelled (foreign.Peering x)))) (vpc_of_subnet-same s)
+      ∙ ap (λ (r : Vpc). cond (has_vpc e (other_side r.id pair)) (unless_stopped (leaving e s h) (go (places.Peer x v) h)) (stop (stops.Unmodelled (foreign.Peering x)))) (vpc-same v)
+      ∙ ap₂ (λ (b : Bool) (t : Option Stop). cond b (unless_stopped t (go (places.Peer x v) h)) (stop (stops.Unmodelled (foreign.Peering x)))) (has_vpc-same (other_side row.id pair)) (leaving-same s h)
+
+  to_zone-same : (s : SubnetNo) (h : Header) (a : AttNo) (t : Option SubnetNo) → to_zone e s h a t ≡ to_zone d s h a t
+  to_zone-same s h a None = refl
+  to_zone-same s h a (Some t) = ap₂ (λ (out into : Option Stop). unless_stopped (or_else out into) (go (places.Tgw a t) h)) (leaving-same s h) (entering-same t h)
+
+  to_transit-same : (s : SubnetNo) (h : Header) (t : TableNo) (k : ℕ) (a : Option AttNo) → to_transit e s h t k a ≡ to_transit d s h t k a
+  to_transit-same s h t k None = refl
+  to_transit-same s h t k (Some a) = ap (to_zone e s h a) (zone_subnet-same a s) ∙ to_zone-same s h a (zone_subnet d a s)
+
+  to_interface-same : (s : SubnetNo) (h : Header) (j : EniNo) → to_interface e s h j ≡ to_interface d s h j
+  to_interface-same s h j =
+      let r = interface_at d j in
+      ap (λ (t : SubnetNo). unless_stopped (crossing e s t h) (cond (is_gateway r.kind) (stop (stops.NotAHost j)) (go (places.Into j) h))) (subnet_of-same j)
+      ∙ ap (λ (o : Option Stop). unless_stopped o (cond (is_gateway r.kind) (stop (stops.NotAHost j)) (go (places.Into j) h))) (crossing-same s (subnet_of d j) h)
+
+  to_target-same : (s : SubnetNo) (h : Header) (t : TableNo) (k : ℕ) (target : Target) → to_target e s h t k target ≡ to_target d s h t k target
+  to_target-same s h t k targets.Local =
+      ap (λ (v : VpcNo). to_host e s h (host_of e v h.dst)) (vpc_of_subnet-same s)
+      ∙ ap (to_host e s h) (host_of-same (vpc_of_subnet d s) h.dst) ∙ to_host-same s h (host_of d (vpc_of_subnet d s) h.dst)
+  to_target-same s h t k (targets.Internet id) = to_internet-same s h (igw_no d id)
+  to_target-same s h t k (targets.Nat id) = let row = nat_at d (nat_no d id) in to_nat-same s h (nat_no d id) row.life
+  to_target-same s h t k (targets.Peer id) = let row = peering_at d (peer_no d id) in to_peer-same s h (peer_no d id) row.pair
+  to_target-same s h t k (targets.Transit id) = ap (to_transit e s h t k) (attachment_for-same id s) ∙ to_transit-same s h t k (attachment_for d id s)
+  to_target-same s h t k (targets.Interface id) = to_interface-same s h (eni_no d id)
+  to_target-same s h t k (targets.Other id) = refl
+
+  by_route-same : (s : SubnetNo) (h : Header) (t : TableNo) (k : Option ℕ) → by_route e s h t k ≡ by_route d s h t k
+  by_route-same s h t None = refl
+  by_route-same s h t (Some k) =
+      let table = table_at d t in
+      let r = slice_index_or table.routes k no_route in
+      ap (λ (x : Next). cond r.blackhole (stop (stops.Blackhole t k)) x) (to_target-same s h t k r.target)
+
+  -- ---- other places
+
+  enter_host-same : (v : VpcNo) (h : Header) (i : Option EniNo) → enter_host e v h i ≡ enter_host d v h i
+  enter_host-same v h None = refl
+  enter_host-same v h (Some i) =
+      ap (λ (t : SubnetNo). unless_stopped (entering e t h) (deliver d i h)) (subnet_of-same i)
+      ∙ ap (λ (o : Option Stop). unless_stopped o (deliver d i h)) (entering-same (subnet_of d i) h)
+
+  to_owner-same : (h : Header) (v : Option VpcNo) → to_owner e h v ≡ to_owner d h v
+  to_owner-same h None = refl
+  to_owner-same h (Some v) = ap (λ (o : Option IgwNo). cond (is_none o) (stop (stops.NoGateway v)) (go (places.IgwIn v) h)) (gateway_of-same v)
+
+  over_peering-same : (x : PeerNo) (v w : VpcNo) (h : Header) → over_peering e x v w h ≡ over_peering d x v w h
+  over_peering-same x v w h =
+      ap₂ (λ (a b : Bool). cond (not a) (stop (stops.PeerSource x)) (cond (not b) (stop (stops.PeerDestination x)) (go (places.Enter w (through.Peering x)) h)))
+      (has_block-same v h.src) (has_block-same w h.dst)
+
+  by_pair-same : (x : PeerNo) (v : VpcNo) (h : Header) (pair : Option (List ℕ × List ℕ)) → by_pair e x v h pair ≡ by_pair d x v h pair
+  by_pair-same x v h None = refl
+  by_pair-same x v h (Some pair) =
+      let row = vpc_at d v in
+      ap (λ (r : Vpc). over_peering e x v (vpc_no e (other_side r.id pair)) h) (vpc-same v)
+      ∙ ap (λ (w : VpcNo). over_peering e x v w h) (vpc_no-same (other_side row.id pair))
+      ∙ over_peering-same x v (vpc_no d (other_side row.id pair)) h
+
+  leave_by-same : (a : AttNo) (entered : SubnetNo) (h : Header) → leave_by a h (leave_subnet e a entered) ≡ leave_by a h (leave_subnet d a entered)
+  leave_by-same a entered h = ap (leave_by a h) (leave_subnet-same a entered)
+
+  -- ---- gateways, where modes may stop packets
+
+  -- without modes nothing is blocked
+  open-mode : (s : SubnetNo) → access_of e s ≡ modes.Off
+  open-mode s =
+      ap (λ (r : Subnet). access_in e r) (subnet-same s) ∙ (let r = subnet_at d s in ap (λ (v : Vpc). unwrap_or v.access modes.Off) (vpc-same (vpc_no e r.vpc)))
+
+  open-blocked : (i : Option EniNo) → option_and_then (blocked e) i ≡ None
+  open-blocked None = refl
+  open-blocked (Some i) = ap (λ (a : Access). cond (stops_at a (is_some (nat_of d i))) (Some (stops.BlockPublicAccess (subnet_of e i))) None) (open-mode (subnet_of e i))
+
+  -- the packet is stopped by a mode, or goes on as it does without
+  abbrev pub Or : Next → Next → Type 0
+  Or x y = IsBlockedNext x ⊎ (x ≡ y)
+
+  blocked-or : (i : Option EniNo) (x : Next) → Or (unless_stopped (option_and_then (blocked d) i) x) x
+  blocked-or None x = inr refl
+  blocked-or (Some i) x =
+      cond_both (is_blocked d i) (Some (stops.BlockPublicAccess (subnet_of d i))) None (λ (o : Option Stop). Or (unless_stopped o x) x)
+      (λ _. inl (record { subnet = subnet_of d i; stops_there = refl })) (λ _. inr refl)
+
+  free : (v : VpcNo) (own : ℕ) (x : Next) → unless_stopped (blocked_at e v own) x ≡ x
+  free v own x = ap (λ (o : Option Stop). unless_stopped o x) (open-blocked (host_of e v own))
+
+  or-ends : (x y z : Next) → Or x y → y ≡ z → Or x z
+  or-ends x y z (inl b) same = inl b
+  or-ends x y z (inr is) same = inr (is ∙ same)
+
+  go_public-or : (v : VpcNo) (h : Header) (a : Option ℕ) → Or (go_public d v h a) (go_public e v h a)
+  go_public-or v h None = inr (ap (λ (g : IgwNo). stop (stops.NoPublic g)) (sym (attached_gateway-same v)))
+  go_public-or v h (Some a) =
+      let next = go places.Internet (record h { src = a }) in
+      or-ends (go_public d v h (Some a)) next (go_public e v h (Some a)) (blocked-or (host_of d v h.src) next) (sym (free v h.src next))
+
+  go_private-or : (v : VpcNo) (h : Header) (a : Option ℕ) → Or (go_private d v h a) (go_private e v h a)
+  go_private-or v h None = inr refl
+  go_private-or v h (Some a) =
+      let next = go (places.Enter v through.Gateway) (record h { dst = a }) in
+      or-ends (go_private d v h (Some a)) next (go_private e v h (Some a)) (blocked-or (host_of d v a) next) (sym (free v a next))
+
+  -- ---- interfaces
+
+  rules-same : (dir : Dir) (h : Header) (ids : List (List ℕ)) → first_rule_of e dir h ids ≡ first_rule_of d dir h ids
+  rules-same dir h [] = refl
+  rules-same dir h (id ∷ ids) = ap (λ (o : Option RuleRef). or_else (option_and_then (rule_of_group d dir h) (group_of_id d id)) o) (rules-same dir h ids)
+
+  label-same : (label : Label) (i : EniNo) (dir : Dir) (h : Header) (conns : List Connection) → label_passing e label i dir h conns ≡ label_passing d label i dir h conns
+  label-same labels.Opening i dir h conns =
+      let r = interface_at d i in ap (open_passing conns (record { eni = i; dir = dir; header = h })) (rules-same dir h r.groups)
+  label-same labels.Answer i dir h conns =
+      let r = interface_at d i in
+      ap (λ (o : Option RuleRef). cond (is_tracked conns i dir h) (record { by = Some bys.Tracked; conns = conns }) (answer_passing conns o)) (rules-same dir h r.groups)
+
+  passing-same : (label : Label) (i : EniNo) (dir : Dir) (h : Header) (conns : List Connection) (ids : List (List ℕ))
+      → passing_groups e label i dir h conns ids ≡ passing_groups d label i dir h conns ids
+  passing-same label i dir h conns [] = refl
+  passing-same label i dir h conns (_ ∷ _) = label-same label i dir h conns
+
+  out_passing-same : (i : EniNo) (m : Moment) (by : Option By) (conns : List Connection)
+      → out_passing e i m (record { by = by; conns = conns }) ≡ out_passing d i m (record { by = by; conns = conns })
+  out_passing-same i m None conns = refl
+  out_passing-same i m (Some by) conns =
+      ap (λ (s : SubnetNo). record { next = go (places.Router s (from.Host i)) m.header; by = by; conns = conns; nats = m.nats }) (subnet_of-same i)
+
+  step_out-same : (label : Label) (i : EniNo) (m : Moment) → step_out e label i m ≡ step_out d label i m
+  step_out-same label i m =
+      let r = interface_at d i in
+      let p = passing_of d label i dirs.Outward m.header m.conns in
+      ap (λ (s : Step). cond r.idle (plain m (stop (stops.Detached i))) (cond (r.checked && not (has_address r m.header.src)) (plain m (stop (stops.SourceCheck i))) s))
+      (ap (out_passing e i m) (passing-same label i dirs.Outward m.header m.conns r.groups) ∙ out_passing-same i m p.by p.conns)
+
+  step_into-same : (appliances : Appliances) (label : Label) (i : EniNo) (m : Moment) → step_into e appliances label i m ≡ step_into d appliances label i m
+  step_into-same appliances label i m =
+      let r = interface_at d i in
+      ap (λ (p : Passing). cond r.idle (plain m (stop (stops.Detached i))) (cond (r.checked && not (has_address r m.header.dst)) (plain m (stop (stops.DestCheck i))) (in_passing d appliances i m p)))
+      (passing-same label i dirs.Inward m.header m.conns r.groups)
+
+  -- ---- steps
+
+  step_nat_out-same : (label : Label) (n : NatNo) (m : Moment) → step_nat_out e label n m ≡ step_nat_out d label n m
+  step_nat_out-same labels.Answer n m = refl
+  step_nat_out-same labels.Opening n m =
+      ap (λ (s : Step). cond (is_translatable m.header.proto) s (plain m (stop (stops.NatProtocol n)))) (translate-same (translation_of m.nats n m.header))
+    where
+      row : NatGateway
+      row = nat_at d n
+
+      from-same : (h : Header) → from_nat e n h ≡ from_nat d n h
+      from-same h = ap (λ (s : SubnetNo). go (places.Router s (from.Nat n)) h) (subnet_no-same (own_subnet row.life))
+
+      translated-same : (t : Translation) → translated_to e n m t ≡ translated_to d n m t
+      translated-same t = ap (λ (x : Next). record { next = x; by = bys.Nothing; conns = m.conns; nats = m.nats ++ t ∷ [] }) (from-same t.after)
+
+      translate-same : (o : Option Translation) → translate e n m o ≡ translate d n m o
+      translate-same None =
+          ap (λ (s : Step). cond (is_full m.nats n m.header) (plain m (stop (stops.NatFull n))) s) (translated-same (new_translation m.nats n (own_address row.life) m.header))
+      translate-same (Some t) = ap (plain m) (from-same t.after)
+
+  step_nat_in-same : (label : Label) (n : NatNo) (m : Moment) → step_nat_in e label n m ≡ step_nat_in d label n m
+  step_nat_in-same labels.Opening n m = refl
+  step_nat_in-same labels.Answer n m = ap (plain m) (inward-same (inward m.nats n m.header))
+    where
+      inward-same : (o : Option Header) → from_inward e n o ≡ from_inward d n o
+      inward-same None = refl
+      inward-same (Some h) = let row = nat_at d n in ap (λ (s : SubnetNo). go (places.Router s (from.Nat n)) h) (subnet_no-same (own_subnet row.life))
+
+  -- a step of the one is that of the other, or a mode stops it
+  abbrev pub StepOr : Step → Step → Type 0
+  StepOr s t = IsBlockedNext s.next ⊎ (s ≡ t)
+
+  plain-or : (m : Moment) (x y : Next) → Or x y → StepOr (plain m x) (plain m y)
+  plain-or m x y (inl b) = inl b
+  plain-or m x y (inr is) = inr (ap (plain m) is)
+
+  -- modes are asked at internet gateways alone
+  abbrev asks_modes : Place → Bool
+  asks_modes (places.IgwOut v) = true
+  asks_modes (places.IgwIn v) = true
+  asks_modes _ = false
+
+  step_at-same : (appliances : Appliances) (label : Label) (p : Place) (m : Moment) → asks_modes p ≡ false → step_at d appliances label p m ≡ step_at e appliances label p m
+  step_at-same appliances label (places.OutOf i) m elsewhere = sym (step_out-same label i m)
+  step_at-same appliances label (places.Router s came) m elsewhere =
+      let t = table_of d s in
+      let table = table_at d t in
+      ap (plain m) (sym (ap (λ (u : TableNo). by_route e s m.header u (chosen_route d (table_at d u).routes m.header.dst)) (table_of-same s) ∙ by_route-same s m.header t (chosen_route d table.routes m.header.dst)))
+  step_at-same appliances label (places.Enter v by) m elsewhere =
+      ap (plain m) (sym (ap (enter_host e v m.header) (host_of-same v m.header.dst) ∙ enter_host-same v m.header (host_of d v m.header.dst)))
+  step_at-same appliances label (places.Into i) m elsewhere = sym (step_into-same appliances label i m)
+  step_at-same appliances label (places.IgwOut v) m elsewhere = absurd (false≢true (sym elsewhere))
+  step_at-same appliances label places.Internet m elsewhere =
+      sym (ap (λ (x : Next). cond (is_unroutable m.header.src || is_unroutable m.header.dst) (plain m (stop stops.PrivateAddress)) (plain m x))
+      (ap (to_owner e m.header) (owner_of-same m.header.dst) ∙ to_owner-same m.header (owner_of d m.header.dst)))
+  step_at-same appliances label (places.IgwIn v) m elsewhere = absurd (false≢true (sym elsewhere))
+  step_at-same appliances label (places.NatOut n) m elsewhere = sym (step_nat_out-same label n m)
+  step_at-same appliances label (places.NatIn n) m elsewhere = sym (step_nat_in-same label n m)
+  step_at-same appliances label (places.Peer x v) m elsewhere = let row = peering_at d x in ap (plain m) (sym (by_pair-same x v m.header row.pair))
+  step_at-same appliances label (places.Tgw a entered) m elsewhere = refl
+  step_at-same appliances label (places.TgwLeave a entered) m elsewhere = ap (plain m) (sym (leave_by-same a entered m.header))
+
+  pub step_at-or : (appliances : Appliances) (label : Label) (p : Place) (m : Moment) → StepOr (step_at d appliances label p m) (step_at e appliances label p m)
+  step_at-or appliances label (places.IgwOut v) m =
+      let public = public_of d v m.header.src in
+      plain-or m (go_public d v m.header public) (go_public e v m.header (public_of e v m.header.src))
+      (or-ends (go_public d v m.header public) (go_public e v m.header public) (go_public e v m.header (public_of e v m.header.src))
+      (go_public-or v m.header public) (ap (go_public e v m.header) (sym (public_of-same v m.header.src))))
+  step_at-or appliances label (places.IgwIn v) m =
+      let own = private_of d v m.header.dst in
+      plain-or m (go_private d v m.header own) (go_private e v m.header (private_of e v m.header.dst))
+      (or-ends (go_private d v m.header own) (go_private e v m.header own) (go_private e v m.header (private_of e v m.header.dst))
+      (go_private-or v m.header own) (ap (go_private e v m.header) (sym (private_of-same v m.header.dst))))
+  step_at-or appliances label p m = inr (step_at-same appliances label p m refl)
+
+  -- ---- where all modes are off
+
+  off-blocked : IsOff d → (i : Option EniNo) → option_and_then (blocked d) i ≡ None
+  off-blocked off None = refl
+  off-blocked off (Some i) = ap (λ (a : Access). cond (stops_at a (is_some (nat_of d i))) (Some (stops.BlockPublicAccess (subnet_of d i))) None) (off (subnet_of d i))
+
+  go_public-off : IsOff d → (v : VpcNo) (h : Header) (a : Option ℕ) → go_public d v h a ≡ go_public e v h a
+  go_public-off off v h None = ap (λ (g : IgwNo). stop (stops.NoPublic g)) (sym (attached_gateway-same v))
+  go_public-off off v h (Some a) =
+      let next = go places.Internet (record h { src = a }) in
+      ap (λ (o : Option Stop). unless_stopped o next) (off-blocked off (host_of d v h.src)) ∙ sym (free v h.src next)
+
+  go_private-off : IsOff d → (v : VpcNo) (h : Header) (a : Option ℕ) → go_private d v h a ≡ go_private e v h a
+  go_private-off off v h None = refl
+  go_private-off off v h (Some a) =
+      let next = go (places.Enter v through.Gateway) (record h { dst = a }) in
+      ap (λ (o : Option Stop). unless_stopped o next) (off-blocked off (host_of d v a)) ∙ sym (free v a next)
+
+  pub step_at-off : IsOff d → (appliances : Appliances) (label : Label) (p : Place) (m : Moment) → step_at d appliances label p m ≡ step_at e appliances label p m
+  step_at-off off appliances label (places.IgwOut v) m =
+      ap (plain m) (go_public-off off v m.header (public_of d v m.header.src) ∙ ap (go_public e v m.header) (sym (public_of-same v m.header.src)))
+  step_at-off off appliances label (places.IgwIn v) m =
+      ap (plain m) (go_private-off off v m.header (private_of d v m.header.dst) ∙ ap (go_private e v m.header) (sym (private_of-same v m.header.dst)))
+  step_at-off off appliances label p m = step_at-same appliances label p m refl
