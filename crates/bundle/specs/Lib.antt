@@ -1,3 +1,4 @@
 pub mod Json
+pub mod Instances
 pub mod Meaning
 pub mod Types

@@ -11,6 +11,7 @@ use Rattle.read_network.specs.Network.{network_of}
 use Rattle.read_filters.specs.Filters.{filters_of}
 use Rattle.read_filters.specs.GroupRules.{group_rules_of}
 use Rattle.read_gateways.specs.Gateways.{gateways_of}
+use Rattle.bundle.specs.Instances.{instances_of}
 use Rattle.bundle.specs.Json.{IsJson, IsNoJson}
 use Rattle.bundle.specs.declared.refusal.BundleRefusal.{BundleRefusal}
 use Rattle.bundle.specs.declared.refusal.BundleRefusal.TheVariants as causes
@@ -37,11 +38,13 @@ with_rows network acls groups gateways appliances =
       appliances = appliances;
     }
 
--- the description of these rows, with the rules that a bundle tells apart from their groups (EC2 API, DescribeSecurityGroupRules)
-abbrev pub with_group_rules : Data → NetworkRows → FilterRows → GatewayRows → List Appliance → Result Description FieldFault
-with_group_rules bundle network filters gateways appliances =
+-- the description of these rows, with what a bundle tells apart from them: the rules of groups, and the instances of
+-- interfaces (EC2 API, DescribeSecurityGroupRules, DescribeInstances)
+abbrev pub with_later_lists : Data → NetworkRows → FilterRows → GatewayRows → List Appliance → Result Description FieldFault
+with_later_lists bundle network filters gateways appliances =
     and_then (group_rules_of bundle filters.groups) (λ groups.
-    Ok (with_rows network filters.acls groups gateways appliances))
+    and_then (instances_of bundle network.interfaces) (λ interfaces.
+    Ok (with_rows (record network { interfaces = interfaces }) filters.acls groups gateways appliances)))
 
 -- the description that a bundle gives, or its first fault, in the order of reading (profile)
 abbrev pub description_of : Data → Result Description FieldFault
@@ -50,7 +53,7 @@ description_of bundle =
     and_then (filters_of bundle) (λ filters.
     and_then (gateways_of bundle) (λ gateways.
     and_then (appliances_of bundle) (λ appliances.
-    with_group_rules bundle network filters gateways appliances))))
+    with_later_lists bundle network filters gateways appliances))))
 
 -- ---- the first reason against one
 

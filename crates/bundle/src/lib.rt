@@ -6,6 +6,7 @@
 //! the first reason why its rows make no network is the answer.
 #![tactic(auto)]
 
+mod instances;
 mod reader;
 mod refusal;
 

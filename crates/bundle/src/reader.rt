@@ -3,9 +3,10 @@ ghost use Rattle.std.specs.Prelude.{◌≡◌, IfErr, IfOk};
 ghost use Rattle.serde_json.specs.View.{view};
 ghost use Rattle.json_fields.specs.FieldFault.{Reads};
 ghost use Rattle.bundle.specs.Json.{IsJson};
-ghost use Rattle.bundle.specs.Meaning.{IsDescribedBy, IsMeantBy, IsUnread, description_of, meaning_of, with_group_rules, with_rows};
+ghost use Rattle.bundle.specs.Meaning.{IsDescribedBy, IsMeantBy, IsUnread, description_of, meaning_of, with_later_lists, with_rows};
 
 use crate::BundleRefusal;
+use crate::instances::read_instances;
 use json_fields::FieldFault;
 use read_filters::{FilterRows, read_filters, read_group_rules};
 use read_gateways::{GatewayRows, read_gateways};
@@ -44,8 +45,8 @@ fn with_rows(
     }
 }
 
-// The rows of all lists, with the rules that are listed separately from their groups.
-fn with_group_rules(
+// The rows of all lists, with what later lists tell of groups and interfaces.
+fn with_later_lists(
     alloc: Global,
     bundle: &Value,
     network: NetworkRows,
@@ -53,10 +54,15 @@ fn with_group_rules(
     gateways: GatewayRows,
     appliances: Vec<Appliance>,
 ) -> Result<Description, FieldFault>
-    ensures { Reads (λ d. d) (with_group_rules
+    ensures { Reads (λ d. d) (with_later_lists
         (view bundle.now) network filters gateways appliances.items) result }
 {
     let groups = read_group_rules(alloc, bundle, filters.groups.into_vec())?;
+    let interfaces = read_instances(alloc, bundle, network.interfaces.into_vec())?;
+    let network = NetworkRows {
+        interfaces: OwnList::of(interfaces),
+        ..network
+    };
     Ok(with_rows(network, filters.acls, groups, gateways, appliances))
 }
 
@@ -68,7 +74,7 @@ fn description_of(alloc: Global, bundle: &Value) -> Result<Description, FieldFau
     let filters = read_filters(alloc, bundle)?;
     let gateways = read_gateways(alloc, bundle)?;
     let appliances = read_appliances(alloc, bundle)?;
-    with_group_rules(alloc, bundle, network, filters, gateways, appliances)
+    with_later_lists(alloc, bundle, network, filters, gateways, appliances)
 }
 
 /// The network that the JSON value of a bundle describes. It takes time linear in the bundle, but for

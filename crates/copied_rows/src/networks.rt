@@ -13,6 +13,7 @@ impl CopiedRow for Vpc {
         Ok(Vpc {
             id: self.id.copied(alloc)?,
             blocks: copied_values(alloc, &self.blocks)?,
+            access: self.access,
         })
     }
 }
@@ -23,6 +24,7 @@ impl CopiedRow for Subnet {
             id: self.id.copied(alloc)?,
             vpc: self.vpc.copied(alloc)?,
             zone: self.zone.copied(alloc)?,
+            access: self.access,
         })
     }
 }

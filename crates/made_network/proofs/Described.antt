@@ -5,7 +5,7 @@ use Rattle.std.proofs.lemmas.Bool.{and_from, cond-true}
 use Rattle.std.proofs.lemmas.Grind.{flat_map-append}
 use Rattle.vpc_base.proofs.Members.{nothing-append}
 use Rattle.vpc_model.specs.Accepted.{is_subnet_of, missing_of_acl, missing_of_appliance, missing_of_attachment, missing_of_group, missing_of_igw, missing_of_interface, missing_of_life, missing_of_subnet, missing_of_table, missing_references, wanted}
-use Rattle.vpc_model.specs.Lookup.{has_group, has_list, has_subnet, has_vpc, subnet_at, subnet_no}
+use Rattle.vpc_model.specs.Lookup.{has_group, has_list, has_subnet, has_vpc, no_subnet, subnet_at, subnet_no}
 use Rattle.vpc_model.specs.declared.rows.NatGateway.{NatGateway}
 use Rattle.made_network.specs.Types.{Group, Permission, Subnet, Vpc}
 use Rattle.made_network.specs.Made.{group_id, made, made_acl, made_attachment, made_group, made_interface, made_subnet, made_table, made_vpc, port_rule, subnet_id, vpc_id}
@@ -28,7 +28,7 @@ group-there n k one = list_any-each (λ (g : Group). bytes_eq g.id (group_id k))
 
 subnet-found : (n k : ℕ) → n ≤ 50 → IsOneOf 1 n k → subnet_at (made n) (subnet_no (made n) (subnet_id k)) ≡ made_subnet k
 subnet-found n k most one =
-    found-each (λ (s : Subnet). bytes_eq s.id (subnet_id k)) made_subnet 1 n k (record { id = []; vpc = []; zone = [] }) one (numbered-self (codes "subnet") k)
+    found-each (λ (s : Subnet). bytes_eq s.id (subnet_id k)) made_subnet 1 n k no_subnet one (numbered-self (codes "subnet") k)
     (λ j other same. numbered-same (codes "subnet") j k (omega (arith, other.1, most)) (omega (arith, one.1, most)) same)
 
 subnet-in_vpc : (n k : ℕ) → n ≤ 50 → IsOneOf 1 n k → is_subnet_of (made n) (vpc_id k) (subnet_id k) ≡ true

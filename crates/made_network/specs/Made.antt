@@ -9,6 +9,7 @@ use Rattle.made_network.specs.Types.{Acl, AclRow, Association, Attachment, Descr
 use Rattle.vpc_model.specs.declared.rows.InterfaceKind.TheVariants as kinds
 use Rattle.vpc_model.specs.declared.rows.Reach.TheVariants as reaches
 use Rattle.vpc_model.specs.declared.rows.Target.TheVariants as targets
+use Rattle.vpc_model.specs.Lookup.{no_subnet, no_vpc}
 
 -- ---- ids, addresses and blocks
 
@@ -63,10 +64,10 @@ anywhere = block_of 0 0
 -- ---- the rows with a number
 
 abbrev pub made_vpc : ℕ → Vpc
-made_vpc k = record { id = vpc_id k; blocks = vpc_block k ∷ [] }
+made_vpc k = record no_vpc { id = vpc_id k; blocks = vpc_block k ∷ [] }
 
 abbrev pub made_subnet : ℕ → Subnet
-made_subnet k = record { id = subnet_id k; vpc = vpc_id k; zone = codes "z" }
+made_subnet k = record no_subnet { id = subnet_id k; vpc = vpc_id k; zone = codes "z" }
 
 abbrev pub made_interface : ℕ → Interface
 made_interface k = record {

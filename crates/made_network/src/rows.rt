@@ -43,6 +43,7 @@ impl MadeRow for Vpc {
         Ok(Vpc {
             id: numbered(alloc, "vpc", number)?,
             blocks: only_row(alloc, vpc_block(number))?,
+            access: None,
         })
     }
 }
@@ -55,6 +56,7 @@ impl MadeRow for Subnet {
             id: numbered(alloc, "subnet", number)?,
             vpc: numbered(alloc, "vpc", number)?,
             zone: id_of(alloc, b"z")?,
+            access: None,
         })
     }
 }

@@ -1,3 +1,4 @@
+pub mod Access
 pub mod Vpcs
 pub mod Subnets
 pub mod Interfaces

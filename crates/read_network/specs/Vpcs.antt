@@ -6,6 +6,7 @@ use Rattle.json_fields.specs.Fields.{id_of, needed, prefix_of_field, text_of, wi
 use Rattle.json_fields.specs.Kept.{each_kept_item, firsts_by}
 use Rattle.json_fields.specs.declared.fault.FieldFault.{FieldFault}
 use Rattle.prefix_text.specs.Block.{Block}
+use Rattle.read_network.specs.Access.{access_at}
 use Rattle.vpc_model.specs.declared.rows.Vpc.{Vpc}
 
 -- whether a block with this state belongs to the VPC
@@ -28,10 +29,11 @@ same_block a b = (a.first == b.first) && (a.length == b.length)
 abbrev pub each_once : List Block → List Block
 each_once = firsts_by same_block (λ b. b)
 
--- a VPC with its first block and the associated ones, each once
+-- a VPC with its first block and the associated ones, each once, and its mode
 abbrev pub vpc_of : Data → List ℕ → Result Vpc FieldFault
 vpc_of row path =
     and_then (id_of row path (codes "VpcId")) (λ id.
     and_then (needed prefix_of_field row path (codes "CidrBlock")) (λ block.
     and_then (each_kept_item associated_block row path (codes "CidrBlockAssociationSet")) (λ others.
-    Ok (record { id = id; blocks = each_once (block ∷ others) }))))
+    and_then (access_at row path) (λ access.
+    Ok (record { id = id; blocks = each_once (block ∷ others); access = access })))))

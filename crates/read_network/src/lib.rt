@@ -5,6 +5,7 @@
 //! EC2 API leaves it open.
 #![tactic(auto)]
 
+mod access;
 mod appliances;
 mod blocks;
 mod interfaces;

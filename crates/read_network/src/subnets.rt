@@ -4,6 +4,7 @@ ghost use Rattle.serde_json.specs.View.{view};
 ghost use Rattle.json_fields.specs.FieldFault.{Reads};
 ghost use Rattle.read_network.specs.Subnets.{subnet_of};
 
+use crate::access::access_at;
 use json_fields::{FieldFault, Path, ReadRow, id_at};
 use serde_json::Value;
 use std::alloc::Global;
@@ -15,7 +16,13 @@ fn subnet_of(alloc: Global, row: &Value, path: &Path) -> Result<Subnet, FieldFau
     let id = id_at(alloc, row, path, "SubnetId")?;
     let vpc = id_at(alloc, row, path, "VpcId")?;
     let zone = id_at(alloc, row, path, "AvailabilityZone")?;
-    Ok(Subnet { id, vpc, zone })
+    let access = access_at(alloc, row, path)?;
+    Ok(Subnet {
+        id,
+        vpc,
+        zone,
+        access,
+    })
 }
 
 /// The rows of `Subnets`.

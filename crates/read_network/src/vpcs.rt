@@ -4,6 +4,7 @@ ghost use Rattle.serde_json.specs.View.{view};
 ghost use Rattle.json_fields.specs.FieldFault.{Reads};
 ghost use Rattle.read_network.specs.Vpcs.{associated_block, is_associated, vpc_of};
 
+use crate::access::access_at;
 use crate::blocks::each_once;
 use json_fields::{FieldFault, Path, ReadRow, id_at, prefix_at, read_kept_items, str_if_within};
 use prefix_text::Prefix;
@@ -52,11 +53,13 @@ fn vpc_of(alloc: Global, row: &Value, path: &Path) -> Result<Vpc, FieldFault>
     let block = prefix_at(alloc, row, path, "CidrBlock")?;
     let set = "CidrBlockAssociationSet";
     let mut blocks = read_kept_items::<Prefix, AssociatedBlocks>(alloc, row, path, set)?;
+    let access = access_at(alloc, row, path)?;
     blocks.insert(0, block)?;
     let blocks = each_once(alloc, blocks.as_slice())?;
     Ok(Vpc {
         id,
         blocks: OwnList::of(blocks),
+        access,
     })
 }
 

@@ -8,7 +8,7 @@ use Rattle.std.proofs.lemmas.List.Sums.{passes_at_first}
 use Rattle.std.proofs.lemmas.Slice.Eq.{bytes_eq-Decides}
 use Rattle.vpc_base.proofs.Positions.{list_any-position}
 use Rattle.vpc_model.specs.Accepted.{first_cause, repeats_after, same_address}
-use Rattle.vpc_model.specs.Lookup.{has_vpc}
+use Rattle.vpc_model.specs.Lookup.{has_vpc, no_vpc}
 use Rattle.vpc_model.specs.declared.rows.Description.{Description}
 use Rattle.vpc_model.specs.declared.rows.Vpc.{Vpc}
 use Rattle.reference_check.specs.Keys.{AreKeys, AreKnown, addresses_in, key_of, twice}
@@ -16,7 +16,6 @@ use Rattle.reference_check.specs.Keys.{AreKeys, AreKnown, addresses_in, key_of, 
 -- ids that are found at one number are one id
 same_id : (vpcs : List Vpc) (a b : List ℕ) → list_any (λ v. bytes_eq v.id a) vpcs ≡ true → list_any (λ v. bytes_eq v.id b) vpcs ≡ true → position_or_len (λ v. bytes_eq v.id a) vpcs ≡ position_or_len (λ v. bytes_eq v.id b) vpcs → a ≡ b
 same_id vpcs a b ha hb e =
-    let no_vpc : Vpc = record { id = []; blocks = [] } in
     let within_a : position_or_len (λ v. bytes_eq v.id a) vpcs < length vpcs = within (λ v. bytes_eq v.id a) ha in
     let within_b : position_or_len (λ v. bytes_eq v.id b) vpcs < length vpcs = within (λ v. bytes_eq v.id b) hb in
     let row_a = get_or vpcs (position_or_len (λ v. bytes_eq v.id a) vpcs) no_vpc in

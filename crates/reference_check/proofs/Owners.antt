@@ -10,6 +10,7 @@ use Rattle.reference_check.proofs.Described.{vpcs-differ}
 use Rattle.reference_check.proofs.Distinct.{AreDistinct, distinct}
 use Rattle.reference_check.proofs.Keyed.{same_key}
 use Rattle.reference_check.proofs.Maps.{found_number}
+use Rattle.vpc_model.specs.Lookup.{no_vpc}
 
 -- the first that passes in two lists
 position-append : {X : Type 0} (q : X → Bool) (xs ys : List X) → position_or_len q (xs ++ ys) ≡ cond (list_any q xs) (position_or_len q xs) (length xs + position_or_len q ys)
@@ -120,7 +121,6 @@ pub record IsPlaced (d : Description) (keys : List ℕ) (v : VpcNo) (a : ℕ) : 
 
 placed : (d : Description) (keys : List ℕ) (v : VpcNo) (a : ℕ) → AreKeys d (private_addresses d) keys → duplicate_ids d ≡ [] → v.0 < length d.vpcs → a < 2 ^ 32 → IsPlaced d keys v a
 placed d keys v a are differ within small =
-    let no_vpc : Vpc = record { id = []; blocks = [] } in
     let id = id_of d v in
     let number = number-of d.vpcs v.0 no_vpc (distinct (map (λ w. w.id) d.vpcs) (vpcs-differ d differ)) within in
     let self : bytes_eq id id ≡ true = (bytes_eq-Decides id id).1 refl in

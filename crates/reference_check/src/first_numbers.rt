@@ -8,12 +8,20 @@ use std::marker::Model;
 use vpc_model::{Association, Attachment, Group, Id, Subnet};
 
 /// A row that names something by its id: an association its attachment, an attachment its gateway, a subnet
-/// its zone, a group itself.
+/// its zone, a group or an id itself.
 pub trait Naming {
     ghost name_of: { Self → List ℕ };
 
     fn name(&self) -> &Id
         ensures { result.now ≡ name_of self.now };
+}
+
+impl Naming for Id {
+    ghost name_of = { λ id. id };
+
+    fn name(&self) -> &Id {
+        self
+    }
 }
 
 impl Naming for Association {

@@ -1,13 +1,14 @@
 // The row of a number, and the number of a row that is described.
 ghost use Rattle.std.specs.Prelude.{◌≡◌, Contains, IsTrue};
+ghost use Rattle.vpc_model.specs.Access.{access_in};
 ghost use Rattle.vpc_model.specs.Lookup as rows;
 ghost use Rattle.vpc_model.specs.Sound.{is_acl, is_attachment, is_eni, is_group, is_igw, is_nat, is_peering, is_subnet, is_table, is_tgw_table, is_vpc};
 
 use crate::Network;
 use vpc_model::{
-    Acl, AclNo, AttNo, Attachment, EniNo, Group, GroupNo, Id, IgwNo, Interface, InternetGateway,
-    NatGateway, NatNo, PeerNo, Peering, RouteTable, Subnet, SubnetNo, TableNo, TgwTable,
-    TgwTableNo, Vpc, VpcNo,
+    Access, Acl, AclNo, AttNo, Attachment, EniNo, Group, GroupNo, Id, IgwNo, Interface,
+    InternetGateway, NatGateway, NatNo, PeerNo, Peering, RouteTable, Subnet, SubnetNo, TableNo,
+    TgwTable, TgwTableNo, Vpc, VpcNo,
 };
 
 impl Network {
@@ -148,5 +149,29 @@ impl Network {
         let _ = self.description();
         let subnet = self.subnet_of_interface(interface);
         self.vpc_named(&subnet.vpc)
+    }
+
+    // The mode of a subnet's VPC, if it is told.
+    fn vpc_access(&self, subnet: &Subnet) -> Option<Access>
+        requires { Contains self.now.subnets subnet.now }
+        ensures { let row = rows.vpc_at self.now (rows.vpc_no self.now subnet.now.vpc) in result ≡ row.access }
+    {
+        let _ = self.description();
+        self.vpc_at(self.vpc_named(&subnet.vpc)).access
+    }
+
+    /// The mode of Block Public Access in a subnet of the network: its own, else that of its VPC; off where none
+    /// is told.
+    pub fn access_in(&self, subnet: &Subnet) -> Access
+        requires { Contains self.now.subnets subnet.now }
+        ensures { result ≡ access_in self.now subnet.now }
+    {
+        if let Some(access) = subnet.access {
+            return access;
+        }
+        match self.vpc_access(subnet) {
+            Some(access) => access,
+            None => Access::Off,
+        }
     }
 }

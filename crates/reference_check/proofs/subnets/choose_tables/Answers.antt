@@ -4,10 +4,10 @@ use Rattle.std.proofs.lemmas.List.{map-append}
 use Rattle.vpc_model.specs.declared.rows.Subnet.{Subnet}
 use Rattle.reference_check.specs.Attached.{chosen_table}
 use Rattle.reference_check.proofs.subnets.choose_tables.Goals as goal
+use Rattle.vpc_model.specs.Lookup.{no_subnet}
 
 pub loop-k-preserved : goal.loop-k-preserved
 loop-k-preserved c =
-    let no_subnet : Subnet = record { id = []; vpc = []; zone = [] } in
     let within : c.loop-k.k < length c.args.d.now.subnets = rw (← c.as_slice-count.ensures) c.loop-k-test.true in
     let taken = (take_at_read c.args.d.now.subnets c.loop-k.k no_subnet within).1 in
     c.in_ok-push.ensures.items
