@@ -82,6 +82,16 @@ answers_of_hosts d table v i x are lies valid k =
     (answers_more (CutOut (λ a. is_some (value_at (key_of v.0 a) table))) (Standing d) (λ h. value_at (key_of v.0 (header_at i h).dst) table) i.part x
     (λ cuts standing a fits some. among_through (on_sides (cuts_of_blocks (address_cuts a))) (standing_cuts d) cuts (hosts_are_cut_out d table v are lies a fits some) standing) k)
 
+-- of the source
+pub answers_of_senders : (d : Description) (table : List (Entry EniNo)) (v : VpcNo) (i : Image) (x : Part (Option EniNo)) → AreHosts d table → is_vpc d v ≡ true → IsValidImage i
+    → Answers (CutOut (λ a. is_some (value_at (key_of v.0 a) table))) (λ h. value_at (key_of v.0 (header_at i h).src) table) i.part x
+    → Answers (Standing d) (λ h. host_of d v (header_at i h).src) i.part x
+answers_of_senders d table v i x are lies valid k =
+    answers_held (Standing d) (λ h. value_at (key_of v.0 (header_at i h).src) table) (λ h. host_of d v (header_at i h).src) i.part x
+    (λ h held. are v (header_at i h).src lies (images_fit i h valid held).src)
+    (answers_more (CutOut (λ a. is_some (value_at (key_of v.0 a) table))) (Standing d) (λ h. value_at (key_of v.0 (header_at i h).src) table) i.part x
+    (λ cuts standing a fits some. among_through (on_sides (cuts_of_blocks (address_cuts a))) (standing_cuts d) cuts (hosts_are_cut_out d table v are lies a fits some) standing) k)
+
 host-lies : (d : Description) (v : VpcNo) (a : ℕ) (o : Option ℕ) → position (is_host d v a) d.interfaces ≡ o → IfSome (option_map numbered o) (λ e. is_eni d e ≡ true)
 host-lies d v a None is = tt
 host-lies d v a (Some k) is = (position-at (is_host d v a) d.interfaces k no_interface is).0
@@ -92,6 +102,12 @@ pub host_lies : (enough : CutLists → Type 0) (d : Description) (v : VpcNo) (i 
 host_lies enough d v i x k =
     subst (λ (o : Option EniNo). IfSome o (λ e. is_eni d e ≡ true)) (sym (told_of_low enough (λ h. host_of d v (header_at i h).dst) i.part x k))
     (host-lies d v (header_at i (low_of x.body)).dst (position (is_host d v (header_at i (low_of x.body)).dst) d.interfaces) refl)
+
+pub sender_lies : (enough : CutLists → Type 0) (d : Description) (v : VpcNo) (i : Image) (x : Part (Option EniNo)) → Answers enough (λ h. host_of d v (header_at i h).src) i.part x
+    → IfSome x.told (λ e. is_eni d e ≡ true)
+sender_lies enough d v i x k =
+    subst (λ (o : Option EniNo). IfSome o (λ e. is_eni d e ≡ true)) (sym (told_of_low enough (λ h. host_of d v (header_at i h).src) i.part x k))
+    (host-lies d v (header_at i (low_of x.body)).src (position (is_host d v (header_at i (low_of x.body)).src) d.interfaces) refl)
 
 -- ---- the addresses of one interface
 

@@ -30,6 +30,17 @@ pub fn host_on(f: &Fabric, v: VpcNo, i: &Image) -> Part<Option<EniNo>>
     entry_on(i, Side::Dst, f.hosts(), v.0)
 }
 
+/// The interface of a VPC that has the source, likewise.
+pub fn sender_on(f: &Fabric, v: VpcNo, i: &Image) -> Part<Option<EniNo>>
+    requires vpc { IsTrue (is_vpc f.now v) }
+    requires valid { IsValidImage i.now }
+    requires walk { IsImageOfWalk i.now }
+    ensures { Answers (Standing f.now)
+        (λ h. model.host_of f.now v (header_at i.now h).src) i.now.part result }
+{
+    entry_on(i, Side::Src, f.hosts(), v.0)
+}
+
 // The side of an interface's own address.
 fn own_side(dir: Dir) -> Side
     ensures own { (h : Header) → number_of h result ≡ own_address dir h }

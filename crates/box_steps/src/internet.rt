@@ -1,29 +1,30 @@
 // The internet gateway, and the internet behind it.
-ghost use Rattle.std.specs.Prelude.{◌≡◌, ◌||◌, if◌then◌else◌, IfSome, IsTrue, option_map, ℕ};
+ghost use Rattle.std.specs.Prelude.{◌≡◌, ◌||◌, if◌then◌else◌, IfSome, IsTrue, option_and_then, option_map, ℕ};
 ghost use Rattle.box_images.specs.Answers.{Answers};
 ghost use Rattle.box_images.specs.Images.{IsImageOfWalk, IsValidImage, header_at};
 ghost use Rattle.box_steps.specs.Cuts.{Standing};
 ghost use Rattle.box_steps.specs.Moments.{IsBoxMoment, IsStepOn};
 ghost use Rattle.box_steps.specs.Onward.{onward_of};
-ghost use Rattle.box_steps.specs.Publics.{own_in};
+ghost use Rattle.box_steps.specs.Publics.{got_at, own_in, unless_blocked};
 ghost use Rattle.box_steps.specs.declared.onward.Onward.TheVariants as onwards;
 ghost use Rattle.vpc_base.specs.declared.headers.Header.{Header};
 ghost use Rattle.vpc_base.specs.declared.headers.Label.{Label};
 ghost use Rattle.vpc_model.specs.Appliances.{appliances_of};
 ghost use Rattle.vpc_model.specs.Internet.{is_unroutable, owner_of};
 ghost use Rattle.vpc_model.specs.Lookup.{attached_gateway};
-ghost use Rattle.vpc_model.specs.Sound.{has_gateway, is_vpc};
+ghost use Rattle.vpc_model.specs.Sound.{has_gateway, is_eni, is_vpc};
 ghost use Rattle.vpc_model.specs.Step.Internet as model;
 ghost use Rattle.vpc_model.specs.Step.Words.{stop};
 ghost use Rattle.vpc_model.specs.declared.places.Place.TheVariants as places;
 ghost use Rattle.vpc_model.specs.declared.stops.Stop.TheVariants as stops;
 
+use crate::hosts::sender_on;
 use crate::moment::BoxMoment;
 use crate::onward::Onward;
 use box_images::{Image, Part};
 use edge_gateways::unroutable_on;
-use fabric::Fabric;
-use vpc_model::{End, EnterBy, Place, Stop, VpcNo};
+use fabric::{Fabric, blocked, blocked_at};
+use vpc_model::{End, EniNo, EnterBy, Place, Stop, VpcNo};
 
 // To the gateway of the VPC that has the destination, if one has it.
 fn to_owner(f: &Fabric, owner: Option<(VpcNo, u32)>) -> Onward
@@ -88,8 +89,66 @@ fn send(m: &mut BoxMoment, place: Place, header: Image) -> Onward
     Onward::Go(place)
 }
 
-/// Out by the internet gateway, with the public address as the source (VPC User Guide, "Internet
-/// gateways"). The packets that go on have one source.
+// What stops packets between the sender and the internet, if it is an interface of the VPC.
+fn blocked_by(f: &Fabric, sender: Option<EniNo>) -> Option<Stop>
+    requires { IfSome sender (λ e. IsTrue (is_eni f.now e)) }
+    ensures { result ≡ option_and_then (model.blocked f.now) sender }
+{
+    match sender {
+        Some(e) => blocked(f, e),
+        None => None,
+    }
+}
+
+// What stops packets of the source in a VPC on their way to the internet.
+fn blocked_on(f: &Fabric, v: VpcNo, i: &Image) -> Part<Option<Stop>>
+    requires vpc { IsTrue (is_vpc f.now v) }
+    requires valid { IsValidImage i.now }
+    requires walk { IsImageOfWalk i.now }
+    ensures { Answers (Standing f.now)
+        (λ h. model.blocked_at f.now v (header_at i.now h).src) i.now.part result }
+{
+    let sender = sender_on(f, v, i);
+    Part {
+        body: sender.body,
+        told: blocked_by(f, sender.told),
+    }
+}
+
+// The public address that packets get, unless something stops them.
+fn unless_blocked(public: u32, stop: Option<Stop>) -> Result<u32, Stop>
+    ensures { result ≡ unless_blocked public stop }
+{
+    match stop {
+        None => Ok(public),
+        Some(stop) => Err(stop),
+    }
+}
+
+// The public address that packets get for their source, or what stops them.
+fn got_on(f: &Fabric, v: VpcNo, i: &Image) -> Part<Result<u32, Stop>>
+    requires gateway { IsTrue (has_gateway f.now v) }
+    requires valid { IsValidImage i.now }
+    requires walk { IsImageOfWalk i.now }
+    ensures { Answers (Standing f.now) (λ h. got_at f.now v (header_at i.now h).src) i.now.part result }
+{
+    let _ = f.network().description();
+    let public = f.edges().out_addr_on(v, i);
+    let Some(a) = public.told else {
+        return Part {
+            body: public.body,
+            told: Err(no_public(f, v)),
+        };
+    };
+    let blocked = blocked_on(f, v, &i.within(&public.body));
+    Part {
+        body: blocked.body,
+        told: unless_blocked(a, blocked.told),
+    }
+}
+
+/// Out by the internet gateway, with the public address as the source, unless public access is blocked (VPC User
+/// Guide, "Internet gateways"). The packets that go on have one source.
 pub fn igw_out_on(f: &Fabric, v: VpcNo, m: &mut BoxMoment) -> Onward
     requires place { m.old.place ≡ places.IgwOut v }
     requires moment { (label : Label) × IsBoxMoment f.now label m.old }
@@ -97,14 +156,14 @@ pub fn igw_out_on(f: &Fabric, v: VpcNo, m: &mut BoxMoment) -> Onward
         → IsStepOn f.now (appliances_of f.now) label m.old m.new result }
 {
     let _ = f.network().description();
-    let public = f.edges().out_addr_on(v, &m.header);
+    let public = got_on(f, v, &m.header);
     m.narrow(&public.body);
     match public.told {
-        Some(a) => {
+        Ok(a) => {
             let header = m.header.set_src(a);
             send(m, Place::Internet, header)
         }
-        None => Onward::Stop(no_public(f, v)),
+        Err(stop) => Onward::Stop(stop),
     }
 }
 
@@ -118,8 +177,8 @@ fn own_in(v: VpcNo, owner: Option<(VpcNo, u32)>) -> Option<u32>
     }
 }
 
-/// In by the internet gateway, with the private address as the destination; a destination that is no
-/// public address of the VPC stays.
+/// In by the internet gateway, with the private address as the destination, unless public access is blocked; a
+/// destination that is no public address of the VPC stays.
 pub fn igw_in_on(f: &Fabric, v: VpcNo, m: &mut BoxMoment) -> Onward
     requires place { m.old.place ≡ places.IgwIn v }
     requires moment { (label : Label) × IsBoxMoment f.now label m.old }
@@ -130,13 +189,14 @@ pub fn igw_in_on(f: &Fabric, v: VpcNo, m: &mut BoxMoment) -> Onward
     let owner = f.edges().in_addr_on(&m.header);
     m.narrow(&owner.body);
     let place = Place::Enter(v, EnterBy::Gateway);
-    match own_in(v, owner.told) {
-        Some(own) => {
-            let header = m.header.set_dst(own);
-            send(m, place, header)
-        }
+    let Some(own) = own_in(v, owner.told) else {
+        let header = m.header;
+        return send(m, place, header);
+    };
+    match blocked_at(f, v, own) {
+        Some(stop) => Onward::Stop(stop),
         None => {
-            let header = m.header;
+            let header = m.header.set_dst(own);
             send(m, place, header)
         }
     }

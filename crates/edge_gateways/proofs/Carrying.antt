@@ -8,10 +8,11 @@ use Rattle.vpc_model.specs.Terms.{IsAccepted, has_block, has_vpc, is_vpc, other_
 use Rattle.vpc_laws.proofs.Numbering.{accepted_numbers_are_own, ids_are_found}
 use Rattle.edge_gateways.specs.Terms.{AreEdgesOf, CanCarry, HasBlocksOf, HasPairsOf, HasPeeringsOf, Owner, Sides, carry_if, has_address, is_one_of, other_of, sides_if, sides_of}
 use Rattle.reference_check.proofs.VpcIds.{ids_agree}
+use Rattle.vpc_model.specs.Lookup.{no_peering, no_vpc}
 
 -- the blocks of a described VPC
 pub has_address-is : (d : Description) (sets : List (List Run)) (v : VpcNo) (a : ℕ) → AllZip HasBlocksOf d.vpcs sets → is_vpc d v ≡ true → has_address sets v a ≡ has_block d v a
-has_address-is d sets v a zip lies = zip_at HasBlocksOf d.vpcs sets v.0 (record { id = []; blocks = [] }) [] zip (ltb-true v.0 (length d.vpcs) lies) a
+has_address-is d sets v a zip lies = zip_at HasBlocksOf d.vpcs sets v.0 no_vpc [] zip (ltb-true v.0 (length d.vpcs) lies) a
 
 -- the two numbers of a peering
 abbrev pub numbers_of : Description → List ℕ × List ℕ → Sides
@@ -22,7 +23,7 @@ described d x pair active =
     elim (cases_lt x.0 (length d.peerings)) [
       | inl within ↦ within
       | inr past ↦
-          let none : Peering = record { id = []; pair = None } in
+          let none : Peering = no_peering in
           let absent : (peering_at d x).pair ≡ None = ap (λ (p : Peering). p.pair) (get_or_past d.peerings x.0 none past) in
           absurd cc
     ]
@@ -31,7 +32,7 @@ pub sides-at : (d : Description) (pairs : List (Option Sides)) (x : PeerNo) (v :
 sides-at d pairs x v is can =
     let within = described d x can.pair can.active in
     ap (λ (ps : List (Option Sides)). get_or ps x.0 None) is
-    ∙ get_or-map (sides_of d) d.peerings x.0 (record { id = []; pair = None }) None within
+    ∙ get_or-map (sides_of d) d.peerings x.0 no_peering None within
     ∙ ap (sides_if d) can.active
     ∙ both (has_vpc d can.pair.0) (has_vpc d can.pair.1) can.one can.other
   where

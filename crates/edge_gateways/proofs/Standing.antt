@@ -9,6 +9,7 @@ use Rattle.vpc_model.specs.Terms.{address_cuts, cuts_of_blocks, cuts_of_interfac
 use Rattle.vpc_laws.specs.Types.{Description, Interface, VpcNo}
 use Rattle.edge_gateways.specs.Terms.{AreEdgesOf, EdgeLists, OwnersAreCutOut, PublicsAreCutOut, Sides, SidesAreDivided, has_address, other_of, owner_at}
 use Rattle.edge_gateways.proofs.Carrying.{has_address-is, numbers_of, sides-at}
+use Rattle.vpc_model.specs.Lookup.{no_vpc}
 
 -- ---- the addresses of interfaces
 
@@ -92,7 +93,7 @@ vpc-divides : (d : Description) (m : EdgeLists) (v : VpcNo) → AreEdgesOf d m �
 vpc-divides d m v edges lies a fits turn =
     let row = vpc_at d v in
     let same : (b : ℕ) → has_address m.blocks v b ≡ has_block d v b = λ b. has_address-is d m.blocks v b edges.peerings.blocks lies in
-    let member = row-member d.vpcs v.0 (record { id = []; blocks = [] }) lies in
+    let member = row-member d.vpcs v.0 no_vpc lies in
     blocks-divide row.blocks (cuts_of_vpc row) (standing_cuts d) refl (vpcs_are_standing d row member) a fits (sym (same (a + 1)) ∙ turn ∙ ap not (same a))
 
 pub sides_are_divided : SidesAreDivided

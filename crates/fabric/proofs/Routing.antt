@@ -11,7 +11,7 @@ use Rattle.vpc_laws.specs.Choice.{Chooses, RouteYields}
 use Rattle.vpc_laws.specs.Types.{Description, Route, TableNo, Target}
 use Rattle.fabric.specs.Targets.{route_at, target_number}
 use Rattle.vpc_model.specs.Accepted.{IsAccepted}
-use Rattle.vpc_model.specs.Lookup.{table_at}
+use Rattle.vpc_model.specs.Lookup.{no_table, table_at}
 use Rattle.vpc_model.specs.Routes.{chosen_route, is_candidate}
 use Rattle.vpc_model.specs.Sound.{is_eni, is_nat, is_peering, is_route, is_table}
 use Rattle.vpc_model.specs.Step.Router.{no_route}
@@ -30,7 +30,7 @@ pub has_target : (d n : Description) (t : TableNo) (k : ℕ) (route : Route) →
 has_target d n t k route same accepted lies is live =
     let table = table_at d t in
     let parts = and_parts (is_table d t) _ lies in
-    let listed : Contains d.tables table = Contains-get_or d.tables t.0 (record { id = []; vpc = []; main = false; subnets = []; routes = [] }) (ltb-true t.0 (length d.tables) parts.0) in
+    let listed : Contains d.tables table = Contains-get_or d.tables t.0 no_table (ltb-true t.0 (length d.tables) parts.0) in
     let route_listed : Contains table.routes (route_at d t k) = Contains-get_or table.routes k no_route (ltb-true k (length table.routes) parts.1) in
     (accepted_has_all_named d (subst IsAccepted same accepted)).target_of_route table (route_at d t k) listed route_listed (ap (λ (r : Route). r.blackhole) (sym is) ∙ live)
 

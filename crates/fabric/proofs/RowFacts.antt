@@ -9,7 +9,7 @@ use Rattle.vpc_laws.proofs.Numbering.{accepted_numbers_are_in_range, ids_are_fou
 use Rattle.vpc_laws.specs.Accepted.{IsShort}
 use Rattle.vpc_laws.specs.Types.{AclNo, Description, NatLife, NatNo, SubnetNo, TableNo}
 use Rattle.vpc_model.specs.Accepted.{IsAccepted}
-use Rattle.vpc_model.specs.Lookup.{acl_of, nat_at, subnet_no, table_of}
+use Rattle.vpc_model.specs.Lookup.{acl_of, nat_at, no_nat, subnet_no, table_of}
 use Rattle.vpc_model.specs.Sound.{is_acl, is_live, is_nat, is_subnet, is_table}
 use Rattle.vpc_model.specs.Step.Nat.{own_subnet}
 use Rattle.vpc_model.specs.declared.rows.NatLife.TheVariants as lives
@@ -29,7 +29,7 @@ nat_subnet-lies d n k s same accepted lies live is = subst (λ (x : SubnetNo). i
     by lives.Gone own live = absurd cc
     by lives.Unmodelled own live = absurd cc
     by (lives.Live subnet eni address) own live =
-        let listed : Contains d.nats (nat_at d k) = Contains-get_or d.nats k.0 (record { id = []; life = lives.Gone }) (ltb-true k.0 (length d.nats) lies) in
+        let listed : Contains d.nats (nat_at d k) = Contains-get_or d.nats k.0 no_nat (ltb-true k.0 (length d.nats) lies) in
         let named = (accepted_has_all_named d (subst IsAccepted same accepted)).place_of_nat (nat_at d k) subnet eni address listed own in
         ((ids_are_found d).subnet subnet named.0).0
 

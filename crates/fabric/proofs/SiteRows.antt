@@ -2,14 +2,15 @@
 use Rattle.std.proofs.Common.{◌≡◌, ◌∙◌, ◌<◌, [], List, None, Option, ap, get_or, length, subst, sym, true, ℕ}
 use Rattle.std.proofs.lemmas.Bool.{ltb-true}
 use Rattle.std.proofs.lemmas.List.{get_or-map, length-map}
-use Rattle.vpc_laws.proofs.Numbering.{accepted_numbers_are_in_range, no_subnet}
-use Rattle.vpc_laws.specs.Types.{Description, EniNo, Interface, NatGateway, NatNo, PeerNo, Peering, Subnet, SubnetNo, VpcNo}
+use Rattle.vpc_laws.proofs.Numbering.{accepted_numbers_are_in_range}
+use Rattle.vpc_laws.specs.Types.{Access, Description, EniNo, Interface, NatGateway, NatNo, PeerNo, Peering, Subnet, SubnetNo, VpcNo}
 use Rattle.vpc_model.specs.Accepted.{IsAccepted}
-use Rattle.vpc_model.specs.Lookup.{nat_at, no_interface, peering_at, subnet_no, subnet_of, vpc_no, vpc_of_subnet}
+use Rattle.vpc_model.specs.Access.{access_in, access_of}
+use Rattle.vpc_model.specs.Lookup.{nat_at, no_interface, no_nat, no_peering, no_subnet, peering_at, subnet_no, subnet_of, vpc_no, vpc_of_subnet}
 use Rattle.vpc_model.specs.Sound.{is_eni, is_nat, is_peering, is_subnet, is_vpc}
 use Rattle.vpc_model.specs.Step.Nat.{own_subnet}
 use Rattle.vpc_model.specs.declared.rows.NatLife.TheVariants as lives
-use Rattle.fabric.specs.Sites.{ends_by, ends_in, nat_subnets_in, subnets_in, vpcs_in}
+use Rattle.fabric.specs.Sites.{accesses_in, ends_by, ends_in, nat_subnets_in, subnets_in, vpcs_in}
 
 -- the VPCs of a peering
 abbrev pub Ends : Type 0
@@ -34,6 +35,14 @@ vpc-at d s vpcs v are lies is =
     is (vpc_no d no_subnet.vpc)
     ∙ (ap (λ (xs : List VpcNo). get_or xs s.0 (vpc_no d no_subnet.vpc)) are ∙ get_or-map (λ (row : Subnet). vpc_no d row.vpc) d.subnets s.0 no_subnet (vpc_no d no_subnet.vpc) (ltb-true s.0 (length d.subnets) lies))
 
+pub access-within : (d : Description) (s : SubnetNo) (accesses : List Access) → accesses ≡ accesses_in d → is_subnet d s ≡ true → s.0 < length accesses
+access-within d s accesses are lies = subst (λ (n : ℕ). s.0 < n) (sym (ap length are ∙ length-map d.subnets (access_in d))) (ltb-true s.0 (length d.subnets) lies)
+
+pub access-at : (d : Description) (s : SubnetNo) (accesses : List Access) (a : Access) → accesses ≡ accesses_in d → is_subnet d s ≡ true → ((none : Access) → a ≡ get_or accesses s.0 none) → a ≡ access_of d s
+access-at d s accesses a are lies is =
+    let none = access_in d no_subnet in
+    is none ∙ (ap (λ (xs : List Access). get_or xs s.0 none) are ∙ get_or-map (access_in d) d.subnets s.0 no_subnet none (ltb-true s.0 (length d.subnets) lies))
+
 pub nat-within : (d : Description) (n : NatNo) (subnets : List SubnetNo) → subnets ≡ nat_subnets_in d → is_nat d n ≡ true → n.0 < length subnets
 nat-within d n subnets are lies =
     subst (λ (k : ℕ). n.0 < k) (sym (ap length are ∙ length-map d.nats (λ (row : NatGateway). subnet_no d (own_subnet row.life)))) (ltb-true n.0 (length d.nats) lies)
@@ -43,7 +52,7 @@ pub nat-lies_in : (d : Description) (n : NatNo) (subnets : List SubnetNo) (s : S
 nat-lies_in d n subnets s are lies is =
     let f : NatGateway → SubnetNo = λ row. subnet_no d (own_subnet row.life) in
     let none : SubnetNo = subnet_no d [] in
-    is none ∙ (ap (λ (xs : List SubnetNo). get_or xs n.0 none) are ∙ get_or-map f d.nats n.0 (record { id = []; life = lives.Gone }) none (ltb-true n.0 (length d.nats) lies))
+    is none ∙ (ap (λ (xs : List SubnetNo). get_or xs n.0 none) are ∙ get_or-map f d.nats n.0 no_nat none (ltb-true n.0 (length d.nats) lies))
 
 pub peering-within : (d : Description) (x : PeerNo) (ends : List Ends) → ends ≡ ends_in d → is_peering d x ≡ true → x.0 < length ends
 peering-within d x ends are lies =
@@ -53,7 +62,7 @@ pub ends-at : (d : Description) (x : PeerNo) (ends : List Ends) (e : Ends) → e
     → let row = peering_at d x in e ≡ ends_by d row.pair
 ends-at d x ends e are lies is =
     let f : Peering → Ends = λ row. ends_by d row.pair in
-    is (None, None) ∙ (ap (λ (xs : List Ends). get_or xs x.0 (None, None)) are ∙ get_or-map f d.peerings x.0 (record { id = []; pair = None }) (None, None) (ltb-true x.0 (length d.peerings) lies))
+    is (None, None) ∙ (ap (λ (xs : List Ends). get_or xs x.0 (None, None)) are ∙ get_or-map f d.peerings x.0 no_peering (None, None) (ltb-true x.0 (length d.peerings) lies))
 
 -- the numbers are those of rows
 pub subnet-lies : (d n : Description) (i : EniNo) (s : SubnetNo) → n ≡ d → IsAccepted n → is_eni d i ≡ true → s ≡ subnet_of d i → is_subnet d s ≡ true

@@ -3,13 +3,10 @@ use Rattle.std.proofs.Common.{◌≡◌, ◌∙◌, ◌<◌, [], List, ap, false
 use Rattle.std.proofs.lemmas.Bool.{and_parts, ltb-true}
 use Rattle.std.proofs.lemmas.List.{get_or-map, length-map}
 use Rattle.vpc_laws.specs.Types.{Description, Route, RouteTable, TableNo}
-use Rattle.vpc_model.specs.Lookup.{table_at}
+use Rattle.vpc_model.specs.Lookup.{no_table, table_at}
 use Rattle.vpc_model.specs.Sound.{is_route, is_table}
 use Rattle.vpc_model.specs.Step.Router.{no_route}
 use Rattle.fabric.specs.Targets.{route_at, target_number, targets_in, targets_of}
-
-abbrev no_table : RouteTable
-no_table = record { id = []; vpc = []; main = false; subnets = []; routes = [] }
 
 -- the table and the route are described
 route-parts : (d : Description) (t : TableNo) (k : ℕ) → is_route d t k ≡ true → (t.0 < length d.tables) × (let table = table_at d t in k < length table.routes)

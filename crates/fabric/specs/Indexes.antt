@@ -11,10 +11,10 @@ use Rattle.security_groups.specs.Dividing.{HasRuleCuts}
 use Rattle.security_groups.specs.Index.{GroupLists, HasRulesOf}
 use Rattle.transit_gateway.specs.Index.{IsTransitOf}
 use Rattle.transit_gateway.specs.Lists.{TransitLists}
-use Rattle.vpc_laws.specs.Types.{Acl, Description, EniNo, NatNo, RouteTable, SubnetNo, VpcNo}
+use Rattle.vpc_laws.specs.Types.{Access, Acl, Description, EniNo, NatNo, RouteTable, SubnetNo, VpcNo}
 use Rattle.fabric.specs.Hosts.{AreHosts}
 use Rattle.fabric.specs.Nats.{AreNats}
-use Rattle.fabric.specs.Sites.{ends_in, nat_subnets_in, subnets_in, vpcs_in}
+use Rattle.fabric.specs.Sites.{accesses_in, ends_in, nat_subnets_in, subnets_in, vpcs_in}
 use Rattle.fabric.specs.Targets.{targets_in}
 use Rattle.vpc_model.specs.Cuts.{cuts_of_table}
 
@@ -30,7 +30,7 @@ abbrev pub IsAclIndex : Acl → TriedRows → Type 0
 IsAclIndex a x = SortsRows a.rows x
 
 -- the indexes of all ACLs, groups and route tables, of the edges, of the transit gateways, NAT gateways by their interfaces, interfaces by
--- their addresses, where interfaces, subnets and NAT gateways lie, which VPCs peerings join, and what routes lead to
+-- their addresses, where interfaces, subnets and NAT gateways lie, the modes of subnets, which VPCs peerings join, and what routes lead to
 pub record IndexLists : Type 0 where
   pub acls : List TriedRows
   pub groups : GroupLists
@@ -41,6 +41,7 @@ pub record IndexLists : Type 0 where
   pub hosts : List (Entry EniNo)
   pub subnets : List SubnetNo
   pub vpcs : List VpcNo
+  pub accesses : List Access
   pub nat_subnets : List SubnetNo
   pub ends : List (Option VpcNo × Option VpcNo)
   pub targets : List (List ℕ)
@@ -57,6 +58,7 @@ pub record AreIndexesOf (d : Description) (x : IndexLists) : Type 0 where
   pub hosts : AreHosts d x.hosts
   pub subnets : x.subnets ≡ subnets_in d
   pub vpcs : x.vpcs ≡ vpcs_in d
+  pub accesses : x.accesses ≡ accesses_in d
   pub nat_subnets : x.nat_subnets ≡ nat_subnets_in d
   pub ends : x.ends ≡ ends_in d
   pub targets : x.targets ≡ targets_in d

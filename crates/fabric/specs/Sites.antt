@@ -1,6 +1,7 @@
 -- Where interfaces, subnets and NAT gateways lie, and which VPCs peerings join.
 use Rattle.std.specs.Prelude.{if◌then◌else◌, List, None, Option, Some, map, ℕ}
-use Rattle.vpc_laws.specs.Types.{Description, SubnetNo, VpcNo}
+use Rattle.vpc_laws.specs.Types.{Access, Description, SubnetNo, VpcNo}
+use Rattle.vpc_model.specs.Access.{access_in}
 use Rattle.vpc_model.specs.Lookup.{has_vpc, subnet_no, vpc_at, vpc_no}
 use Rattle.vpc_model.specs.Peerings.{other_side}
 use Rattle.vpc_model.specs.Step.Nat.{own_subnet}
@@ -12,6 +13,10 @@ subnets_in d = map (λ e. subnet_no d e.subnet) d.interfaces
 -- the VPC of each subnet
 abbrev pub vpcs_in : Description → List VpcNo
 vpcs_in d = map (λ s. vpc_no d s.vpc) d.subnets
+
+-- the mode of Block Public Access in each subnet
+abbrev pub accesses_in : Description → List Access
+accesses_in d = map (access_in d) d.subnets
 
 -- the subnet of each NAT gateway, of one that isn't live that of no id
 abbrev pub nat_subnets_in : Description → List SubnetNo

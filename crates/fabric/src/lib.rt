@@ -3,6 +3,7 @@
 
 mod acls;
 mod hosts;
+mod modes;
 mod nats;
 mod network;
 mod routes;
@@ -10,4 +11,5 @@ pub mod rows;
 mod sites;
 mod targets;
 
+pub use modes::{blocked, blocked_at};
 pub use network::Fabric;

@@ -11,7 +11,9 @@ use crate::acls::acl_indexes;
 use crate::hosts::hosts_by_address;
 use crate::nats::nats_by_interface;
 use crate::routes::route_indexes;
-use crate::sites::{ends_by_peering, subnets_by_interface, subnets_by_nat, vpcs_by_subnet};
+use crate::sites::{
+    accesses_by_subnet, ends_by_peering, subnets_by_interface, subnets_by_nat, vpcs_by_subnet,
+};
 use crate::targets::targets_by_route;
 use edge_gateways::EdgeMaps;
 use network_acls::AclIndex;
@@ -23,7 +25,7 @@ use std::alloc::Global;
 use std::marker::Model;
 use transit_gateway::TransitIndex;
 use vpc_base::{NoMemory, OwnList};
-use vpc_model::{AclNo, EniNo, NatNo, PeerNo, SubnetNo, TableNo, VpcNo};
+use vpc_model::{Access, AclNo, EniNo, NatNo, PeerNo, SubnetNo, TableNo, VpcNo};
 
 // What lets packets pass, and what leads them on.
 struct Indexes {
@@ -36,6 +38,7 @@ struct Indexes {
     hosts: NumberTable<EniNo>,
     subnets: Vec<SubnetNo>,
     vpcs: Vec<VpcNo>,
+    accesses: Vec<Access>,
     nat_subnets: Vec<SubnetNo>,
     ends: Vec<(Option<VpcNo>, Option<VpcNo>)>,
     targets: Vec<OwnList<u32>>,
@@ -53,6 +56,7 @@ impl Drop for Indexes {
             hosts,
             subnets,
             vpcs,
+            accesses,
             nat_subnets,
             ends,
             targets,
@@ -66,6 +70,7 @@ impl Drop for Indexes {
         drop(hosts);
         drop(subnets);
         drop(vpcs);
+        drop(accesses);
         drop(nat_subnets);
         drop(ends);
         drop(targets);
@@ -87,6 +92,7 @@ impl Model for Indexes {
       hosts = x.hosts;
       subnets = x.subnets.items;
       vpcs = x.vpcs.items;
+      accesses = x.accesses.items;
       nat_subnets = x.nat_subnets.items;
       ends = x.ends.items;
       targets = x.targets.items;
@@ -105,6 +111,7 @@ fn indexes_of(alloc: Global, n: &Network) -> Result<Indexes, NoMemory>
     let hosts = hosts_by_address(alloc, n)?;
     let subnets = subnets_by_interface(alloc, n)?;
     let vpcs = vpcs_by_subnet(alloc, n)?;
+    let accesses = accesses_by_subnet(alloc, n)?;
     let nat_subnets = subnets_by_nat(alloc, n)?;
     let ends = ends_by_peering(alloc, n)?;
     let targets = targets_by_route(alloc, n)?;
@@ -118,6 +125,7 @@ fn indexes_of(alloc: Global, n: &Network) -> Result<Indexes, NoMemory>
         hosts,
         subnets,
         vpcs,
+        accesses,
         nat_subnets,
         ends,
         targets,
@@ -131,6 +139,7 @@ impl Indexes {
     ghost use Rattle.piece_table.specs.Pieces.{PieceLists};
     ghost use Rattle.vpc_model.specs.declared.numbers.SubnetNo.{SubnetNo};
     ghost use Rattle.vpc_model.specs.declared.numbers.VpcNo.{VpcNo};
+    ghost use Rattle.vpc_model.specs.declared.rows.Access.{Access};
 
     fn acl(&self, a: AclNo) -> &AclIndex
         requires { a.0 < length self.now.acls }
@@ -190,6 +199,13 @@ impl Indexes {
         self.vpcs[s.0 as usize]
     }
 
+    fn access_of(&self, s: SubnetNo) -> Access
+        requires { s.0 < length self.now.accesses }
+        ensures { (none : Access) → result ≡ slice_index_or self.now.accesses s.0 none }
+    {
+        self.accesses[s.0 as usize]
+    }
+
     fn nat_subnet(&self, n: NatNo) -> SubnetNo
         requires { n.0 < length self.now.nat_subnets }
         ensures { (none : SubnetNo) → result ≡ slice_index_or self.now.nat_subnets n.0 none }
@@ -244,6 +260,7 @@ impl Fabric {
     ghost use Rattle.std.specs.Prelude.{IsTrue};
     ghost use Rattle.fabric.specs.Sites.{ends_by};
     ghost use Rattle.fabric.specs.Targets.{route_at, target_number};
+    ghost use Rattle.vpc_model.specs.Access.{access_of};
     ghost use Rattle.vpc_model.specs.Lookup.{acl_at, nat_at, peering_at, subnet_no, subnet_of, table_at, vpc_of_subnet};
     ghost use Rattle.vpc_model.specs.Sound.{is_acl, is_eni, is_nat, is_peering, is_route, is_subnet, is_table};
     ghost use Rattle.vpc_model.specs.Step.Crossing.{nat_of};
@@ -337,6 +354,14 @@ impl Fabric {
         ensures { result ≡ vpc_of_subnet self.now s }
     {
         self.indexes.vpc_of(s)
+    }
+
+    /// What Block Public Access lets past internet gateways from and to a subnet.
+    pub fn access_of(&self, s: SubnetNo) -> Access
+        requires { IsTrue (is_subnet self.now s) }
+        ensures { result ≡ access_of self.now s }
+    {
+        self.indexes.access_of(s)
     }
 
     /// The subnet of a NAT gateway.

@@ -2,11 +2,11 @@
 ghost use Rattle.std.specs.Prelude.{◌≡◌, Contains, IfOk};
 ghost use Rattle.vpc_model.specs.Lookup.{subnet_no, vpc_no};
 ghost use Rattle.vpc_model.specs.Step.Nat.{own_subnet};
-ghost use Rattle.fabric.specs.Sites.{ends_by, ends_in, nat_subnets_in, subnets_in, vpc_by, vpcs_in};
+ghost use Rattle.fabric.specs.Sites.{accesses_in, ends_by, ends_in, nat_subnets_in, subnets_in, vpc_by, vpcs_in};
 
 use reference_check::Network;
 use std::alloc::{AllocError, Global};
-use vpc_model::{Id, Interface, NatGateway, NatLife, Peering, Subnet, SubnetNo, VpcNo};
+use vpc_model::{Access, Id, Interface, NatGateway, NatLife, Peering, Subnet, SubnetNo, VpcNo};
 
 fn subnet_of(n: &Network, interface: &Interface) -> SubnetNo
     requires { Contains n.now.interfaces interface.now }
@@ -81,6 +81,18 @@ pub fn vpcs_by_subnet(alloc: Global, n: &Network) -> Result<Vec<VpcNo>, AllocErr
         vpcs.push(vpc_of(n, subnet))?;
     }
     Ok(vpcs)
+}
+
+/// The mode of Block Public Access in each subnet.
+pub fn accesses_by_subnet(alloc: Global, n: &Network) -> Result<Vec<Access>, AllocError>
+    ensures { IfOk result (λ v. v.items ≡ accesses_in n.now) }
+{
+    let subnets = n.description().subnets.as_slice();
+    let mut accesses = Vec::with_capacity(alloc, subnets.len())?;
+    for subnet in subnets {
+        accesses.push(n.access_in(subnet))?;
+    }
+    Ok(accesses)
 }
 
 /// The subnet of each NAT gateway.

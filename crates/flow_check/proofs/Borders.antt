@@ -3,7 +3,7 @@ use Rattle.std.proofs.Common.{◌≡◌, ◌==◌, ◌∙◌, Bool, IfSome, None
 use Rattle.std.proofs.lemmas.Bool.{true≢false}
 use Rattle.vpc_base.proofs.Lemmas.{both_ways, cond-false, position-at, same_bytes}
 use Rattle.vpc_laws.proofs.Lemmas.{or_else-first, or_else-later}
-use Rattle.vpc_laws.proofs.Numbering.{accepted_numbers_are_own, nat_addresses_are_interfaces, no_nat}
+use Rattle.vpc_laws.proofs.Numbering.{accepted_numbers_are_own, nat_addresses_are_interfaces}
 use Rattle.vpc_laws.specs.Types.{Came, Description, EniNo, Header, NatGateway, NatLife, NatNo, Place, SubnetNo}
 use Rattle.vpc_laws.specs.Terms.{GoesOn, LiesIn, across, host, into, is_rewriting, nat_answered, nat_asked, out_of, past_none}
 use Rattle.vpc_model.specs.Terms.{IsAccepted, crossing, eni_no, entering, host_of, interface_at, is_eni, is_eni_of, is_nat, leaving, nat_at, nat_of, or_else, own_subnet, subnet_no, subnet_of}
@@ -11,6 +11,7 @@ use Rattle.vpc_model.specs.declared.places.Place.TheVariants as places
 use Rattle.vpc_model.specs.declared.rows.NatLife.TheVariants as lives
 use Rattle.flow_check.proofs.Owners.{found-lies}
 use Rattle.flow_check.specs.Walked.{is_inside, is_router_of, subnet_of_nat}
+use Rattle.vpc_model.specs.Lookup.{no_nat}
 
 -- ---- the subnets of NAT gateways
 

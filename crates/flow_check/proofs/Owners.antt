@@ -10,11 +10,11 @@ use Rattle.vpc_base.proofs.Bytes.{bytes_self, same_bytes}
 use Rattle.vpc_base.proofs.Members.{AllByRecursion-at, Contains-cases, Contains-here, Contains-later, Contains-none, list_any-member, member-list_any, row-member}
 use Rattle.vpc_base.proofs.Positions.{position-at}
 use Rattle.vpc_laws.proofs.Accepting.{accepted_has_all_named, accepted_has_nothing_twice}
-use Rattle.vpc_laws.proofs.Numbering.{accepted_numbers_are_in_range, ids_are_found, no_subnet}
+use Rattle.vpc_laws.proofs.Numbering.{accepted_numbers_are_in_range, ids_are_found}
 use Rattle.vpc_laws.proofs.Same.{EniNo-same}
 use Rattle.vpc_laws.specs.Types.{Description, EniNo, Interface, VpcNo}
 use Rattle.vpc_model.specs.Accepted.{IsAccepted, same_address}
-use Rattle.vpc_model.specs.Lookup.{has_address, host_of, interface_at, is_in_vpc, no_interface, subnet_at, subnet_no, subnet_of, vpc_at, vpc_of_interface, vpc_of_subnet}
+use Rattle.vpc_model.specs.Lookup.{has_address, host_of, interface_at, is_in_vpc, no_interface, no_subnet, subnet_at, subnet_no, subnet_of, vpc_at, vpc_of_interface, vpc_of_subnet}
 use Rattle.vpc_model.specs.Sound.{is_eni}
 use Rattle.flow_check.specs.Owners.{is_near, is_own}
 use Rattle.flow_check.specs.Rules.{is_neighbour}

@@ -12,6 +12,7 @@ use Rattle.json_fields.specs.declared.fault.FieldFault.TheVariants.{WrongShape}
 use Rattle.prefix_text.specs.Block.{Block}
 use Rattle.read_filters.specs.Acls.{acl_of, associated_subnet, entry_of}
 use Rattle.read_gateways.specs.Terms.{attached_vpc, attachment_of, destination_of, first_attachment, head_of, id_item, internet_gateway_of, ipv4_route_of, is_active_of, is_usable_of, life_if, named_attachment, nat_gateway_of, pair_if, peering_of, text_is, tgw_route_of, tgw_table_of}
+use Rattle.read_network.specs.Access.{access_at}
 use Rattle.read_network.specs.Terms.{Choice, addresses_of, associated_block, choices, first_target, gateway_target, interface_of, is_listed, manner_of, private_address, reach_by_block, reach_by_list, reach_of, route_if, route_of, route_to, subnet_of, table_association, table_of, target_of, target_or, vpc_of, with_primary}
 use Rattle.vpc_laws.specs.Types.{Acl, Attachment, InternetGateway, NatGateway, Peering, Reach, Route, Subnet, Target, Vpc}
 use Rattle.vpc_model.specs.Terms.{both_addresses, target_id}
@@ -28,7 +29,8 @@ pub vpc_read : (row : Data) (path : List ℕ) → IfOk (vpc_of row path) HasVpcI
 vpc_read row path =
     read_then (id_of row path (codes "VpcId")) _ IsId HasVpcId (id_read row path (codes "VpcId")) (λ id is.
     any_then (needed prefix_of_field row path (codes "CidrBlock")) _ HasVpcId (λ block.
-    any_then (each_kept_item associated_block row path (codes "CidrBlockAssociationSet")) _ HasVpcId (λ others. is)))
+    any_then (each_kept_item associated_block row path (codes "CidrBlockAssociationSet")) _ HasVpcId (λ others.
+    any_then (access_at row path) _ HasVpcId (λ access. is))))
 
 abbrev pub HasSubnetId : Subnet → Type 0
 HasSubnetId s = IsId s.id
@@ -37,7 +39,8 @@ pub subnet_read : (row : Data) (path : List ℕ) → IfOk (subnet_of row path) H
 subnet_read row path =
     read_then (id_of row path (codes "SubnetId")) _ IsId HasSubnetId (id_read row path (codes "SubnetId")) (λ id is.
     any_then (id_of row path (codes "VpcId")) _ HasSubnetId
-    (λ vpc. any_then (id_of row path (codes "AvailabilityZone")) _ HasSubnetId (λ zone. is)))
+    (λ vpc. any_then (id_of row path (codes "AvailabilityZone")) _ HasSubnetId (λ zone.
+    any_then (access_at row path) _ HasSubnetId (λ access. is))))
 
 -- ---- interfaces
 

@@ -56,7 +56,7 @@ none_left words n u is = by (nat_le n (length words)) refl is
 
 max_fits : (words : List (List ℕ)) (n m : ℕ) → read_max words n ≡ Ok m → m ≤ 20000
 max_fits words n m is =
-    let t = was_taken (read_as (λ w. number_of w 9999999999) words n) some_max m is in
+    let t = was_taken (read_as (λ w. number_of w 9999999999) words n) (some_max 20000) m is in
     by t.value (nat_le 1 t.value && nat_le t.value 20000) refl t.follows
   where
     by : (k : ℕ) (b : Bool) → (nat_le 1 k && nat_le k 20000) ≡ b → (if b then Ok k else Err refusals.MaxOutOfRange) ≡ Ok m → m ≤ 20000

@@ -1,6 +1,8 @@
 -- The rows of a network that a bundle describes are as their types allow.
-use Rattle.std.proofs.Common.{All, Err, IfOk, List, Ok, Result, [], codes, refl, subst, ◌∷◌, ◌≡◌}
+use Rattle.std.proofs.Common.{All, Err, IfOk, List, Ok, Result, [], codes, map, refl, subst, ℕ, ◌∷◌, ◌≡◌}
+use Rattle.std.proofs.lemmas.List.Elements.{All-map}
 use Rattle.serde_json.specs.Data.{Data}
+use Rattle.bundle.specs.Instances.{idle_by, instances_of, stopped_of}
 use Rattle.bundle.specs.Meaning.{accepted, description_of, judged}
 use Rattle.json_fields.specs.Kept.{each_kept_of, each_of}
 use Rattle.json_fields.specs.declared.fault.FieldFault.{FieldFault}
@@ -12,7 +14,7 @@ use Rattle.read_gateways.specs.Terms.{associations_of, attachment_of, attachment
 use Rattle.read_network.specs.Terms.{appliances_of, interface_of, interfaces_of, network_of, prefix_lists_of, subnet_of, subnets_of, table_of, tables_of, vpc_of, vpcs_of}
 use Rattle.read_gateways.specs.declared.reader.GatewayRows.{GatewayRows}
 use Rattle.read_network.specs.declared.network.NetworkRows.{NetworkRows}
-use Rattle.vpc_laws.specs.Types.{Description, Refusal}
+use Rattle.vpc_laws.specs.Types.{Description, Interface, Refusal}
 use Rattle.vpc_model.specs.Terms.{IsAccepted, first_cause, refusals_of}
 use Rattle.listing_laws.specs.Networks.{BundlesCanBeListed}
 use Rattle.listing_laws.specs.Typed.{HasTypedRows, IsTyped, IsTypedTable, IsTypedTgwTable}
@@ -80,16 +82,25 @@ gateways_read bundle =
     read_then (transit_of bundle) _ _ AreTypedGatewayRows (transit_read bundle)
     (λ transit d. record { igws = a; nats = b; peerings = c; attachments = d.0; tgw_tables = d.1 }))))
 
+-- an interface is as its type allows whatever its instance does
+idle_all : (stopped : List (List ℕ)) (interfaces : List Interface) → All IsTyped interfaces → All IsTyped (map (idle_by stopped) interfaces)
+idle_all stopped interfaces all =
+    All-map IsTyped (idle_by stopped) interfaces (λ k e less. let typed = all k e less in record { id = typed.id; primary = typed.primary; addresses = typed.addresses })
+
+instances_read : (bundle : Data) (interfaces : List Interface) → All IsTyped interfaces → IfOk (instances_of bundle interfaces) (All IsTyped)
+instances_read bundle interfaces all = any_then (stopped_of bundle) _ (All IsTyped) (λ stopped. idle_all stopped interfaces all)
+
 description_read : (bundle : Data) → IfOk (description_of bundle) HasTypedRows
 description_read bundle =
     read_then (network_of bundle) _ AreTypedNetworkRows HasTypedRows (network_read bundle) (λ network a.
     read_then (filters_of bundle) _ _ HasTypedRows (filters_read bundle) (λ filters b.
     read_then (gateways_of bundle) _ AreTypedGatewayRows HasTypedRows (gateways_read bundle) (λ gateways c.
     any_then (appliances_of bundle) _ HasTypedRows (λ appliances.
-    any_then (group_rules_of bundle filters.groups) _ HasTypedRows (λ groups. record {
+    any_then (group_rules_of bundle filters.groups) _ HasTypedRows (λ groups.
+    read_then (instances_of bundle network.interfaces) _ (All IsTyped) HasTypedRows (instances_read bundle network.interfaces a.interfaces) (λ interfaces i. record {
       vpcs = a.vpcs;
       subnets = a.subnets;
-      interfaces = a.interfaces;
+      interfaces = i;
       tables = a.tables;
       acls = b;
       igws = c.igws;
@@ -97,7 +108,7 @@ description_read bundle =
       peerings = c.peerings;
       attachments = c.attachments;
       tgw_tables = c.tgw_tables;
-    })))))
+    }))))))
 
 -- ---- a network
 

@@ -5,10 +5,11 @@ use Rattle.std.proofs.lemmas.List.Elements.{All-append, All-cons, All-head, All-
 use Rattle.block_report.specs.Terms.{phase_text, stop_text, word}
 use Rattle.listing_reader.specs.ReadsBack.{IsOneLine}
 use Rattle.prefix_text.specs.Terms.{Block, addr_text, block_text}
-use Rattle.vpc_laws.specs.Types.{Acl, AclNo, AttNo, Attachment, Component, Description, End, EniNo, Foreign, IgwNo, InternetGateway, NatGateway, NatNo, PeerNo, Peering, Subnet, SubnetNo, Vpc, Phase, Place, Reach, Route, RouteTable, Stop, StopRule, TableNo, TgwRoute, TgwTable, TgwTableNo, VpcNo}
-use Rattle.vpc_model.specs.Terms.{acl_at, attachment_at, component_id, component_of, end_id, foreign_id, igw_at, interface_at, is_id, name_of, name_text, nat_at, no_route, no_tgw_route, peering_at, place_id, reach_text, route_target_id, rule_of, rule_text, stop_id, stop_rule, subnet_at, table_at, target_id, tgw_route_attachment, tgw_table_at, vpc_at}
+use Rattle.vpc_laws.specs.Types.{Access, Acl, AclNo, AttNo, Attachment, Component, Description, End, EniNo, Foreign, IgwNo, InternetGateway, NatGateway, NatNo, PeerNo, Peering, Subnet, SubnetNo, Vpc, Phase, Place, Reach, Route, RouteTable, Stop, StopRule, TableNo, TgwRoute, TgwTable, TgwTableNo, VpcNo}
+use Rattle.vpc_model.specs.Terms.{access_of, access_text, acl_at, attachment_at, component_id, component_of, end_id, foreign_id, igw_at, interface_at, is_id, name_of, name_text, nat_at, no_route, no_tgw_route, peering_at, place_id, reach_text, route_target_id, rule_of, rule_text, stop_id, stop_rule, subnet_at, table_at, target_id, tgw_route_attachment, tgw_table_at, vpc_at}
 use Rattle.vpc_model.specs.declared.outcomes.Phase.TheVariants as phases
 use Rattle.vpc_model.specs.declared.places.Place.TheVariants as places
+use Rattle.vpc_model.specs.declared.rows.Access.TheVariants as modes
 use Rattle.vpc_model.specs.declared.rows.Reach.TheVariants as reaches
 use Rattle.vpc_model.specs.declared.stops.Foreign.TheVariants as foreign
 use Rattle.vpc_model.specs.declared.stops.Component.TheVariants as at
@@ -237,6 +238,7 @@ module _ (d : Description) (typed : HasTypedRows d) where
   component_line (at.Target t k) = target_line t k
   component_line (at.Acl a) = acl_line a
   component_line (at.Vpc v) = vpc_line v
+  component_line (at.Subnet s) = subnet_line s
   component_line (at.InternetGateway g) = igw_line g
   component_line (at.NatGateway n) = nat_line n
   component_line (at.Peering x) = peering_line x
@@ -246,11 +248,17 @@ module _ (d : Description) (typed : HasTypedRows d) where
   component_line (at.Place p) = place_line p
   component_line (at.End e) = end_line e
 
+  access_piece : (a : Access) → IsPiece (access_text a)
+  access_piece modes.Off = id_piece (codes "off") refl
+  access_piece modes.BlockIngress = id_piece (codes "block-ingress") refl
+  access_piece modes.BlockBidirectional = id_piece (codes "block-bidirectional") refl
+
   rule_line : (r : StopRule) → IsPiece (rule_text d r)
   rule_line rules.None = id_piece (codes "-") refl
   rule_line (rules.AclRow n) = decimal_piece n
   rule_line (rules.Route t k) = let lines = table_lines d t typed in let route = lines.routes k in route.reach
   rule_line (rules.TransitRoute t k) = block_piece _
+  rule_line (rules.Access s) = access_piece (access_of d s)
 
   -- ---- stops
 

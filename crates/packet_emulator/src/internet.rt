@@ -1,28 +1,30 @@
 // The internet gateway, and the internet behind it.
-ghost use Rattle.std.specs.Prelude.{◌≡◌, ◌||◌, if◌then◌else◌, IsTrue, Some, unwrap_or};
+ghost use Rattle.std.specs.Prelude.{◌≡◌, ◌||◌, if◌then◌else◌, IsTrue, Some};
 ghost use Rattle.packet_emulator.specs.Comes.{comes};
 ghost use Rattle.vpc_model.specs.Internet.{is_unroutable, owner_of, private_of, public_of};
 ghost use Rattle.vpc_model.specs.Sound.{has_gateway, is_vpc};
-ghost use Rattle.vpc_model.specs.Step.Internet.{go_public, to_owner};
-ghost use Rattle.vpc_model.specs.Step.Words.{go, stop};
-ghost use Rattle.vpc_model.specs.declared.places.EnterBy.TheVariants as through;
-ghost use Rattle.vpc_model.specs.declared.places.Place.TheVariants as places;
+ghost use Rattle.vpc_model.specs.Step.Internet.{go_private, go_public, to_owner};
+ghost use Rattle.vpc_model.specs.Step.Words.{stop};
 ghost use Rattle.vpc_model.specs.declared.stops.Stop.TheVariants as stops;
 
-use crate::next::Next;
+use crate::next::{Next, unless_stopped};
 use edge_gateways::unroutable;
-use fabric::Fabric;
+use fabric::{Fabric, blocked_at};
 use vpc_base::Header;
 use vpc_model::{End, EnterBy, Place, Stop, VpcNo};
 
-/// Out by the internet gateway, with the public address as the source (VPC User Guide, "Internet gateways").
+/// Out by the internet gateway, with the public address as the source, unless public access is blocked (VPC
+/// User Guide, "Internet gateways").
 pub fn igw_out(f: &Fabric, v: VpcNo, h: &Header) -> Next
     requires { IsTrue (has_gateway f.now v) }
     ensures { comes result ≡ go_public f.now v h.now (public_of f.now v h.now.src) }
 {
     let n = f.network();
     match public_at(f, v, h.src) {
-        Some(src) => Next::Go(Place::Internet, Header { src, ..*h }),
+        Some(src) => {
+            let next = Next::Go(Place::Internet, Header { src, ..*h });
+            unless_stopped(blocked_at(f, v, h.src), next)
+        }
         None => match n.gateway_of(v) {
             Some(g) => Next::Stop(Stop::NoPublic(g)),
             None => unreachable!(),
@@ -65,24 +67,29 @@ pub fn internet(f: &Fabric, h: &Header) -> Next
     }
 }
 
-// The private address of a public one in the VPC, or the address itself where it has none there.
-fn private_at(f: &Fabric, v: VpcNo, public: u32) -> u32
+// The private address of a public one in the VPC, if it has one there.
+fn private_at(f: &Fabric, v: VpcNo, public: u32) -> Option<u32>
     requires { IsTrue (is_vpc f.now v) }
-    ensures { result ≡ unwrap_or (private_of f.now v public) public }
+    ensures { result ≡ private_of f.now v public }
 {
     let _ = f.network().description();
     match f.edges().in_addr(public) {
-        Some((owner, own)) => { if owner.0 == v.0 { own } else { public } }
-        None => public,
+        Some((owner, own)) => { if owner.0 == v.0 { Some(own) } else { None } }
+        None => None,
     }
 }
 
-/// In by the internet gateway, with the private address as the destination.
+/// In by the internet gateway, with the private address as the destination, unless public access is blocked.
 pub fn igw_in(f: &Fabric, v: VpcNo, h: &Header) -> Next
     requires { IsTrue (has_gateway f.now v) }
-    ensures { comes result ≡ go (places.Enter v through.Gateway)
-        (record h.now { dst = unwrap_or (private_of f.now v h.now.dst) h.now.dst }) }
+    ensures { comes result ≡ go_private f.now v h.now (private_of f.now v h.now.dst) }
 {
-    let dst = private_at(f, v, h.dst);
-    Next::Go(Place::Enter(v, EnterBy::Gateway), Header { dst, ..*h })
+    let place = Place::Enter(v, EnterBy::Gateway);
+    match private_at(f, v, h.dst) {
+        Some(dst) => {
+            let next = Next::Go(place, Header { dst, ..*h });
+            unless_stopped(blocked_at(f, v, dst), next)
+        }
+        None => Next::Go(place, *h),
+    }
 }

@@ -19,10 +19,11 @@ use Rattle.block_report.specs.Hops.{by_text}
 use Rattle.block_report.specs.Refusals.{refusal_text}
 use Rattle.block_report.specs.Walks.{stop_text}
 use Rattle.block_report.specs.Words.{header_text}
+use Rattle.vpc_model.specs.Lookup.{no_vpc}
 
 -- one row of each kind
 abbrev pub one_of_each : Description
-one_of_each = record (bare (record { id = codes "vpc-1"; blocks = [] } ∷ []) (subnet_row (codes "subnet-a") (codes "vpc-1") (codes "z") ∷ [])) {
+one_of_each = record (bare (record no_vpc { id = codes "vpc-1" } ∷ []) (subnet_row (codes "subnet-a") (codes "vpc-1") (codes "z") ∷ [])) {
   interfaces = host (codes "eni-a") (codes "subnet-a") (v4 10 0 1 10) (codes "sg-a") ∷ [];
   tables = main_table (codes "rtb-1") (codes "vpc-1")
       (route anywhere (targets.Transit (codes "tgw-1")) ∷ route anywhere (targets.Other (codes "vpce-1")) ∷ gone_route (block (v4 10 9 0 0) 16) (targets.Nat (codes "nat-9")) ∷ record (list_route (codes "pl-1") (targets.Nat (codes "nat-9"))) { blackhole = true } ∷ []) ∷ [];

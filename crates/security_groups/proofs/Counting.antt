@@ -9,6 +9,7 @@ use Rattle.security_groups.specs.Terms.{ArePeers, are_joined, counted}
 use Rattle.security_groups.proofs.Numbered.{position-cons}
 use Rattle.security_groups.proofs.PeerPairs.{joined-is}
 use Rattle.security_groups.proofs.Steps.{map-next}
+use Rattle.vpc_model.specs.Lookup.{no_vpc}
 
 -- ---- ids that differ
 
@@ -88,13 +89,12 @@ numbered (Some k) g e = ap (option_map (λ (x : GroupNo). x.0)) e
 pub counted-found : (d : Description) (peers : List ℕ) (v : VpcNo) (id : List ℕ) (g : GroupNo) → IsAccepted d → is_vpc d v ≡ true → ArePeers d peers → group_of_id d id ≡ Some g
     → counted d (vpc_at d v).id id ≡ cond (are_joined peers (vpc_no d (group_at d g).vpc) v) (Some g.0) None
 counted-found d peers v id g accepted lies are found =
-    let none : Vpc = record { id = []; blocks = [] } in
     let vpc = (vpc_at d v).id in
     let theirs = (group_at d g).vpc in
     let place = numbered (position (λ (x : Group). bytes_eq x.id id) d.groups) g found in
     let within = (position-at (λ (x : Group). bytes_eq x.id id) d.groups g.0 no_group place).0 in
     let has_theirs : has_vpc d theirs ≡ true = (accepted_has_all_named d accepted).vpc_of_group (group_at d g) (row-member d.groups g.0 no_group within) in
-    let has_own : has_vpc d vpc ≡ true = member-list_any (λ (x : Vpc). bytes_eq x.id vpc) d.vpcs (vpc_at d v) (row-member d.vpcs v.0 none lies) (bytes_self vpc) in
+    let has_own : has_vpc d vpc ≡ true = member-list_any (λ (x : Vpc). bytes_eq x.id vpc) d.vpcs (vpc_at d v) (row-member d.vpcs v.0 no_vpc lies) (bytes_self vpc) in
     let own : vpc_no d vpc ≡ v = (accepted_numbers_are_own d accepted).vpc v lies in
     let ids = (accepted_has_nothing_twice d accepted).ids in
     let counts : reference_counts d vpc id ≡ (bytes_eq theirs vpc || are_peers d theirs vpc) = only-found (λ (x : Group). bytes_eq x.vpc vpc || are_peers d x.vpc vpc) id d.groups g.0 (((((((ids.1).1).1).1).1).1).0) place in

@@ -10,7 +10,7 @@ use Rattle.vpc_model.specs.declared.rows.Peering.{Peering}
 use Rattle.vpc_model.specs.declared.rows.Vpc.{Vpc}
 use Rattle.vpc_model.specs.Accepted.{IsAccepted}
 use Rattle.vpc_model.specs.Groups.{are_peers, is_pair_of}
-use Rattle.vpc_model.specs.Lookup.{has_vpc, vpc_at, vpc_no}
+use Rattle.vpc_model.specs.Lookup.{has_vpc, no_vpc, vpc_at, vpc_no}
 use Rattle.vpc_laws.proofs.Lengths.{accepted_has_short_lists}
 use Rattle.vpc_laws.proofs.Numbering.{ids_are_found}
 use Rattle.number_tables.specs.Keys.{key_of}
@@ -20,7 +20,6 @@ use Rattle.number_tables.proofs.KeyLemmas.{key_of-same}
 -- two described ids are the same exactly where their numbers are
 pub same_vpc : (d : Description) (a b : List ℕ) → has_vpc d a ≡ true → has_vpc d b ≡ true → bytes_eq a b ≡ ((vpc_no d a).0 == (vpc_no d b).0)
 same_vpc d a b has_a has_b =
-    let none : Vpc = record { id = []; blocks = [] } in
     elim (cases_Bool (bytes_eq a b)) [
       | inl same ↦ same ∙ sym (eq-eqb (vpc_no d a).0 (vpc_no d b).0 (ap (λ (i : List ℕ). (vpc_no d i).0) (same_bytes a b same)))
       | inr other ↦
@@ -30,7 +29,7 @@ same_vpc d a b has_a has_b =
           (λ numbers.
           let is_a : (vpc_at d (vpc_no d a)).id ≡ a = ((ids_are_found d).vpc a has_a).1 in
           let is_b : (vpc_at d (vpc_no d b)).id ≡ b = ((ids_are_found d).vpc b has_b).1 in
-          let is : a ≡ b = sym is_a ∙ ap (λ (n : ℕ). (get_or d.vpcs n none).id) numbers ∙ is_b in
+          let is : a ≡ b = sym is_a ∙ ap (λ (n : ℕ). (get_or d.vpcs n no_vpc).id) numbers ∙ is_b in
           both_ways (bytes_eq a b) other (sym (ap (bytes_eq a) is) ∙ bytes_self a)))
     ]
 

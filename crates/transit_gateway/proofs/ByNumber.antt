@@ -4,12 +4,13 @@ use Rattle.std.specs.List.{position_or_len}
 use Rattle.vpc_base.proofs.Lemmas.{Contains-get_or, find_at, length-map, ltb-false, ltb-true, row-member, slice_get_past}
 use Rattle.number_tables.specs.declared.tables.Entry.{Entry}
 use Rattle.piece_table.specs.Pieces.{PieceLists}
-use Rattle.vpc_laws.proofs.Lemmas.{accepted_has_short_lists, ids_are_found, no_subnet}
+use Rattle.vpc_laws.proofs.Lemmas.{accepted_has_short_lists, ids_are_found}
 use Rattle.vpc_laws.specs.Types.{Association, AttNo, Attachment, Description, Subnet, SubnetNo, TgwTableNo}
 use Rattle.vpc_model.specs.Terms.{IsAccepted, has_subnet, is_attachment, is_subnet, is_tgw_table, subnet_at, subnet_no, tgw_table_of_id}
 use Rattle.reference_check.specs.FirstNumbers.{number_in}
 use Rattle.transit_gateway.specs.Terms.{HasAttachment, HasSubnet, HasTable, IsRouteTable, IsTransitOf, TransitLists, routes_of, table_of_row, zone_entry, zone_no}
 use Rattle.number_tables.specs.Keys.{key_of}
+use Rattle.vpc_model.specs.Lookup.{no_subnet, no_tgw_table}
 
 -- ---- lists that numbers of 32 bits count
 
@@ -60,7 +61,7 @@ row-table d e att rows numbers id number whole is named told are =
 
 -- the pieces at a table's number are the table's
 pub pieces-at : (d : Description) (x : TransitLists) (t : TgwTableNo) (p : PieceLists) → IsTransitOf d x → HasTable x t → p ≡ get_or x.routes t.0 p → IsRouteTable (routes_of d t) p
-pieces-at d x t p of within is = subst (IsRouteTable (routes_of d t)) (sym is) (of.routes.each t.0 (record { id = []; routes = [] }) p (omega (arith, of.routes.all)))
+pieces-at d x t p of within is = subst (IsRouteTable (routes_of d t)) (sym is) (of.routes.each t.0 no_tgw_table p (omega (arith, of.routes.all)))
 
 -- ---- for callers: what is described the index has
 

@@ -2,11 +2,12 @@
 use Rattle.std.proofs.Common.{◌≡◌, ◌∙◌, ◌&&◌, [], ℕ, Bool, List, None, Option, Some, ap, bytes_eq, cond, false, get_or, length, map, option_map, position, refl, true}
 use Rattle.vpc_base.proofs.Lemmas.{and_parts, get_or-map, length-map, ltb-true, position-at, row-member, same_bytes}
 use Rattle.vpc_laws.specs.Types.{AttNo, Attachment, Description, SubnetNo}
-use Rattle.vpc_laws.proofs.Lemmas.{accepted_has_all_named, no_subnet}
+use Rattle.vpc_laws.proofs.Lemmas.{accepted_has_all_named}
 use Rattle.vpc_model.specs.Terms.{IsAccepted, attachment_at, attachment_for, first_subnet, has_vpc, is_attachment, is_subnet, leave_subnet, or_else, subnet_at, subnet_in_zone, vpc_no, zone_subnet}
 use Rattle.transit_gateway.specs.Terms.{AreRouteTables, HasGatewaysOf, HasZonesOf, IsTransitOf, Site, TransitLists, attachment_in, enter_by, enter_zone, entered, entered_in, first_of, inner_subnets, leaving, site_of, table_of_row, zone_subnet_in}
-use Rattle.transit_gateway.proofs.Entering.{no_attachment}
+use Rattle.vpc_model.specs.Lookup.{no_attachment}
 use Rattle.transit_gateway.proofs.InZones.{site-is}
+use Rattle.vpc_model.specs.Lookup.{no_subnet}
 
 -- ---- coming in
 

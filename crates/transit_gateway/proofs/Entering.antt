@@ -5,19 +5,17 @@ use Rattle.vpc_base.proofs.Lemmas.{Contains-get_or, Contains-here, Contains-late
 use Rattle.number_tables.specs.Entries.{value_at}
 use Rattle.number_tables.specs.declared.tables.Entry.{Entry}
 use Rattle.vpc_laws.specs.Types.{AttNo, Attachment, Description, SubnetNo, Vpc}
-use Rattle.vpc_laws.proofs.Lemmas.{IfFound, accepted_has_all_named, accepted_has_short_lists, attachment-found, is_inner, known-accepted, no_subnet, zone-found}
+use Rattle.vpc_laws.proofs.Lemmas.{IfFound, accepted_has_all_named, accepted_has_short_lists, attachment-found, is_inner, known-accepted, zone-found}
 use Rattle.vpc_model.specs.Terms.{IsAccepted, attachment_at, attachment_for, has_vpc, is_attachment, is_subnet, subnet_at, vpc_no, zone_subnet}
 use Rattle.transit_gateway.specs.Terms.{AreGateways, EnterStop, HasGatewaysOf, attachment_entries, enter_by, enter_zone, entered, gateway_no}
 use Rattle.number_tables.specs.Keys.{key_of}
 use Rattle.number_tables.proofs.KeyLemmas.{key_of-same}
 use Rattle.transit_gateway.proofs.KeyLemmas.{list_any-own, number-same}
+use Rattle.vpc_model.specs.Lookup.{no_attachment, no_subnet, no_vpc}
 
 -- the number of an attachment
 abbrev numbered : ℕ → AttNo
 numbered k = record { 0 = k }
-
-abbrev pub no_attachment : Attachment
-no_attachment = record { id = []; gateway = []; vpc = []; subnets = [] }
 
 -- one more attachment
 entry-step : (wanted k key : ℕ) (has test : Bool) (rest : List (Entry AttNo)) (o : Option ℕ) → (has ≡ true → (key == wanted) ≡ test) → (has ≡ false → test ≡ false) → value_at wanted rest ≡ option_map numbered o
@@ -44,7 +42,7 @@ entry-same d a gateway vpc accepted listed inner has there =
     let own = list_any-own (λ (x : Attachment). x.gateway) d.attachments a listed in
     key_of-same (gateway_no d a.gateway) (gateway_no d gateway) (vpc_no d a.vpc).0 (vpc_no d vpc).0 (vpc-below d a.vpc accepted) (vpc-below d vpc accepted)
     ∙ ap (λ b. b && ((vpc_no d a.vpc).0 == (vpc_no d vpc).0)) (number-same (λ (x : Attachment). x.gateway) d.attachments no_attachment a.gateway gateway own there)
-    ∙ ap (λ b. bytes_eq a.gateway gateway && b) (number-same (λ (v : Vpc). v.id) d.vpcs (record { id = []; blocks = [] }) a.vpc vpc inner has)
+    ∙ ap (λ b. bytes_eq a.gateway gateway && b) (number-same (λ (v : Vpc). v.id) d.vpcs no_vpc a.vpc vpc inner has)
 
 -- no described VPC is an undescribed one
 outer-other : (d : Description) (a : Attachment) (gateway vpc : List ℕ) → has_vpc d vpc ≡ true → has_vpc d a.vpc ≡ false → (bytes_eq a.gateway gateway && bytes_eq a.vpc vpc) ≡ false

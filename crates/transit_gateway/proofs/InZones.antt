@@ -5,14 +5,15 @@ use Rattle.vpc_base.proofs.Lemmas.{Contains-get_or, Contains-here, Contains-late
 use Rattle.number_tables.specs.Entries.{value_at}
 use Rattle.number_tables.specs.declared.tables.Entry.{Entry}
 use Rattle.vpc_laws.specs.Types.{Attachment, Description, Subnet, SubnetNo}
-use Rattle.vpc_laws.proofs.Lemmas.{accepted_has_all_named, accepted_has_short_lists, ids_are_found, no_subnet}
+use Rattle.vpc_laws.proofs.Lemmas.{accepted_has_all_named, accepted_has_short_lists, ids_are_found}
 use Rattle.vpc_model.specs.Terms.{IsAccepted, attachment_at, has_subnet, has_vpc, is_in_zone, is_subnet, or_else, subnet_at, subnet_in_zone, subnet_no}
 use Rattle.vpc_model.proofs.Choice.{or_else-none}
 use Rattle.number_tables.specs.Keys.{key_of}
 use Rattle.transit_gateway.specs.Terms.{HasZonesOf, Site, first_of, inner_subnets, site_at, site_of, zone_entries, zone_entry, zone_no}
-use Rattle.transit_gateway.proofs.Entering.{no_attachment}
+use Rattle.vpc_model.specs.Lookup.{no_attachment}
 use Rattle.number_tables.proofs.KeyLemmas.{key_of-other, key_of-same}
 use Rattle.transit_gateway.proofs.KeyLemmas.{list_any-own, number-same, value_at-append}
+use Rattle.vpc_model.specs.Lookup.{no_subnet}
 
 zone-below : (d : Description) (zone : List ℕ) → IsAccepted d → zone_no d zone < 2 ^ 32
 zone-below d zone accepted =

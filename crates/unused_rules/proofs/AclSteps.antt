@@ -13,6 +13,7 @@ use Rattle.std.specs.Prelude.{option_and_then}
 use Rattle.unused_rules.proofs.Alike.{Alike, first-alike, get_or-alike}
 use Rattle.unused_rules.proofs.NestedSteps.{IsSameStep}
 use Rattle.unused_rules.proofs.SameSteps.{LetPassTheSame, same-into, same-out}
+use Rattle.vpc_model.specs.Lookup.{no_acl}
 
 -- of the same subnets, and with the same verdict on a header
 pub record JudgeTheSame (h : Header) (a b : Acl) : Type 0 where
@@ -41,7 +42,7 @@ module _ (d : Description) (acls : List Acl) (h : Header) (alike : Alike (JudgeT
 
   judged : (a : AclNo) → JudgeTheSame h (acl_at d a) (acl_at e a)
   judged a =
-      let none : Acl = record { id = []; subnets = []; rows = [] } in
+      let none : Acl = no_acl in
       get_or-alike (JudgeTheSame h) none (judges_the_same h none) d.acls acls a.0 alike
 
   leaving-same : (s : SubnetNo) → leaving e s h ≡ leaving d s h

@@ -6,7 +6,7 @@ use Rattle.std.proofs.lemmas.Bool.{and_from, and_parts, eqb-true, false≢true}
 use Rattle.vpc_base.proofs.Bytes.{bytes_self, same_bytes}
 use Rattle.vpc_model.proofs.Names.{name_text_tells}
 use Rattle.vpc_model.proofs.Parts.{same_parts}
-use Rattle.vpc_laws.proofs.Same.{AttNo-same, EniNo-same, NatNo-same, PeerNo-same, VpcNo-same, ends_are_told_apart, itself, same_place-refl, same_place-true}
+use Rattle.vpc_laws.proofs.Same.{AttNo-same, EniNo-same, NatNo-same, PeerNo-same, SubnetNo-same, VpcNo-same, ends_are_told_apart, itself, same_place-refl, same_place-true}
 use Rattle.vpc_laws.specs.Types.{AclNo, Component, Foreign, IgwNo, Phase, Stop, StopRule, TableNo, TgwTableNo}
 use Rattle.vpc_model.specs.declared.outcomes.Phase.TheVariants as phases
 use Rattle.vpc_model.specs.declared.stops.Foreign.TheVariants as foreign
@@ -62,6 +62,7 @@ same_component-true (at.Table x) (at.Table y) e = ap at.Table (TableNo-same x y 
 same_component-true (at.Target x j) (at.Target y k) e = placed at.Target (λ t. t.0) TableNo-same x y j k e
 same_component-true (at.Acl x) (at.Acl y) e = ap at.Acl (AclNo-same x y e)
 same_component-true (at.Vpc x) (at.Vpc y) e = ap at.Vpc (VpcNo-same x y e)
+same_component-true (at.Subnet x) (at.Subnet y) e = ap at.Subnet (SubnetNo-same x y e)
 same_component-true (at.InternetGateway x) (at.InternetGateway y) e = ap at.InternetGateway (IgwNo-same x y e)
 same_component-true (at.NatGateway x) (at.NatGateway y) e = ap at.NatGateway (NatNo-same x y e)
 same_component-true (at.Peering x) (at.Peering y) e = ap at.Peering (PeerNo-same x y e)
@@ -78,6 +79,7 @@ same_component-refl (at.Table x) = itself x.0
 same_component-refl (at.Target x j) = both x.0 j
 same_component-refl (at.Acl x) = itself x.0
 same_component-refl (at.Vpc x) = itself x.0
+same_component-refl (at.Subnet x) = itself x.0
 same_component-refl (at.InternetGateway x) = itself x.0
 same_component-refl (at.NatGateway x) = itself x.0
 same_component-refl (at.Peering x) = itself x.0
@@ -92,6 +94,7 @@ same_rule-true rules.None rules.None e = refl
 same_rule-true (rules.AclRow j) (rules.AclRow k) e = ap rules.AclRow (eqb-true j k e)
 same_rule-true (rules.Route x j) (rules.Route y k) e = placed rules.Route (λ t. t.0) TableNo-same x y j k e
 same_rule-true (rules.TransitRoute x j) (rules.TransitRoute y k) e = placed rules.TransitRoute (λ t. t.0) TgwTableNo-same x y j k e
+same_rule-true (rules.Access x) (rules.Access y) e = ap rules.Access (SubnetNo-same x y e)
 same_rule-true _ _ e = absurd (false≢true e)
 
 same_rule-refl : (a : StopRule) → same_rule a a ≡ true
@@ -99,6 +102,7 @@ same_rule-refl rules.None = refl
 same_rule-refl (rules.AclRow j) = itself j
 same_rule-refl (rules.Route x j) = both x.0 j
 same_rule-refl (rules.TransitRoute x j) = both x.0 j
+same_rule-refl (rules.Access x) = itself x.0
 
 same_stop-true : (a b : Stop) → same_stop a b ≡ true → a ≡ b
 same_stop-true a b e =

@@ -8,8 +8,9 @@ use Rattle.vpc_laws.proofs.Sounding.{steps_are_sound}
 use Rattle.vpc_laws.proofs.Walking.{moment}
 use Rattle.vpc_laws.specs.Sound.{LeadsWell}
 use Rattle.vpc_laws.specs.Step.{SendsSame}
-use Rattle.vpc_laws.specs.Types.{Description, Header, Label, NatGateway, NatNo, Place, VpcNo}
-use Rattle.vpc_model.specs.Terms.{Appliances, Connection, IsAccepted, Moment, Next, Translation, arrive, go, go_public, is_live, is_nat, is_sound, nat_at, public_of, step_of, stop}
+use Rattle.vpc_laws.specs.Types.{Description, Header, Label, NatGateway, NatNo, Place, Stop, VpcNo}
+use Rattle.vpc_model.specs.Terms.{Appliances, Connection, IsAccepted, Moment, Next, Translation, arrive, blocked_at, go, go_private, go_public, is_live, is_nat, is_sound, nat_at, private_of, public_of, step_of, stop, unless_stopped}
+use Rattle.vpc_model.specs.declared.places.EnterBy.TheVariants as through
 use Rattle.vpc_model.specs.declared.places.Place.TheVariants as places
 use Rattle.unused_rules.proofs.SameWalks.{IfGoesTo}
 
@@ -35,9 +36,17 @@ same-ports h (go p k) same = record { proto = ap (λ (j : Header). j.proto) same
 same-ports h (arrive end) same = tt
 same-ports h (stop s) same = tt
 
+unless-ports : (h k : Header) (s : Option Stop) (p : Place) → HasPortsOf h k → KeepsPorts h (unless_stopped s (go p k))
+unless-ports h k None p kept = kept
+unless-ports h k (Some s) p kept = tt
+
 public-ports : (d : Description) (v : VpcNo) (h : Header) (a : Option ℕ) → KeepsPorts h (go_public d v h a)
 public-ports d v h None = tt
-public-ports d v h (Some a) = record { proto = refl; p = refl; q = refl }
+public-ports d v h (Some a) = unless-ports h (record h { src = a }) (blocked_at d v h.src) places.Internet (record { proto = refl; p = refl; q = refl })
+
+private-ports : (d : Description) (v : VpcNo) (h : Header) (own : Option ℕ) → KeepsPorts h (go_private d v h own)
+private-ports d v h None = has_its_own h
+private-ports d v h (Some own) = unless-ports h (record h { dst = own }) (blocked_at d v own) (places.Enter v through.Gateway) (record { proto = refl; p = refl; q = refl })
 
 none-below : (n : ℕ) → nat_lt n 0 ≡ false
 none-below n = grind (arith, nat_tests)
@@ -50,7 +59,7 @@ ports-kept : (d : Description) (appliances : Appliances) (label : Label) → d.n
     (nats : List Translation) → is_sound d p ≡ true
     → let s = step_of d appliances label (moment p k conns nats) in KeepsPorts k s.next
 ports-kept d appliances label none (places.IgwOut v) k conns nats sound = public-ports d v k (public_of d v k.src)
-ports-kept d appliances label none (places.IgwIn v) k conns nats sound = record { proto = refl; p = refl; q = refl }
+ports-kept d appliances label none (places.IgwIn v) k conns nats sound = private-ports d v k (private_of d v k.dst)
 ports-kept d appliances label none (places.NatOut n) k conns nats sound = let row = nat_at d n in absurd (no-nat d n (is_live row.life) none sound)
 ports-kept d appliances label none (places.NatIn n) k conns nats sound = let row = nat_at d n in absurd (no-nat d n (is_live row.life) none sound)
 ports-kept d appliances label none p k conns nats sound = same-ports k _ (header_stays d appliances label (moment p k conns nats) refl)

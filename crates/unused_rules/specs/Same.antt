@@ -25,6 +25,7 @@ same_component (at.Table x) (at.Table y) = x.0 == y.0
 same_component (at.Target x j) (at.Target y k) = (x.0 == y.0) && (j == k)
 same_component (at.Acl x) (at.Acl y) = x.0 == y.0
 same_component (at.Vpc x) (at.Vpc y) = x.0 == y.0
+same_component (at.Subnet x) (at.Subnet y) = x.0 == y.0
 same_component (at.InternetGateway x) (at.InternetGateway y) = x.0 == y.0
 same_component (at.NatGateway x) (at.NatGateway y) = x.0 == y.0
 same_component (at.Peering x) (at.Peering y) = x.0 == y.0
@@ -40,6 +41,7 @@ same_rule rules.None rules.None = true
 same_rule (rules.AclRow j) (rules.AclRow k) = j == k
 same_rule (rules.Route x j) (rules.Route y k) = (x.0 == y.0) && (j == k)
 same_rule (rules.TransitRoute x j) (rules.TransitRoute y k) = (x.0 == y.0) && (j == k)
+same_rule (rules.Access x) (rules.Access y) = x.0 == y.0
 same_rule _ _ = false
 
 -- of one name, by one component and one rule of it

@@ -1,10 +1,11 @@
 -- What decides at a place explains the step there.
-use Rattle.std.proofs.Common.{◌≡◌, ◌⊎◌, ◌&&◌, ◌||◌, ◌==◌, ◌∷◌, [], Bool, List, None, Option, Some, ap, cond, false, inl, inr, is_none, is_some, not, refl, slice_index_or, subst, sym, true, ℕ}
+use Rattle.std.proofs.Common.{◌≡◌, ◌⊎◌, ◌&&◌, ◌||◌, ◌==◌, ◌∷◌, [], Bool, List, None, Option, Some, ap, cond, false, inl, inr, is_none, is_some, not, option_and_then, refl, slice_index_or, subst, sym, true, ℕ}
 use Rattle.std.proofs.lemmas.Bool.{cond_both}
 use Rattle.vpc_base.specs.declared.headers.Dir.TheVariants.{Inward, Outward}
 use Rattle.vpc_base.specs.declared.headers.Label.TheVariants.{Answer, Opening}
 use Rattle.vpc_model.specs.declared.outcomes.By.TheVariants as bys
 use Rattle.vpc_model.specs.declared.places.Place.TheVariants.{OutOf, Router, Enter, Into, IgwOut, Internet, IgwIn, NatOut, NatIn, Peer, Tgw, TgwLeave}
+use Rattle.vpc_model.specs.declared.places.EnterBy.TheVariants as through
 use Rattle.vpc_model.specs.declared.rows.NatLife.TheVariants as lives
 use Rattle.vpc_model.specs.declared.rows.Target.TheVariants as targets
 use Rattle.vpc_model.specs.declared.stops.Foreign.TheVariants as foreign
@@ -13,7 +14,7 @@ use Rattle.vpc_model.specs.declared.places.End.TheVariants.{Interface}
 use Rattle.vpc_laws.proofs.Flow.{taken_by}
 use Rattle.vpc_laws.specs.Types.{AttNo, Box5, By, Description, EniNo, Header, IgwNo, Label, NatLife, NatNo, PeerNo, Place, Stop, SubnetNo, TableNo, Target, TgwTableNo, VpcNo}
 use Rattle.vpc_laws.specs.Walk.{hop_of}
-use Rattle.vpc_model.specs.Terms.{Appliances, Connection, Moment, Next, Step, Translation, acl_of, arrive, attachment_for, attachment_of_id, boxes_at, by_attachment, by_pair, chosen_route, chosen_tgw_route, crossing, deliver, deliver_by, eni_no, enter_host, entering, forwarded, from_inward, gateway_of, go, go_public, has_address, has_block, has_vpc, host_of, igw_no, in_passing, interface_at, inward, is_attached, is_full, is_gateway, is_translatable, is_unroutable, leave_by, leave_subnet, leaving, nat_at, nat_no, nat_of, no_route, no_tgw_route, or_else, other_side, out_passing, over_peering, owner_of, passes, passing_of, peer_no, peering_at, public_of, step_at, step_internet, step_into, step_nat_in, step_nat_out, step_of, step_out, stop, subnet_no, subnet_of, table_at, table_of, table_of_attachment, tgw_table_at, to_attachment, to_owner, translate, translation_of, unless_stopped, vpc_at, vpc_no, vpc_of_subnet, zone_subnet}
+use Rattle.vpc_model.specs.Terms.{Appliances, Connection, Moment, Next, Step, Translation, acl_of, arrive, attachment_for, attachment_of_id, blocked, boxes_at, by_attachment, by_pair, chosen_route, chosen_tgw_route, crossing, deliver, deliver_by, eni_no, enter_host, entering, forwarded, from_inward, gateway_of, go, go_private, go_public, has_address, has_block, has_vpc, host_of, igw_no, in_passing, interface_at, inward, is_attached, is_blocked, is_full, is_gateway, is_translatable, is_unroutable, leave_by, leave_subnet, leaving, nat_at, nat_no, nat_of, no_route, no_tgw_route, or_else, other_side, out_passing, over_peering, owner_of, passes, passing_of, peer_no, peering_at, private_of, public_of, step_at, step_internet, step_into, step_nat_in, step_nat_out, step_of, step_out, stop, subnet_no, subnet_of, table_at, table_of, table_of_attachment, tgw_table_at, to_attachment, to_owner, translate, translation_of, unless_stopped, vpc_at, vpc_no, vpc_of_subnet, zone_subnet}
 use Rattle.vpc_model.specs.Step.Crossing.{refused_in, refused_out}
 use Rattle.vpc_model.specs.Step.Router as model
 use Rattle.vpc_model.specs.Step.Transit as transits
@@ -87,9 +88,18 @@ step_nat_in-quiet : (d : Description) (label : Label) (n : NatNo) (m : Moment) �
 step_nat_in-quiet d Opening n m = refl
 step_nat_in-quiet d Answer n m = from_inward-quiet d n (inward m.nats n m.header)
 
+unless_blocked-quiet : (d : Description) (i : Option EniNo) (p : Place) (h : Header) → Quiet (unless_stopped (option_and_then (blocked d) i) (go p h))
+unless_blocked-quiet d None p h = refl
+unless_blocked-quiet d (Some i) p h =
+    cond_both (is_blocked d i) (Some (stops.BlockPublicAccess (subnet_of d i))) None (λ (s : Option Stop). Quiet (unless_stopped s (go p h))) (λ _. refl) (λ _. refl)
+
 go_public-quiet : (d : Description) (v : VpcNo) (h : Header) (a : Option ℕ) → Quiet (go_public d v h a)
 go_public-quiet d v h None = refl
-go_public-quiet d v h (Some a) = refl
+go_public-quiet d v h (Some a) = unless_blocked-quiet d (host_of d v h.src) Internet (record h { src = a })
+
+go_private-quiet : (d : Description) (v : VpcNo) (h : Header) (own : Option ℕ) → Quiet (go_private d v h own)
+go_private-quiet d v h None = refl
+go_private-quiet d v h (Some own) = unless_blocked-quiet d (host_of d v own) (Enter v through.Gateway) (record h { dst = own })
 
 to_owner-quiet : (d : Description) (h : Header) (v : Option VpcNo) → Quiet (to_owner d h v)
 to_owner-quiet d h None = refl
@@ -264,7 +274,7 @@ step_at-explains d appliances label (Enter v by) m = enter_host-explains d v m.h
 step_at-explains d appliances label (Into i) m = groups-explain d (step_into d appliances label i m) (step_into-quiet d appliances label i m)
 step_at-explains d appliances label (IgwOut v) m = go_public-quiet d v m.header (public_of d v m.header.src)
 step_at-explains d appliances label Internet m = step_internet-quiet d m
-step_at-explains d appliances label (IgwIn v) m = refl
+step_at-explains d appliances label (IgwIn v) m = go_private-quiet d v m.header (private_of d v m.header.dst)
 step_at-explains d appliances label (NatOut n) m = step_nat_out-quiet d label n m
 step_at-explains d appliances label (NatIn n) m = step_nat_in-quiet d label n m
 step_at-explains d appliances label (Peer x v) m = let row = peering_at d x in by_pair-quiet d x v m.header row.pair
