@@ -3,6 +3,7 @@ pub mod Hops
 pub mod Walks
 pub mod Refusals
 pub mod Reports
+pub mod Trees
 pub mod Queries
 pub mod Replays
 pub mod Rules

@@ -10,6 +10,7 @@ mod refusals;
 mod replays;
 mod reports;
 mod stops;
+mod trees;
 mod walks;
 mod words;
 
@@ -21,7 +22,8 @@ pub use queries::put_query_refusal;
 pub use refusals::put_cause;
 pub use replays::put_replay;
 pub use reports::{print_more, print_report};
-pub use stops::{RuleWord, rule_of, stop_id, stop_text};
+pub use stops::{RuleWord, access_text, rule_of, stop_id, stop_text};
+pub use trees::print_tree;
 pub use walks::{
     phase_text, put_arrived, put_stop, put_stop_words, put_stopped, put_told, put_walk,
 };

@@ -25,6 +25,7 @@ pub fn name_text(name: StopName) -> &'static [u8]
         StopName::GatewayDetached => b"GatewayDetached",
         StopName::NoPublic => b"NoPublic",
         StopName::PrivateAddress => b"PrivateAddress",
+        StopName::BlockPublicAccess => b"BlockPublicAccess",
         StopName::NatNotAvailable => b"NatNotAvailable",
         StopName::NatAnswer => b"NatAnswer",
         StopName::NatProtocol => b"NatProtocol",
@@ -47,7 +48,7 @@ pub fn name_text(name: StopName) -> &'static [u8]
     }
 }
 
-const NAMES: [StopName; 35] = [
+const NAMES: [StopName; 36] = [
     StopName::Detached,
     StopName::SourceCheck,
     StopName::DestCheck,
@@ -64,6 +65,7 @@ const NAMES: [StopName; 35] = [
     StopName::GatewayDetached,
     StopName::NoPublic,
     StopName::PrivateAddress,
+    StopName::BlockPublicAccess,
     StopName::NatNotAvailable,
     StopName::NatAnswer,
     StopName::NatProtocol,

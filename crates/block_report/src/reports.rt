@@ -19,7 +19,7 @@ use vpc_model::{End, Phase, Stop};
 
 // ---- rows
 
-fn put_box_line(out: &mut Vec<u8>, b: &Box5) -> Result<(), NoMemory>
+pub fn put_box_line(out: &mut Vec<u8>, b: &Box5) -> Result<(), NoMemory>
     ensures { OnOk result (out.new.items ≡ out.old.items ++ box_line b.now) }
 {
     put(out, b"box")?;
@@ -73,7 +73,7 @@ fn put_rows(out: &mut Vec<u8>, n: &Network, rows: &[Row<(Phase, Stop)>]) -> Resu
 
 // ---- reports
 
-fn put_ends_line(out: &mut Vec<u8>, start: &[u8], goal: &[u8]) -> Result<(), NoMemory>
+pub fn put_ends_line(out: &mut Vec<u8>, start: &[u8], goal: &[u8]) -> Result<(), NoMemory>
     ensures { OnOk result (out.new.items ≡ out.old.items ++ ends_line start.now goal.now) }
 {
     put(out, b"query from")?;

@@ -2,6 +2,7 @@
 ghost use Rattle.std.specs.Prelude.{◌≡◌, ◌++◌, IfOk, IsTrue, OnOk, decimal, slice_index_or};
 ghost use Rattle.block_report.specs.Rules.{rule_word};
 ghost use Rattle.prefix_text.specs.Block.{block_text};
+ghost use Rattle.vpc_model.specs.Access.{access_text};
 ghost use Rattle.vpc_model.specs.Id.{is_id};
 ghost use Rattle.vpc_model.specs.Lookup.{table_at, tgw_table_at};
 ghost use Rattle.vpc_model.specs.Sound.{has_component, has_foreign_text, has_stop_rule, has_text, is_route, is_tgw_route};
@@ -17,7 +18,7 @@ use reference_check::Network;
 use std::alloc::Global;
 use vpc_base::NoMemory;
 use vpc_model::{
-    Component, Foreign, Id, Phase, Reach, Route, Stop, StopRule, StopText, TableNo, Target,
+    Access, Component, Foreign, Id, Phase, Reach, Route, Stop, StopRule, StopText, TableNo, Target,
     TgwRoute, TgwTableNo,
 };
 
@@ -92,6 +93,7 @@ fn component_id<'a>(n: &'a Network, component: Component) -> &'a [u8]
         Component::Target(t, k) => target_id(&route_at(n, t, k).target),
         Component::Acl(a) => n.acl_at(a).id.bytes(),
         Component::Vpc(v) => n.vpc_at(v).id.bytes(),
+        Component::Subnet(s) => n.subnet_at(s).id.bytes(),
         Component::InternetGateway(g) => n.igw_at(g).id.bytes(),
         Component::NatGateway(g) => n.nat_at(g).id.bytes(),
         Component::Peering(x) => n.peering_at(x).id.bytes(),
@@ -114,12 +116,14 @@ pub fn stop_id<'a>(n: &'a Network, s: &Stop) -> &'a [u8]
 
 // ---- the rule
 
-/// The rule that stops a packet, as it is printed: the number of an ACL's row, the block or the prefix list of a route, or none.
+/// The rule that stops a packet, as it is printed: the number of an ACL's row, the block or the prefix list of a
+/// route, what Block Public Access lets pass, or none.
 #[derive(Clone, Copy)]
 pub enum RuleWord<'a> {
     Row(u16),
     Block(&'a Prefix),
     List(&'a Id),
+    Access(Access),
     None,
 }
 
@@ -141,6 +145,7 @@ fn word_of_rule<'a>(n: &'a Network, rule: StopRule) -> RuleWord<'a>
         StopRule::AclRow(number) => RuleWord::Row(number),
         StopRule::Route(t, k) => word_of_reach(&route_at(n, t, k).reach),
         StopRule::TransitRoute(t, k) => RuleWord::Block(&tgw_route_at(n, t, k).block),
+        StopRule::Access(s) => RuleWord::Access(n.access_in(n.subnet_at(s))),
     }
 }
 
@@ -174,6 +179,18 @@ fn put_id(out: &mut Vec<u8>, id: &Id) -> Result<(), NoMemory>
     put(out, id.bytes())
 }
 
+/// A mode of Block Public Access, as it is printed.
+pub fn access_text(access: Access) -> &'static [u8]
+    ensures text { result.now ≡ access_text access }
+    ensures visible { IsTrue (is_id result.now) }
+{
+    match access {
+        Access::Off => b"off",
+        Access::BlockIngress => b"block-ingress",
+        Access::BlockBidirectional => b"block-bidirectional",
+    }
+}
+
 fn put_rule(out: &mut Vec<u8>, rule: RuleWord) -> Result<(), NoMemory>
     ensures text { OnOk result (out.new.items ≡ out.old.items ++ rule_word rule.entry) }
     ensures visible { IsTrue (is_id (rule_word rule.entry)) }
@@ -182,6 +199,7 @@ fn put_rule(out: &mut Vec<u8>, rule: RuleWord) -> Result<(), NoMemory>
         RuleWord::Row(number) => put_row_number(out, number),
         RuleWord::Block(block) => put_block(out, block),
         RuleWord::List(id) => put_id(out, id),
+        RuleWord::Access(access) => put(out, access_text(access)),
         RuleWord::None => put(out, b"-"),
     }
 }

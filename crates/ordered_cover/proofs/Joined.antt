@@ -21,7 +21,7 @@ record IsBoth (first other both : Box5) : Type 0 where
   aligned : (cuts : CutLists) (sides : Box5) → IsAligned cuts first sides → IsAligned cuts other sides → IsAligned cuts both sides
 
 -- the same side, beside sides that add up
-one_both : (x x2 y y1 y2 : Bool) → x ≡ x2 → one_if y ≡ one_if y1 + one_if y2 → one_if (x && y) ≡ one_if (x && y1) + one_if (x2 && y2)
+pub one_both : (x x2 y y1 y2 : Bool) → x ≡ x2 → one_if y ≡ one_if y1 + one_if y2 → one_if (x && y) ≡ one_if (x && y1) + one_if (x2 && y2)
 one_both x x2 y y1 y2 same e = subst (λ v. one_if (x && y) ≡ one_if (x && y1) + one_if (v && y2)) same (by x)
   where
     by : (b : Bool) → one_if (b && y) ≡ one_if (b && y1) + one_if (b && y2)
@@ -29,7 +29,7 @@ one_both x x2 y y1 y2 same e = subst (λ v. one_if (x && y) ≡ one_if (x && y1)
     by false = refl
 
 -- sides that add up, beside the same side
-both_one : (x x1 x2 y y2 : Bool) → one_if x ≡ one_if x1 + one_if x2 → y ≡ y2 → one_if (x && y) ≡ one_if (x1 && y) + one_if (x2 && y2)
+pub both_one : (x x1 x2 y y2 : Bool) → one_if x ≡ one_if x1 + one_if x2 → y ≡ y2 → one_if (x && y) ≡ one_if (x1 && y) + one_if (x2 && y2)
 both_one x x1 x2 y y2 e same = subst (λ v. one_if (x && y) ≡ one_if (x1 && y) + one_if (x2 && v)) same (by y)
   where
     and_true : (b : Bool) → one_if (b && true) ≡ one_if b
@@ -44,7 +44,7 @@ both_one x x1 x2 y y2 e same = subst (λ v. one_if (x && y) ≡ one_if (x1 && y)
     by true = let k = and_true x in let l = and_true x1 in let m = and_true x2 in omega (arith, e, k, l, m)
     by false = let k = and_false x in let l = and_false x1 in let m = and_false x2 in omega (arith, k, l, m)
 
-one_range : (first other : ℕ × ℕ) (x : ℕ) → first.0 ≤ first.1 → other.0 ≤ other.1 → first.1 + 1 ≡ other.0
+pub one_range : (first other : ℕ × ℕ) (x : ℕ) → first.0 ≤ first.1 → other.0 ≤ other.1 → first.1 + 1 ≡ other.0
     → one_if (in_range (first.0, other.1) x) ≡ one_if (in_range first x) + one_if (in_range other x)
 one_range first other x l r n = grind (arith, nat_tests, common_steps)
 

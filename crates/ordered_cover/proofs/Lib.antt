@@ -4,5 +4,12 @@ pub mod Rests
 pub mod Cells
 pub mod Splits
 pub mod Joined
+pub mod LeftBeside
+pub mod Standing
+pub mod Growth
+pub mod Widening
+pub mod Leaves
+pub mod Walks
+pub mod Found
 pub mod Passing
 pub mod OpenRanges

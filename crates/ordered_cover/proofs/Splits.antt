@@ -1,6 +1,6 @@
 -- Open boxes and rows that split the sides.
-use Rattle.std.proofs.Common.{All, Bool, IsPermutation, List, None, Option, Some, [], ap, arith, false, get_or, is_some, length, refl, subst, sum_by, sym, true, ℕ, ◌++◌, ◌+◌, ◌<◌, ◌∙◌, ◌∷◌, ◌≡◌, ◌≢◌, ◌≤◌}
-use Rattle.vpc_base.proofs.Lemmas.{All-append, All-cons, All-head, All-nil, All-permutation, All-push, All-tail, All-weaker, Any-from_list_any, all_pairs_push, some_if, some_not_none, sum_by-IsPermutation, sum_by-append, sum_by-cons}
+use Rattle.std.proofs.Common.{All, Bool, Contains, IsPermutation, List, None, Option, Some, [], ap, arith, false, get_or, is_some, length, refl, subst, sum_by, sym, true, ℕ, ◌++◌, ◌+◌, ◌<◌, ◌∙◌, ◌∷◌, ◌≡◌, ◌≢◌, ◌≤◌}
+use Rattle.vpc_base.proofs.Lemmas.{All-append, All-cons, All-contains, All-head, All-nil, All-permutation, All-push, All-tail, All-weaker, Any-from_list_any, all_pairs_push, some_if, some_not_none, sum_by-IsPermutation, sum_by-append, sum_by-cons}
 use Rattle.vpc_base.specs.Terms.{AreAmong, CutLists, IsBefore}
 use Rattle.vpc_base.specs.declared.headers.Header.{Header}
 use Rattle.header_boxes.specs.Terms.{AreDisjoint, HasWord, IsAligned, IsFirstThrough, IsValid, IsWithin, NoneThrough, cells_of, holds, is_covered, low_of, volume_of}
@@ -8,6 +8,10 @@ use Rattle.header_boxes.specs.declared.boxes.Box5.{Box5}
 use Rattle.header_boxes.proofs.Lemmas.{aligned_grows, aligned_through, aligned_to_itself, holds_low, holds_whole, low_is_least, valid_if_within, volume_is_positive, within_itself, within_trans}
 use Rattle.ordered_cover.specs.Terms.{AreJoined, AreSplit, AreSplitBySome, GoesOn, GoesOnEitherWay, HoldAllTold, IsAsked, IsBlocked, IsLeast, IsMore, LeaveSomeOut, every, holders, one_if, row_holders, told}
 use Rattle.header_boxes.specs.declared.rows.Row.{Row}
+use Rattle.ordered_cover.specs.Grown.{IsGrownTree}
+use Rattle.ordered_cover.specs.Growing.{IsTreeOf}
+use Rattle.ordered_cover.specs.Trees.{leaves_of}
+use Rattle.ordered_cover.specs.declared.trees.Node.{Node}
 use Rattle.ordered_cover.proofs.Lists.{one_at, any_from_one, none_from_zero, zero_from_all, zero_for, at_most_one}
 use Rattle.ordered_cover.proofs.Order.{before_trans, before_upto, before_other}
 use Rattle.ordered_cover.proofs.Cells.{more_cells}
@@ -98,7 +102,7 @@ module _ {W : Type 0} {meaning : Header → Option W} {cuts : CutLists} {sought 
     part_within = within_trans part a.whole sides a.within whole_within
 
     -- no other open box begins where the first begins
-    begins_elsewhere : All (λ b. low_of a.whole ≢ low_of b) a.others
+    pub begins_elsewhere : All (λ b. low_of a.whole ≢ low_of b) a.others
     begins_elsewhere k d lt same =
         let b = get_or a.others k d in
         let within : IsWithin b sides = of_others (λ b. IsWithin b sides) a s.within k d lt in
@@ -283,6 +287,18 @@ module _ {W : Type 0} {meaning : Header → Option W} {cuts : CutLists} {sides :
 
   pub some_none_through : {open_boxes : List Box5} → open_boxes ≡ [] → AreSplitBySome meaning cuts sides open_boxes → NoneThrough meaning sides
   some_none_through {open_boxes = open_boxes} none s h inside = clear_in_rows s.rows s.split.are_true.word h (covered_at_end open_boxes s.rows none s.split h inside refl)
+
+-- ---- a search whose rows are the leaves of a tree
+
+module _ {W : Type 0} {meaning : Header → Option W} {cuts : CutLists} {sides : Box5} where
+  pub grown_from_tree : {rows : List (Row W)} {nodes : List (Node W)} (max : ℕ) → AreSplit meaning cuts every sides [] rows → IsTreeOf sides rows nodes → length rows ≤ max
+      → IsGrownTree meaning cuts sides max nodes
+  grown_from_tree {rows = rows} {nodes = nodes} max s t few = record {
+    tree = t.tree;
+    few = let c = t.count in omega (arith, c, few);
+    word = All-weaker (Contains rows) (HasWord meaning) (λ r among. All-contains (HasWord meaning) rows r s.are_true.word among) (leaves_of nodes sides) t.kept;
+    aligned = All-weaker (Contains rows) (λ r. IsAligned cuts r.part sides) (λ r among. All-contains (λ x. IsAligned cuts x.part sides) rows r s.ordered.aligned among) (leaves_of nodes sides) t.kept;
+  }
 
 -- ---- a search that keeps rows
 module _ {W : Type 0} {meaning : Header → Option W} {cuts : CutLists} {sides : Box5} where

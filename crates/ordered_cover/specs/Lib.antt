@@ -1,9 +1,15 @@
+pub mod Trees
+pub mod Beside
 pub mod Cover
 pub mod Gathered
+pub mod Grown
 pub mod Corner
 pub mod Open
+pub mod Growing
+pub mod TreeLaws
 pub mod Joined
 pub mod Kept
+pub mod Walk
 pub mod Ports
 pub mod Passed
 pub mod Terms

@@ -9,6 +9,7 @@ use Rattle.header_boxes.specs.Cells.{IsAligned}
 use Rattle.header_boxes.specs.declared.boxes.Box5.{Box5}
 use Rattle.header_boxes.specs.Rows.{AreTrueRows, AreOrdered}
 use Rattle.header_boxes.specs.declared.rows.Row.{Row}
+use Rattle.ordered_cover.specs.Beside.{beside}
 
 -- 1 for true, 0 for false
 abbrev pub one_if : Bool → ℕ
@@ -45,6 +46,7 @@ pub record IsAsked {W : Type 0} (meaning : Header → Option W) (cuts : CutLists
   pub low : low_of part ≡ low_of whole
   pub aligned : IsAligned cuts part whole
   pub means : (h : Header) → holds h part ≡ true → meaning h ≡ word
+  pub pieces_are : pieces ≡ beside whole part
   pub rest : AreRest cuts whole part pieces
   pub left : IsPermutation (others ++ pieces) new
 

@@ -17,7 +17,7 @@ pub struct ByCorner {
 }
 
 // A comparison has no conditions, so this reads the low corner of any box, also of one that isn't valid.
-fn corner(b: &Box5) -> Header
+pub(crate) fn corner(b: &Box5) -> Header
     ensures { result ≡ low_of b.now }
 {
     Header {

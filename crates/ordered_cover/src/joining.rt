@@ -63,7 +63,7 @@ fn span(first: &Box5, other: &Box5) -> Box5
 }
 
 // The last row and one that goes on from it with its word, as one.
-fn one_with_last<P: Probe>(
+pub(crate) fn one_with_last<P: Probe>(
     along: Along,
     rows: &[Row<P::Word>],
     row: &Row<P::Word>,

@@ -1,4 +1,5 @@
 // What searches answer.
+use crate::trees::Node;
 use header_boxes::Row;
 use vpc_base::Header;
 
@@ -10,6 +11,17 @@ pub enum Cover<W> {
     /// None gets through: rows that hold all headers.
     Blocked(Vec<Row<W>>),
     /// As many rows as were allowed, and the first header outside them.
+    More(Vec<Row<W>>, Header),
+}
+
+/// What is known of all headers of a box, with the rows as leaves of a tree.
+#[derive(Drop)]
+pub enum Grown<W> {
+    /// The first header that gets through.
+    Found(Header),
+    /// None gets through: a cut tree of the box.
+    Blocked(Vec<Node<W>>),
+    /// As many rows as leaves were allowed, and the first header outside them.
     More(Vec<Row<W>>, Header),
 }
 

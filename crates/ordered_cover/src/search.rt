@@ -8,6 +8,7 @@ ghost use Rattle.ordered_cover.specs.Cover.{IsCover, IsSearched};
 ghost use Rattle.ordered_cover.specs.Gathered.{IsGathered};
 ghost use Rattle.ordered_cover.specs.Open.{IsAsked};
 
+use crate::beside::beside;
 use crate::joining::{Along, join_last};
 use crate::open::OpenBoxes;
 use crate::{Cover, Gathered, Probe, Searched};
@@ -16,7 +17,7 @@ use std::alloc::{AllocError, Global};
 use vpc_base::{Header, NoMemory};
 
 // Asks of a part of the open box that begins first. What is left of that box stays open.
-fn ask<P: Probe>(
+pub(crate) fn ask<P: Probe>(
     p: &P,
     boxes: &mut OpenBoxes,
 ) -> Result<Option<(Box5, Option<P::Word>)>, AllocError>
@@ -29,8 +30,7 @@ fn ask<P: Probe>(
         return Ok(None);
     };
     let (part, word) = p.probe(&whole);
-    let rest = whole.minus(&part);
-    boxes.extend(rest.as_slice())?;
+    boxes.extend(beside(&whole, &part).as_slice())?;
     Ok(Some((part, word)))
 }
 

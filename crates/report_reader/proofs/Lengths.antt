@@ -10,15 +10,14 @@ use Rattle.vpc_laws.specs.Types.{Box5, Description, Row, StopText}
 use Rattle.vpc_model.specs.Terms.{IsAccepted, end_id, is_id, name_text}
 use Rattle.block_report.specs.Terms.{addresses_text, box_line, box_text, ends_line, phase_text, report_of, report_text, row_line, row_lines_from}
 use Rattle.vpc_model.proofs.Names.{visible_name}
-use Rattle.report_reader.specs.declared.report.Report.{Report}
-use Rattle.report_reader.specs.ReadsBack.{Fits, IsPrintable, length_limit}
+use Rattle.report_reader.specs.ReadsBack.{Fits, IsPrintable, Listed, length_limit}
 use Rattle.report_reader.proofs.RowsOf.{IsRowOf, rows_of}
 use Rattle.report_reader.proofs.ReadLines.{visible_phase}
 use Rattle.report_reader.proofs.ReadWords.{fits-within}
 
 -- ---- words
 
-length-id-le : (id : List ℕ) → is_id id ≡ true → length id ≤ 256
+pub length-id-le : (id : List ℕ) → is_id id ≡ true → length id ≤ 256
 length-id-le id h = leb-true (length id) 256 (and_parts _ _ (and_parts _ _ h).1).0
 
 length-number-le : (n : ℕ) → n < 2 ^ 16 → length (decimal n) ≤ 5
@@ -80,10 +79,10 @@ length-row_lines-le whole count (row ∷ rows) few fits h =
 query_of_ids : (from_id to_id : List ℕ) → length from_id ≤ 256 → length to_id ≤ 256 → length ((((codes "query from" ++ 32 ∷ from_id) ++ 32 ∷ codes "to") ++ 32 ∷ to_id) ++ 10 ∷ []) ≤ 600
 query_of_ids from_id to_id first second = simp length-append (omega arith)
 
-length-ends_line-le : (from_id to_id : List ℕ) → is_id from_id ≡ true → is_id to_id ≡ true → length (ends_line from_id to_id) ≤ 600
+pub length-ends_line-le : (from_id to_id : List ℕ) → is_id from_id ≡ true → is_id to_id ≡ true → length (ends_line from_id to_id) ≤ 600
 length-ends_line-le from_id to_id first second = query_of_ids from_id to_id (length-id-le from_id first) (length-id-le to_id second)
 
-word_line : (name text : List ℕ) → length name ≤ 3 → length text ≤ 100 → length ((name ++ 32 ∷ text) ++ 10 ∷ []) ≤ 105
+pub word_line : (name text : List ℕ) → length name ≤ 3 → length text ≤ 100 → length ((name ++ 32 ∷ text) ++ 10 ∷ []) ≤ 105
 word_line name text ln lt = simp length-append (omega arith)
 
 -- ---- the whole
@@ -104,7 +103,7 @@ length-report_of-le from_id to_id sides rows from_word to_word valid fits few h 
     (omega (arith, all, few))
     (word_line (codes "end") (decimal (length rows)) (omega arith) (omega (arith, number)))
 
-pub printed_reports_fit : (d : Description) (r : Report) → IsAccepted d → IsPrintable d r → length (report_text d r.start r.goal r.sides r.rows) ≤ length_limit
+pub printed_reports_fit : (d : Description) (r : Listed) → IsAccepted d → IsPrintable d r → length (report_text d r.start r.goal r.sides r.rows) ≤ length_limit
 printed_reports_fit d r accepted h =
     let most = length-report_of-le (end_id d r.start) (end_id d r.goal) r.sides r.rows h.ids.start h.ids.goal h.valid h.fits h.few (rows_of d r h) in
     omega (arith, most)

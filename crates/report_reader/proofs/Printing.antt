@@ -5,8 +5,7 @@ use Rattle.vpc_model.specs.declared.places.End.TheVariants as ends
 use Rattle.vpc_model.specs.Accepted.{IsAccepted}
 use Rattle.vpc_model.specs.Sound.{is_end}
 use Rattle.block_report.specs.Reports.{report_text}
-use Rattle.report_reader.specs.declared.report.Report.{Report}
-use Rattle.report_reader.specs.ReadsBack.{IsNamed, IsPrintable, length_limit}
+use Rattle.report_reader.specs.ReadsBack.{IsNamed, IsPrintable, Listed, length_limit, listed_report}
 use Rattle.report_reader.specs.Reports.{report_of_text}
 use Rattle.report_reader.proofs.Lengths.{printed_reports_fit}
 use Rattle.report_reader.proofs.ReadReports.{printed_reports_read_back}
@@ -17,9 +16,9 @@ named_is_described d (ends.Interface i) named = named.described
 named_is_described d ends.Internet named = refl
 
 -- a text that was printed reads as its report
-pub reads_if_printed : (d : Description) (r : Report) (text : List ℕ) → IsAccepted d → IsPrintable d r → text ≡ report_text d r.start r.goal r.sides r.rows → report_of_text d text ≡ Ok r
-reads_if_printed d r text accepted printable is = subst (λ (t : List ℕ). report_of_text d t ≡ Ok r) (sym is) (printed_reports_read_back d r accepted printable)
+pub reads_if_printed : (d : Description) (r : Listed) (text : List ℕ) → IsAccepted d → IsPrintable d r → text ≡ report_text d r.start r.goal r.sides r.rows → report_of_text d text ≡ Ok (listed_report r)
+reads_if_printed d r text accepted printable is = subst (λ (t : List ℕ). report_of_text d t ≡ Ok (listed_report r)) (sym is) (printed_reports_read_back d r accepted printable)
 
 -- and is short
-pub short_if_printed : (d : Description) (r : Report) (text : List ℕ) → IsAccepted d → IsPrintable d r → text ≡ report_text d r.start r.goal r.sides r.rows → length text ≤ length_limit
+pub short_if_printed : (d : Description) (r : Listed) (text : List ℕ) → IsAccepted d → IsPrintable d r → text ≡ report_text d r.start r.goal r.sides r.rows → length text ≤ length_limit
 short_if_printed d r text accepted printable is = subst (λ (t : List ℕ). length t ≤ length_limit) (sym is) (printed_reports_fit d r accepted printable)

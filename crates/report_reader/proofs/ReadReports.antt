@@ -13,8 +13,12 @@ use Rattle.report_reader.specs.declared.report.Report.{Report}
 use Rattle.report_reader.specs.declared.report.ReportFault.{ReportFault}
 use Rattle.report_reader.specs.declared.report.ReportFault.TheVariants as faults
 use Rattle.report_reader.specs.Lines.{query_of, sides_of, version_of}
-use Rattle.report_reader.specs.ReadsBack.{Fits, IsPrintable}
-use Rattle.report_reader.specs.Reports.{◌>>=◌, is_ended, line_as, lines_of, pieces_of, report_in, report_of_pieces, report_of_text, row_before, rows_from}
+use Rattle.report_reader.specs.ReadsBack.{Fits, IsPrintable, Listed, listed_report}
+use Rattle.report_reader.specs.declared.lines.Version.{Version}
+use Rattle.report_reader.specs.declared.lines.Version.TheVariants as versions
+use Rattle.report_reader.specs.declared.report.Shape.{Shape}
+use Rattle.report_reader.specs.declared.report.Shape.TheVariants as shapes
+use Rattle.report_reader.specs.Reports.{◌>>=◌, is_ended, line_as, lines_of, pieces_of, report_in, report_of_pieces, report_of_text, row_before, rows_from, shape_from}
 use Rattle.report_reader.proofs.Printed.{AreWords, IsWord-decimal, IsWord-id, joined, pieces_of-line, words_of-joined}
 use Rattle.report_reader.proofs.ReadEnds.{ends_named-end_ids}
 use Rattle.report_reader.proofs.RowsOf.{IsRowOf, rows_of}
@@ -44,7 +48,7 @@ pieces_of-rows whole count (row ∷ rows) rest few fits h =
     ∙ ap (λ (lines : List (List ℕ)). line ∷ lines) (pieces_of-rows whole (count + 1) rows rest (omega (arith, few)) fits others)))
 
 -- the last line
-abbrev end_text : ℕ → List ℕ
+abbrev pub end_text : ℕ → List ℕ
 end_text count = joined (codes "end") (decimal count ∷ [])
 
 rows_from-texts : (whole : Box5) (count all : ℕ) (rows : List (Row StopText)) → all ≡ count + length rows → all ≤ 20000 → Fits whole → All (IsRowOf whole) rows
@@ -79,19 +83,19 @@ report_of_lines d lines = ap (λ (ls : List (List ℕ)). report_in d ls (is_ende
 
 -- ---- the whole
 
-abbrev query_words : List ℕ → List ℕ → List (List ℕ)
+abbrev pub query_words : List ℕ → List ℕ → List (List ℕ)
 query_words from_id to_id = codes "from" ∷ from_id ∷ codes "to" ∷ to_id ∷ []
 
-query_are_words : (from_id to_id : List ℕ) → is_id from_id ≡ true → is_id to_id ≡ true → AreWords (query_words from_id to_id)
+pub query_are_words : (from_id to_id : List ℕ) → is_id from_id ≡ true → is_id to_id ≡ true → AreWords (query_words from_id to_id)
 query_are_words from_id to_id first second = (IsWord-id _ refl, (IsWord-id from_id first, (IsWord-id _ refl, (IsWord-id to_id second, tt))))
 
 ends_text : (query from_id to to_id : List ℕ) → (((query ++ 32 ∷ from_id) ++ 32 ∷ to) ++ 32 ∷ to_id) ++ 10 ∷ [] ≡ (query ++ 32 ∷ (from_id ++ 32 ∷ (to ++ 32 ∷ to_id))) ++ 10 ∷ []
 ends_text query from_id to to_id = simp append_assoc
 
-ends_line-joined : (from_id to_id : List ℕ) → ends_line from_id to_id ≡ joined (codes "query") (query_words from_id to_id) ++ 10 ∷ []
+pub ends_line-joined : (from_id to_id : List ℕ) → ends_line from_id to_id ≡ joined (codes "query") (query_words from_id to_id) ++ 10 ∷ []
 ends_line-joined from_id to_id = ends_text (codes "query from") from_id (codes "to") to_id
 
-parts : (version query box rows end : List ℕ) → ((version ++ 10 ∷ []) ++ (((query ++ 10 ∷ []) ++ (box ++ 10 ∷ [])) ++ rows)) ++ (end ++ 10 ∷ []) ≡ version ++ 10 ∷ (query ++ 10 ∷ (box ++ 10 ∷ (rows ++ (end ++ 10 ∷ []))))
+pub parts : (version query box rows end : List ℕ) → ((version ++ 10 ∷ []) ++ (((query ++ 10 ∷ []) ++ (box ++ 10 ∷ [])) ++ rows)) ++ (end ++ 10 ∷ []) ≡ version ++ 10 ∷ (query ++ 10 ∷ (box ++ 10 ∷ (rows ++ (end ++ 10 ∷ []))))
 parts version query box rows end = simp append_assoc
 
 -- the three lines before the rows
@@ -126,40 +130,44 @@ pieces_of-report from_id to_id sides rows from_word to_word valid fits few h =
     ∙ (ap (λ (ls : List (List ℕ)). row_texts 0 rows ++ ls) (pieces_of-line (codes "end") (decimal (length rows) ∷ []) [] (IsWord-id _ refl) (IsWord-decimal (length rows) (omega (arith, few)), tt))
     ∙ sym (append_assoc (row_texts 0 rows) (end ∷ []) ([] ∷ [])))))))
 
-line-read : {A : Type 0} (grammar : List (List ℕ) → Option A) (line : List ℕ) (number : ℕ) (ws : List (List ℕ)) (value : A) → words_of line ≡ ws → grammar ws ≡ Some value
+pub line-read : {A : Type 0} (grammar : List (List ℕ) → Option A) (line : List ℕ) (number : ℕ) (ws : List (List ℕ)) (value : A) → words_of line ≡ ws → grammar ws ≡ Some value
     → ok_or (grammar (words_of line)) (faults.BadLine number) ≡ Ok value
 line-read {A = A} grammar line number ws value split read =
     ap (λ (all : List (List ℕ)). ok_or (grammar all) (faults.BadLine number)) split ∙ ap (λ (o : Option A). ok_or o (faults.BadLine number)) read
 
-abbrev report_read : Result (Unit {0}) ReportFault → Result (End × End) ReportFault → Result Box5 ReportFault → (Box5 → Result (List (Row StopText)) ReportFault) → Result Report ReportFault
-report_read version ends sides rows = do
+abbrev report_read : Result Version ReportFault → Result (End × End) ReportFault → Result Box5 ReportFault → (Version → Box5 → Result Shape ReportFault) → Result Report ReportFault
+report_read version ends sides shape = do
   version ← version
   ends ← ends
   sides ← sides
-  rows ← rows sides
-  Ok (record { start = ends.0; goal = ends.1; sides = sides; rows = rows })
+  shape ← shape version sides
+  Ok (record { start = ends.0; goal = ends.1; sides = sides; shape = shape })
 
-report_from : (version : Result (Unit {0}) ReportFault) (ends : Result (End × End) ReportFault) (sides : Result Box5 ReportFault) (rows : Box5 → Result (List (Row StopText)) ReportFault) (r : Report)
-    → version ≡ Ok tt → ends ≡ Ok (r.start, r.goal) → sides ≡ Ok r.sides → rows r.sides ≡ Ok r.rows → report_read version ends sides rows ≡ Ok r
-report_from version ends sides rows r a_is b_is c_is d_is = rw (a_is, b_is, c_is, d_is) refl
+pub report_from : (version : Result Version ReportFault) (ends : Result (End × End) ReportFault) (sides : Result Box5 ReportFault) (shape : Version → Box5 → Result Shape ReportFault) (v : Version) (r : Report)
+    → version ≡ Ok v → ends ≡ Ok (r.start, r.goal) → sides ≡ Ok r.sides → shape v r.sides ≡ Ok r.shape → report_read version ends sides shape ≡ Ok r
+report_from version ends sides shape v r a_is b_is c_is d_is = rw (a_is, b_is, c_is, d_is) refl
 
-report_in-lines : (d : Description) (r : Report) → IsAccepted d → IsPrintable d r
-    → report_in d (head_lines (end_id d r.start) (end_id d r.goal) r.sides (row_texts 0 r.rows ++ end_text (length r.rows) ∷ [])) true ≡ Ok r
+-- rows as the boxes of a report
+listed : (rows : Result (List (Row StopText)) ReportFault) (all : List (Row StopText)) → rows ≡ Ok all → rows >>= (λ rows. Ok (shapes.List rows)) ≡ Ok (shapes.List all)
+listed rows all is = ap (λ (r : Result (List (Row StopText)) ReportFault). r >>= (λ rows. Ok (shapes.List rows))) is
+
+report_in-lines : (d : Description) (r : Listed) → IsAccepted d → IsPrintable d r
+    → report_in d (head_lines (end_id d r.start) (end_id d r.goal) r.sides (row_texts 0 r.rows ++ end_text (length r.rows) ∷ [])) true ≡ Ok (listed_report r)
 report_in-lines d r accepted h =
     let from_id = end_id d r.start in
     let to_id = end_id d r.goal in
     let lines = head_lines from_id to_id r.sides (row_texts 0 r.rows ++ end_text (length r.rows) ∷ []) in
     let from_word = h.ids.start in
     let to_word = h.ids.goal in
-    report_from (line_as version_of lines 1) (line_as (query_of d) lines 2) (line_as sides_of lines 3) (λ sides. rows_from sides true 0 (drop 3 lines)) r
-    (line-read version_of (codes "vpc-report 1") 1 (codes "vpc-report" ∷ codes "1" ∷ []) tt (words_of-joined (codes "vpc-report") (codes "1" ∷ []) (IsWord-id _ refl) (IsWord-id _ refl, tt)) refl)
+    report_from (line_as version_of lines 1) (line_as (query_of d) lines 2) (line_as sides_of lines 3) (λ version sides. shape_from version sides true (drop 3 lines)) versions.First (listed_report r)
+    (line-read version_of (codes "vpc-report 1") 1 (codes "vpc-report" ∷ codes "1" ∷ []) versions.First (words_of-joined (codes "vpc-report") (codes "1" ∷ []) (IsWord-id _ refl) (IsWord-id _ refl, tt)) refl)
     (line-read (query_of d) (joined (codes "query") (query_words from_id to_id)) 2 (codes "query" ∷ query_words from_id to_id) (r.start, r.goal) (words_of-joined (codes "query") (query_words from_id to_id) (IsWord-id _ refl) (query_are_words from_id to_id from_word to_word))
     (ends_named-end_ids d r.start r.goal accepted h.ends))
     (line-read sides_of (joined (codes "box") (box_words r.sides)) 3 (codes "box" ∷ box_words r.sides) r.sides (words_of-joined (codes "box") (box_words r.sides) (IsWord-id _ refl) (AreWords-box r.sides h.valid h.fits))
     (sides_of-words r.sides h.valid h.fits))
-    (rows_from-texts r.sides 0 (length r.rows) r.rows (omega arith) h.few h.fits (rows_of d r h))
+    (listed _ r.rows (rows_from-texts r.sides 0 (length r.rows) r.rows (omega arith) h.few h.fits (rows_of d r h)))
 
-pub printed_reports_read_back : (d : Description) (r : Report) → IsAccepted d → IsPrintable d r → report_of_text d (report_text d r.start r.goal r.sides r.rows) ≡ Ok r
+pub printed_reports_read_back : (d : Description) (r : Listed) → IsAccepted d → IsPrintable d r → report_of_text d (report_text d r.start r.goal r.sides r.rows) ≡ Ok (listed_report r)
 printed_reports_read_back d r accepted h =
     let from_id = end_id d r.start in
     let to_id = end_id d r.goal in

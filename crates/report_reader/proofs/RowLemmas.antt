@@ -29,7 +29,7 @@ none_left : (n k m : ℕ) → m ≡ n - (k + 1) → k < n → (m == 0) ≡ (k + 
 none_left n k m rest within = grind (arith, nat_tests)
 
 -- no line is left after the last one
-last_line : (lines : List (Bor (List ℕ))) (k : ℕ) → k < length lines → (length (map (λ t. t.now) (drop (k + 1) lines)) == 0) ≡ (k + 1 == length lines)
+pub last_line : (lines : List (Bor (List ℕ))) (k : ℕ) → k < length lines → (length (map (λ t. t.now) (drop (k + 1) lines)) == 0) ≡ (k + 1 == length lines)
 last_line lines k within =
     none_left (length lines) k _ (length-map (drop (k + 1) lines) (λ (t : Bor (List ℕ)). t.now) ∙ length-drop (k + 1) lines) within
 

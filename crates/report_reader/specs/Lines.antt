@@ -6,18 +6,22 @@ use Rattle.vpc_model.specs.declared.places.End.TheVariants as ends
 use Rattle.query_words.specs.Ends.{end_of}
 use Rattle.report_reader.specs.Boxes.{◌>>=◌, box_at, is_inside, word_at}
 use Rattle.report_reader.specs.Stops.{told_of}
+use Rattle.report_reader.specs.declared.lines.Version.{Version}
+use Rattle.report_reader.specs.declared.lines.Version.TheVariants as versions
 
 -- ---- the version
 
--- vpc-report 1
-abbrev pub is_version : List (List ℕ) → Bool
-is_version words =
+-- vpc-report NUMBER
+abbrev pub is_version : List ℕ → List (List ℕ) → Bool
+is_version number words =
     (length words == 2)
-    && (bytes_eq (word_at words 0) (codes "vpc-report") && bytes_eq (word_at words 1) (codes "1"))
+    && (bytes_eq (word_at words 0) (codes "vpc-report") && bytes_eq (word_at words 1) number)
 
 -- the first line says nothing else
-abbrev pub version_of : List (List ℕ) → Option (Unit {0})
-version_of words = if is_version words then Some tt else None
+abbrev pub version_of : List (List ℕ) → Option Version
+version_of words =
+    if is_version (codes "1") words then Some versions.First
+    else (if is_version (codes "2") words then Some versions.Second else None)
 
 -- ---- the query
 

@@ -8,7 +8,13 @@ use Rattle.report_reader.specs.declared.report.ReportFault.{ReportFault}
 use Rattle.report_reader.specs.declared.report.ReportFault.TheVariants as faults
 use Rattle.header_boxes.specs.Boxes.{IsValid, IsWithin}
 use Rattle.vpc_model.specs.Sound.{is_end}
+use Rattle.ordered_cover.specs.Trees.{IsCutTree, leaf_count, leaves_of}
 use Rattle.report_reader.specs.Lines.{is_end_line, query_of, row_of, sides_of, version_of}
+use Rattle.report_reader.specs.Nodes.{leaf_limit, nodes_from}
+use Rattle.report_reader.specs.declared.lines.Version.{Version}
+use Rattle.report_reader.specs.declared.lines.Version.TheVariants as versions
+use Rattle.report_reader.specs.declared.report.Shape.{Shape}
+use Rattle.report_reader.specs.declared.report.Shape.TheVariants as shapes
 
 -- ---- lines
 
@@ -76,14 +82,19 @@ abbrev pub line_as : {A : Type 0} → (List (List ℕ) → Option A) → List (L
 line_as grammar lines number =
     ok_or (option_and_then (λ line. grammar (words_of line)) (slice_get lines (number - 1))) (faults.BadLine number)
 
+-- the boxes after the first three lines, as the version writes them
+abbrev pub shape_from : Version → Box5 → Bool → List (List ℕ) → Result Shape ReportFault
+shape_from versions.First whole ended lines = rows_from whole ended 0 lines >>= (λ rows. Ok (shapes.List rows))
+shape_from versions.Second whole ended lines = nodes_from (whole ∷ []) ended 0 4 lines >>= (λ nodes. Ok (shapes.Tree nodes))
+
 -- the report of these lines, and whether the text ends with the last of them
 abbrev pub report_in : Description → List (List ℕ) → Bool → Result Report ReportFault
 report_in d lines ended = do
   version ← line_as version_of lines 1
   ends ← line_as (query_of d) lines 2
   sides ← line_as sides_of lines 3
-  rows ← rows_from sides ended 0 (drop 3 lines)
-  Ok (record { start = ends.0; goal = ends.1; sides = sides; rows = rows })
+  shape ← shape_from version sides ended (drop 3 lines)
+  Ok (record { start = ends.0; goal = ends.1; sides = sides; shape = shape })
 
 -- the report of what stands between newlines
 abbrev pub report_of_pieces : Description → List (List ℕ) → Result Report ReportFault
@@ -102,10 +113,22 @@ IsRead meant (Err (faults.BadLine number)) = meant ≡ Err (faults.BadLine numbe
 IsRead meant (Err (faults.TooManyBoxes number)) = meant ≡ Err (faults.TooManyBoxes number)
 IsRead meant (Err faults.Memory) = Unit {0}
 
--- a report whose ends are described, whose box is valid and holds those of its rows, and that has no more rows than are read
+-- the boxes lie in that of the query, and are no more than are read; or they are the leaves of a cut tree of it
+abbrev pub IsSoundShape : Box5 → Shape → Type 0
+IsSoundShape sides (shapes.List rows) = All (λ row. IsWithin row.part sides) rows × (length rows ≤ row_limit)
+IsSoundShape sides (shapes.Tree nodes) = IsCutTree nodes sides × (leaf_count nodes ≤ leaf_limit)
+
+-- a report whose ends are described, whose box is valid, and whose boxes are such
 pub record IsSoundReport (d : Description) (r : Report) : Type 0 where
   pub start : is_end d r.start ≡ true
   pub goal : is_end d r.goal ≡ true
   pub valid : IsValid r.sides
-  pub within : All (λ row. IsWithin row.part r.sides) r.rows
-  pub few : length r.rows ≤ row_limit
+  pub shape : IsSoundShape r.sides r.shape
+
+-- the rows of a report, in their order: those of a tree are its leaves
+abbrev pub rows_in_shape : Box5 → Shape → List (Row StopText)
+rows_in_shape sides (shapes.List rows) = rows
+rows_in_shape sides (shapes.Tree nodes) = leaves_of nodes sides
+
+abbrev pub rows_of : Report → List (Row StopText)
+rows_of r = rows_in_shape r.sides r.shape

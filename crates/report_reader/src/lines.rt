@@ -13,12 +13,23 @@ use header_boxes::Box5;
 use reference_check::Network;
 use vpc_model::{End, EniNo, InterfaceKind};
 
+/// How the boxes of a report are written.
+#[derive(Clone, Copy)]
+pub enum Version {
+    /// One a line, in numbered rows.
+    First,
+    /// As the leaves of a cut tree, a node a line.
+    Second,
+}
+
 /// The first line.
-pub fn read_version(words: &[&[u8]]) -> Option<()>
+pub fn read_version(words: &[&[u8]]) -> Option<Version>
     ensures { result ≡ version_of (map (λ w. w.now) words.now) }
 {
     if are_two(words, b"vpc-report", b"1") {
-        Some(())
+        Some(Version::First)
+    } else if are_two(words, b"vpc-report", b"2") {
+        Some(Version::Second)
     } else {
         None
     }

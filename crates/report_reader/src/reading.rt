@@ -1,25 +1,25 @@
 // Whole reports.
-ghost use Rattle.std.specs.Prelude.{◌≡◌, ◌≤◌, ◌<◌, ◌∷◌, [], All, IfNone, IfOk, IfSome, IsTrue, drop, length, map};
-ghost use Rattle.header_boxes.specs.Boxes.{IsValid, IsWithin};
+ghost use Rattle.std.specs.Prelude.{◌≡◌, ◌<◌, ◌∷◌, [], IfNone, IfOk, IfSome, IsTrue, drop, length, map};
+ghost use Rattle.header_boxes.specs.Boxes.{IsValid};
 ghost use Rattle.vpc_model.specs.Sound.{is_end};
 ghost use Rattle.query_words.specs.Events.{words_of};
 ghost use Rattle.report_reader.specs.Lines.{query_of, sides_of, version_of};
-ghost use Rattle.report_reader.specs.Reports.{IsRead, IsSoundReport, line_as, pieces_of, report_in, report_of_pieces, report_of_text, row_limit, rows_from};
+ghost use Rattle.report_reader.specs.Reports.{IsRead, IsSoundReport, IsSoundShape, line_as, pieces_of, report_in, report_of_pieces, report_of_text, shape_from};
 
-use crate::lines::{read_query, read_sides, read_version};
+use crate::lines::{Version, read_query, read_sides, read_version};
+use crate::node_lists::read_nodes;
 use crate::row_lists::read_rows;
 use crate::words::few_words;
-use crate::{Report, ReportFault};
-use header_boxes::{Box5, Row};
+use crate::{Report, ReportFault, Shape};
+use header_boxes::Box5;
 use memchr::memchr;
 use reference_check::Network;
 use std::alloc::{AllocError, Global};
-use vpc_base::OwnList;
-use vpc_model::{End, StopText};
+use vpc_model::End;
 
 // ---- the lines before the rows
 
-fn version_in(line: &[u8]) -> Option<()>
+fn version_in(line: &[u8]) -> Option<Version>
     ensures { result ≡ version_of (words_of line.now) }
 {
     match few_words(line) {
@@ -49,7 +49,7 @@ fn sides_in(line: &[u8]) -> Option<Box5>
     }
 }
 
-fn expect_version(lines: &[&[u8]]) -> Result<(), ReportFault>
+fn version_on(lines: &[&[u8]]) -> Result<Version, ReportFault>
     ensures { IsRead (line_as version_of (map (λ l. l.now) lines.now) 1) result }
 {
     match lines.get(0) {
@@ -88,17 +88,36 @@ fn row_lines<'a, 'b>(lines: &'a [&'b [u8]]) -> &'a [&'b [u8]]
     if lines.len() < 3 { &[] } else { &lines[3..] }
 }
 
-fn rows_in(
+fn list_in(alloc: Global, sides: &Box5, lines: &[&[u8]], ended: bool) -> Result<Shape, ReportFault>
+    ensures value { IsRead (shape_from Version.First sides.now ended (drop 3 (map (λ l. l.now) lines.now))) result }
+    ensures sound { IfOk result (IsSoundShape sides.now) }
+{
+    let rows = read_rows(alloc, sides, ended, row_lines(lines))?;
+    Ok(Shape::List(rows))
+}
+
+fn tree_in(alloc: Global, sides: &Box5, lines: &[&[u8]], ended: bool) -> Result<Shape, ReportFault>
+    ensures value { IsRead (shape_from Version.Second sides.now ended (drop 3 (map (λ l. l.now) lines.now))) result }
+    ensures sound { IfOk result (IsSoundShape sides.now) }
+{
+    let nodes = read_nodes(alloc, sides, ended, row_lines(lines))?;
+    Ok(Shape::Tree(nodes))
+}
+
+fn shape_in(
     alloc: Global,
+    version: Version,
     sides: &Box5,
     lines: &[&[u8]],
     ended: bool,
-) -> Result<OwnList<Row<StopText>>, ReportFault>
-    ensures value { IsRead (rows_from sides.now ended 0 (drop 3 (map (λ l. l.now) lines.now))) result }
-    ensures within { IfOk result (λ rows. All (λ r. IsWithin r.part sides.now) rows) }
-    ensures few { IfOk result (λ rows. length rows ≤ row_limit) }
+) -> Result<Shape, ReportFault>
+    ensures value { IsRead (shape_from version sides.now ended (drop 3 (map (λ l. l.now) lines.now))) result }
+    ensures sound { IfOk result (IsSoundShape sides.now) }
 {
-    read_rows(alloc, sides, ended, row_lines(lines))
+    match version {
+        Version::First => list_in(alloc, sides, lines, ended),
+        Version::Second => tree_in(alloc, sides, lines, ended),
+    }
 }
 
 fn report_in(
@@ -110,15 +129,15 @@ fn report_in(
     ensures value { IsRead (report_in n.now (map (λ l. l.now) lines.now) ended) result }
     ensures sound { IfOk result (IsSoundReport n.now) }
 {
-    expect_version(lines)?;
+    let version = version_on(lines)?;
     let (start, goal) = read_ends(n, lines)?;
     let sides = read_whole(lines)?;
-    let rows = rows_in(alloc, &sides, lines, ended)?;
+    let shape = shape_in(alloc, version, &sides, lines, ended)?;
     Ok(Report {
         start,
         goal,
         sides,
-        rows,
+        shape,
     })
 }
 
@@ -162,8 +181,10 @@ fn report_of_pieces(alloc: Global, n: &Network, pieces: &[&[u8]]) -> Result<Repo
 }
 
 /// The report that a text says: `vpc-report 1`, `query from END to END`, `box BOX`, any number of
-/// `row NUMBER PHASE STOP BOX`, and `end NUMBER`. Words have one blank between each two, and each line
-/// ends with one newline. Its boxes are not compared with one another, nor its rows with the network.
+/// `row NUMBER PHASE STOP BOX`, and `end NUMBER`; or `vpc-report 2`, the same lines up to the box, a cut tree of it with a
+/// line for each node, `cut SIDE AT` or `leaf PHASE STOP`, and `end NUMBER` with the number of leaves. Words have one blank
+/// between each two, and each line ends with one newline. Its boxes are not compared with one another, nor its rows with the
+/// network.
 pub fn read_report(alloc: Global, n: &Network, text: &[u8]) -> Result<Report, ReportFault>
     ensures value { IsRead (report_of_text n.now text.now) result }
     ensures sound { IfOk result (IsSoundReport n.now) }

@@ -3,9 +3,27 @@ ghost use Rattle.std.specs.Prelude.{◌≡◌};
 ghost use Rattle.report_reader.specs.declared.report.ReportFault.TheVariants.{Memory};
 
 use header_boxes::{Box5, Row};
+use ordered_cover::Node;
 use std::alloc::{AllocError, AllocFailed};
 use vpc_base::{NoMemory, OwnList};
 use vpc_model::{End, StopText};
+
+/// How the boxes of a report are given, each with what stops its headers.
+pub enum Shape {
+    /// Boxes inside that of the query, in any order (version 1).
+    List(OwnList<Row<StopText>>),
+    /// The leaves of a cut tree of the query's box (version 2).
+    Tree(OwnList<Node<StopText>>),
+}
+
+impl Drop for Shape {
+    fn drop(self) {
+        match self {
+            Shape::List(rows) => drop(rows),
+            Shape::Tree(nodes) => drop(nodes),
+        }
+    }
+}
 
 /// What a report says of a query: boxes that together hold its headers, each with what stops them. Whether
 /// it is true is another question.
@@ -14,7 +32,7 @@ pub struct Report {
     pub goal: End,
     /// The box of the query.
     pub sides: Box5,
-    pub rows: OwnList<Row<StopText>>,
+    pub shape: Shape,
 }
 
 impl Drop for Report {
@@ -23,9 +41,9 @@ impl Drop for Report {
             start: _,
             goal: _,
             sides: _,
-            rows,
+            shape,
         } = self;
-        drop(rows);
+        drop(shape);
     }
 }
 
@@ -35,7 +53,7 @@ pub enum ReportFault {
     /// The first line that is not in the grammar. It may be one that is missing, one without its newline, or
     /// one after the end.
     BadLine(u64),
-    /// The line of a row past the 20,000 that are read; all before it is in the grammar.
+    /// The line of a row past the 20,000 that are read, or of a leaf past the 100,000; all before it is in the grammar.
     TooManyBoxes(u64),
     /// Memory was refused.
     Memory,

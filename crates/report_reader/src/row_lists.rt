@@ -10,8 +10,8 @@ use std::alloc::Global;
 use vpc_base::OwnList;
 use vpc_model::StopText;
 
-// Whether nothing comes after the line with this number, from 0.
-fn is_last(k: usize, lines: usize, ended: bool) -> bool
+/// Whether nothing comes after the line with this number, from 0.
+pub fn is_last(k: usize, lines: usize, ended: bool) -> bool
     requires { k < lines }
     ensures { result ≡ ((k + 1 == lines) && ended) }
 {

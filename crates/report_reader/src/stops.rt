@@ -5,7 +5,7 @@ ghost use Rattle.vpc_model.specs.Sound.{has_text};
 ghost use Rattle.vpc_model.specs.Told.{name_of, stop_id, stop_rule, told_stop};
 
 use crate::words::is_number;
-use block_report::{RuleWord, rule_of, stop_id};
+use block_report::{RuleWord, access_text, rule_of, stop_id};
 use prefix_text::{Prefix, cidr_notation};
 use reference_check::Network;
 use vpc_model::{Phase, Stop, StopName, StopText};
@@ -37,6 +37,7 @@ pub fn is_rule(n: &Network, text: &[u8], s: &Stop) -> bool
         RuleWord::Row(number) => is_number(text, u64::from(number)),
         RuleWord::Block(block) => is_block(text, block),
         RuleWord::List(id) => text == id.bytes(),
+        RuleWord::Access(access) => text == access_text(access),
         RuleWord::None => is_dash(text),
     }
 }

@@ -1,8 +1,8 @@
-use Rattle.std.proofs.Common.{◌≡◌, ◌+◌, ◌++◌, append_assoc, ap, arith, drop, map, sym, ◌∙◌}
+use Rattle.std.proofs.Common.{◌+◌, ◌++◌, append_assoc, ap, arith, drop, map, sym, ◌∙◌}
 use Rattle.std.proofs.lemmas.List.{get_or_default}
 use Rattle.std.proofs.lemmas.List.Elements.{All-map}
 use Rattle.vpc_base.proofs.Steps.{All-one_more, All-whole, drop-next}
-use Rattle.block_report.specs.Reports.{HasIds, row_line, row_lines_from, told_row}
+use Rattle.block_report.specs.Reports.{HasIds, row_lines_from, told_row}
 use Rattle.block_report.proofs.reports.put_rows.Goals as goal
 
 pub loop-row-preserved : goal.loop-row-preserved

@@ -3,9 +3,8 @@ use Rattle.std.proofs.lemmas.List.{length-map}
 use Rattle.vpc_base.proofs.Results.{if_ok_two}
 use Rattle.block_report.specs.Reports.{AreIds, told_row, told_rows}
 use Rattle.report_reader.proofs.Printing.{named_is_described, reads_if_printed, short_if_printed}
-use Rattle.report_reader.specs.ReadsBack.{IsPrintable}
+use Rattle.report_reader.specs.ReadsBack.{IsPrintable, Listed}
 use Rattle.report_reader.specs.Reports.{row_limit}
-use Rattle.report_reader.specs.declared.report.Report.{Report}
 use Rattle.report_reader.proofs.readable.print_readable.Goals as goal
 
 pub print_report-requires : goal.print_report-requires
@@ -16,7 +15,7 @@ print_report-requires c = record {
 }
 
 -- the report that is printed
-abbrev printed : goal.After-print_report → Report
+abbrev printed : goal.After-print_report → Listed
 printed c = record { start = c.args.start; goal = c.args.goal; sides = c.args.sides.now; rows = told_rows c.args.n.now c.args.rows.now }
 
 printable : (c : goal.After-print_report) → AreIds c.args.n.now c.args.start c.args.goal (told_rows c.args.n.now c.args.rows.now) → IsPrintable c.args.n.now (printed c)
