@@ -7,6 +7,7 @@ use Rattle.header_boxes.specs.Boxes.{holds}
 use Rattle.header_boxes.specs.Cells.{cells_of}
 use Rattle.header_boxes.specs.Rows.{HasWord, is_covered}
 use Rattle.cut_points.proofs.Increasing.{same_list}
+use Rattle.ordered_cover.specs.Trees.{leaves_of}
 use Rattle.query_words.specs.Query.{query_of}
 use Rattle.query_words.specs.declared.queries.Query.{Query}
 use Rattle.vpc_model.specs.Report.{IsCellCount, ending_of}
@@ -14,7 +15,7 @@ use Rattle.command_job.specs.Status.{IsOfDevice}
 use Rattle.command_job.specs.declared.status.Status.{Status}
 use Rattle.command_job.specs.declared.status.Status.TheVariants as ends
 use Rattle.command_job.proofs.Devices.{more_is_none, no_device, no_is_none, query_is_none, yes_is_none}
-use Rattle.network_reach.specs.Asked.{IsAnswerTo, IsAskDecided, IsAsked, IsDecided, IsReachable, IsReported, IsReportedInPart}
+use Rattle.network_reach.specs.Asked.{IsAnswerTo, IsAskDecided, IsAsked, IsDecided, IsReachable, IsReported, IsReportedAsTree, IsReportedInPart}
 use Rattle.network_reach.specs.Asked as asks
 use Rattle.network_reach.specs.Reached.{meaning_in}
 
@@ -66,6 +67,12 @@ no_decides d query text x = record {
   no = λ few. refl;
 }
 
+tree_decides : (d : Description) (query : Query) (text : List ℕ) → IsReportedAsTree d query text → IsDecided d query ends.No
+tree_decides d query text x = record {
+  yes = λ some. absurd (not_through (meaning_in d query) (leaves_of x.nodes query.sides) some.header x.tree.report.are_true.word (x.tree.report.holds_all some.header some.inside) (ap (ending_of d) some.through));
+  no = λ few. refl;
+}
+
 more_decides : (d : Description) (query : Query) (text : List ℕ) → IsReportedInPart d query text → IsDecided d query ends.More
 more_decides d query text x = record {
   yes = λ some. absurd (x.report.none some.header some.inside (ap (ending_of d) some.through));
@@ -81,6 +88,7 @@ same_query d words x y a b = let same : Ok x ≡ Ok y = sym a ∙ b in cc
 answer_decides : (d : Description) (query : Query) (status : Status) (text : List ℕ) → IsAnswerTo d query status text → IsDecided d query status
 answer_decides d query status text (asks.through status_is answer) = subst (IsDecided d query) (sym status_is) (yes_decides d query text answer)
 answer_decides d query status text (asks.blocked status_is answer) = subst (IsDecided d query) (sym status_is) (no_decides d query text answer)
+answer_decides d query status text (asks.treed status_is answer) = subst (IsDecided d query) (sym status_is) (tree_decides d query text answer)
 answer_decides d query status text (asks.more status_is answer) = subst (IsDecided d query) (sym status_is) (more_decides d query text answer)
 
 pub ask_is_decided : (d : Description) (words : List (List ℕ)) (status : Status) (text : List ℕ) → IsAsked d words status text → IsAskDecided d words status
@@ -93,6 +101,7 @@ ask_is_decided d words status text (asks.answered x is answer) query meant =
 answer_to_is_none : (d : Description) (query : Query) (status : Status) (text : List ℕ) → IsAnswerTo d query status text → IsOfDevice status → ⊥
 answer_to_is_none d query status text (asks.through status_is answer) h = no_device status ends.Yes status_is yes_is_none h
 answer_to_is_none d query status text (asks.blocked status_is answer) h = no_device status ends.No status_is no_is_none h
+answer_to_is_none d query status text (asks.treed status_is answer) h = no_device status ends.No status_is no_is_none h
 answer_to_is_none d query status text (asks.more status_is answer) h = no_device status ends.More status_is more_is_none h
 
 pub ask_is_none : (d : Description) (words : List (List ℕ)) (status : Status) (text : List ℕ) → IsAsked d words status text → IsOfDevice status → ⊥

@@ -1,4 +1,5 @@
 pub mod Told
+pub mod ToldTrees
 pub mod Reports
 pub mod ReachableLemmas
 pub mod Decided

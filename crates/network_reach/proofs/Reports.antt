@@ -1,22 +1,33 @@
 -- What a search answers about the stops of requests is a report about their verdicts.
-use Rattle.std.proofs.Common.{[], Err, IfOk, List, None, Ok, Option, Result, Some, ap, arith, length, option_map, refl, slice_index_or, subst, sym, ℕ, ◌+◌, ◌<◌, ◌∙◌, ◌∷◌, ◌≡◌}
+use Rattle.std.proofs.Common.{[], Err, IfOk, List, None, Ok, Option, Result, Some, ap, arith, length, option_map, refl, slice_index_or, subst, sym, ℕ, ◌+◌, ◌<◌, ◌≤◌, ◌∙◌, ◌∷◌, ◌≡◌}
 use Rattle.std.specs.Global.{Vec}
+use Rattle.std.specs.List.{All}
 use Rattle.std.proofs.lemmas.List.{get_or-map, length-map}
+use Rattle.std.proofs.lemmas.List.Elements.{All-map}
 use Rattle.header_boxes.proofs.Held.{holds_low, valid_if_within}
+use Rattle.header_boxes.specs.Cells.{IsAligned}
+use Rattle.header_boxes.specs.Rows.{IsTrueReport}
 use Rattle.header_boxes.specs.Terms.{AreTrueRows, IsFirst, IsFirstThrough, NoneThrough, low_of}
+use Rattle.block_report.proofs.Leaves.{leaf_count-told}
 use Rattle.block_report.specs.Reports.{HaveText, told_row, told_rows}
+use Rattle.block_report.specs.Trees.{NodesHaveText, told_nodes}
 use Rattle.box_walk.proofs.Texts.{ending_of-stop, stop_told}
 use Rattle.box_walk.specs.Asking.{Asking, asked, stop_of, stopped_of, whether, word_of}
 use Rattle.ordered_cover.specs.Cover.{IsBlocked, IsMore, IsSearched}
+use Rattle.ordered_cover.specs.Grown.{IsGrownTree}
 use Rattle.ordered_cover.specs.Joined.{AreJoined, CanJoin, GoesOn}
+use Rattle.ordered_cover.specs.Trees.{leaf_count, leaves_of}
 use Rattle.ordered_cover.specs.declared.rows.Searched.{Searched}
 use Rattle.ordered_cover.specs.declared.rows.Searched.TheVariants as searches
+use Rattle.ordered_cover.specs.declared.trees.Node.{Node}
+use Rattle.ordered_cover.proofs.Leaves.{leaves_are_counted, trees_are_reports}
 use Rattle.query_words.specs.declared.queries.Query.{Query}
 use Rattle.vpc_laws.proofs.Telling.{verdicts_are_told}
 use Rattle.vpc_laws.specs.Types.{Box5, Description, Header, Phase, Row, Stop, StopText}
 use Rattle.vpc_model.specs.Terms.{IsAccepted, IsCellCount, appliances_of, cuts_of, told_stop, verdict_of}
 use Rattle.network_reach.proofs.Told.{Tells, begun_told, first_told, none_through_told, ordered_told, outside_told, true_told, whole_told}
-use Rattle.network_reach.specs.Reached.{AreJoinedIn, GoesOnAlike, IsPartReportIn, IsQueryIn, IsReached, IsReportIn, meaning_in}
+use Rattle.network_reach.proofs.ToldTrees.{leaves_over-told, nodes_have_text, stand_for-told}
+use Rattle.network_reach.specs.Reached.{AreJoinedIn, GoesOnAlike, IsPartReportIn, IsQueryIn, IsReached, IsReportIn, IsTreeIn, meaning_in, most_rows}
 use Rattle.network_reach.specs.declared.reach.Reached.TheVariants as answers
 
 -- ---- the stops of a query's headers, and what is told of each
@@ -141,8 +152,9 @@ report d query rows is = record {
 }
 
 pub blocked_is : (d : Description) (query : Query) (rows : Vec (Row (Phase × Stop))) → IsAccepted d → IsQueryIn d query
-    → IsBlocked (stops_of d query) (cuts_of d) query.sides query.max rows.items → IsReached d query (answers.Blocked rows)
-blocked_is d query rows accepted asked is = (have-text d query rows.items accepted asked is.are_true, (report d query rows.items is, (is.few, (is.joined, told_are_joined d query rows.items is.are_true is.joined))))
+    → query.max ≤ most_rows → IsBlocked (stops_of d query) (cuts_of d) query.sides query.max rows.items → IsReached d query (answers.Blocked rows)
+blocked_is d query rows accepted asked listed is =
+    (listed, (have-text d query rows.items accepted asked is.are_true, (report d query rows.items is, (is.few, (is.joined, told_are_joined d query rows.items is.are_true is.joined)))))
 
 part-report : (d : Description) (query : Query) (rows : List (Row (Phase × Stop))) (next : Header) (n : ℕ)
     → IsCellCount d query.sides n → IsMore (stops_of d query) (cuts_of d) query.sides query.max rows next → NoneThrough (stops_of d query) query.sides
@@ -163,3 +175,51 @@ pub more_is : (d : Description) (query : Query) (rows : Vec (Row (Phase × Stop)
     → IsReached d query (answers.More rows next n)
 more_is d query rows next n accepted asked cells is none =
     (have-text d query rows.items accepted asked is.are_true, (part-report d query rows.items next n cells is none, (is.joined, told_are_joined d query rows.items is.are_true is.joined)))
+
+-- ---- trees
+
+tree : (d : Description) (query : Query) (nodes : List (Node (Phase × Stop))) → IsGrownTree (stops_of d query) (cuts_of d) query.sides query.max nodes
+    → IsTrueReport (stops_of d query) query.sides (leaves_of nodes query.sides) → IsTreeIn d query (told_nodes d nodes)
+tree d query nodes is report =
+    let leaves = leaves_of nodes query.sides in
+    let told = sym (leaves_over-told d nodes (query.sides ∷ [])) in
+    record {
+      tree = stand_for-told d nodes (query.sides ∷ []) ∙ is.tree;
+      report = subst (IsTrueReport (meaning_in d query) query.sides) told (record {
+        are_true = true_told (tell d) (stops_of d query) (meaning_in d query) query.sides leaves (tells d query) report.are_true;
+        holds_all = whole_told (tell d) query.sides leaves report.holds_all;
+      });
+      aligned = subst (All (λ (leaf : Row StopText). IsAligned (cuts_of d) leaf.part query.sides)) told
+          (All-map (λ (leaf : Row StopText). IsAligned (cuts_of d) leaf.part query.sides) (told_row d) leaves is.aligned);
+    }
+
+pub tree_is : (d : Description) (query : Query) (nodes : Vec (Node (Phase × Stop))) → IsAccepted d → IsQueryIn d query → most_rows < query.max
+    → IsGrownTree (stops_of d query) (cuts_of d) query.sides query.max nodes.items → IsReached d query (answers.Tree nodes)
+tree_is d query nodes accepted asked many is =
+    let leaves = leaves_of nodes.items query.sides in
+    let report = trees_are_reports (stops_of d query) nodes.items query.sides is.tree asked.sides is.word in
+    let few = is.few in
+    let count = leaves_are_counted nodes.items query.sides is.tree in
+    let told = leaf_count-told d nodes.items in (
+      many,
+      (
+        nodes_have_text d nodes.items query.sides is.tree (have-text d query leaves accepted asked report.are_true),
+        (tree d query nodes.items is report, omega (arith, few, count, told)),
+      ),
+    )
+
+-- of the same network, in a slice
+pub nodes_told_as : (d n : Description) (nodes given : List (Node (Phase × Stop))) → n ≡ d → given ≡ nodes → NodesHaveText d nodes → NodesHaveText n given
+nodes_told_as d n nodes given same are told = subst (λ (x : Description). NodesHaveText x given) (sym same) (subst (NodesHaveText d) (sym are) told)
+
+pub tree_as : (d n : Description) (query : Query) (nodes given : List (Node (Phase × Stop))) → n ≡ d → given ≡ nodes → IsTreeIn d query (told_nodes d nodes)
+    → IsTreeIn n query (told_nodes n given)
+tree_as d n query nodes given same are is =
+    subst (λ (x : Description). IsTreeIn x query (told_nodes x given)) (sym same)
+    (subst (λ (l : List (Node (Phase × Stop))). IsTreeIn d query (told_nodes d l)) (sym are) is)
+
+pub leaves_as : (d n : Description) (query : Query) (nodes given : List (Node (Phase × Stop))) → n ≡ d → given ≡ nodes → leaf_count (told_nodes d nodes) ≤ query.max
+    → leaf_count (told_nodes n given) ≤ query.max
+leaves_as d n query nodes given same are few =
+    subst (λ (x : Description). leaf_count (told_nodes x given) ≤ query.max) (sym same)
+    (subst (λ (l : List (Node (Phase × Stop))). leaf_count (told_nodes d l) ≤ query.max) (sym are) few)

@@ -1,12 +1,17 @@
 -- What is answered to a query, in the words of the model.
-use Rattle.std.specs.Prelude.{◌≡◌, ◌≤◌, List, Option, length, true, ℕ}
+use Rattle.std.specs.Prelude.{◌≡◌, ◌≤◌, ◌<◌, All, List, Option, length, true, ℕ}
 use Rattle.header_boxes.specs.Boxes.{IsValid, low_of}
-use Rattle.header_boxes.specs.Rows.{IsFirstThrough}
+use Rattle.header_boxes.specs.Cells.{IsAligned}
+use Rattle.header_boxes.specs.Rows.{IsFirstThrough, IsTrueReport}
 use Rattle.block_report.specs.Reports.{HaveText, told_rows}
+use Rattle.block_report.specs.Trees.{NodesHaveText, told_nodes}
 use Rattle.ordered_cover.specs.Joined.{AreJoined, GoesOn}
+use Rattle.ordered_cover.specs.Trees.{IsCutTree, leaf_count, leaves_of}
+use Rattle.ordered_cover.specs.declared.trees.Node.{Node}
 use Rattle.query_words.specs.declared.queries.Query.{Query}
 use Rattle.vpc_laws.specs.Types.{Box5, Description, Header, Row, StopText, Verdict}
 use Rattle.vpc_model.specs.Appliances.{appliances_of}
+use Rattle.vpc_model.specs.Cuts.{cuts_of}
 use Rattle.vpc_model.specs.Report.{IsOrderedReport, IsPartReport, meaning_of}
 use Rattle.vpc_model.specs.Sound.{is_end}
 use Rattle.vpc_model.specs.Verdict.{verdict_of}
@@ -28,6 +33,12 @@ meaning_in d query = meaning_of d (appliances_of d) query.start query.goal
 abbrev pub IsReportIn : Description → Query → List (Row StopText) → Type 0
 IsReportIn d query rows = IsOrderedReport d (appliances_of d) query.start query.goal query.sides rows
 
+-- a true tree of the query: a cut tree of its box whose leaves are a true report, each of them aligned to the cuts of the description
+pub record IsTreeIn (d : Description) (query : Query) (nodes : List (Node StopText)) : Type 0 where
+  pub tree : IsCutTree nodes query.sides
+  pub report : IsTrueReport (meaning_in d query) query.sides (leaves_of nodes query.sides)
+  pub aligned : All (λ leaf. IsAligned (cuts_of d) leaf.part query.sides) (leaves_of nodes query.sides)
+
 -- max ordered true rows that leave headers out
 abbrev pub IsPartReportIn : Description → Query → List (Row StopText) → Header → ℕ → Type 0
 IsPartReportIn d query rows next cells = IsPartReport d (appliances_of d) query.start query.goal query.sides query.max rows next cells
@@ -45,8 +56,14 @@ pub record GoesOnAlike (d : Description) (query : Query) (first other : Box5) : 
 abbrev pub AreJoinedIn : Description → Query → List (Row StopText) → Type 0
 AreJoinedIn d query rows = AreJoined (GoesOnAlike d query) rows
 
--- the first header that gets through; or an ordered true report of at most max rows; or max rows that leave headers out. No row could be one with the next
+-- a report of more boxes than so many is a tree
+abbrev pub most_rows : ℕ
+most_rows = 20000
+
+-- the first header that gets through; or an ordered true report of at most max rows, or a true tree of at most max leaves; or max rows that leave headers out. No row could be one with the next
 abbrev pub IsReached : Description → Query → Reached → Type 0
 IsReached d query (answers.Through h) = IsFirstThrough (meaning_in d query) query.sides h
-IsReached d query (answers.Blocked rows) = HaveText d rows.items × (IsReportIn d query (told_rows d rows.items) × ((length rows.items ≤ query.max) × (AreJoined GoesOn rows.items × AreJoinedIn d query (told_rows d rows.items))))
+IsReached d query (answers.Blocked rows) = (query.max ≤ most_rows) × (HaveText d rows.items × (IsReportIn d query (told_rows d rows.items) × ((length rows.items ≤ query.max) × (AreJoined GoesOn rows.items × AreJoinedIn d query (told_rows d rows.items)))))
+IsReached d query (answers.Tree nodes) =
+    (most_rows < query.max) × (NodesHaveText d nodes.items × (IsTreeIn d query (told_nodes d nodes.items) × (leaf_count (told_nodes d nodes.items) ≤ query.max)))
 IsReached d query (answers.More rows next cells) = HaveText d rows.items × (IsPartReportIn d query (told_rows d rows.items) next cells × (AreJoined GoesOn rows.items × AreJoinedIn d query (told_rows d rows.items)))

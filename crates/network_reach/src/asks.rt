@@ -1,9 +1,11 @@
 // What `ask` answers.
-ghost use Rattle.std.specs.Prelude.{◌≡◌, ◌≤◌, IfOk, length, map, string_bytes};
+ghost use Rattle.std.specs.Prelude.{◌≡◌, ◌≤◌, ◌<◌, IfOk, length, map, string_bytes};
 ghost use Rattle.block_report.specs.Reports.{HaveText, told_rows};
+ghost use Rattle.block_report.specs.Trees.{NodesHaveText, told_nodes};
+ghost use Rattle.ordered_cover.specs.Trees.{leaf_count};
 ghost use Rattle.header_boxes.specs.Rows.{IsFirstThrough};
-ghost use Rattle.network_reach.specs.Reached.{AreJoinedIn, IsPartReportIn, IsQueryIn, IsReportIn, meaning_in};
-ghost use Rattle.network_reach.specs.Asked.{IsAnswerTo, IsAsked, IsPut, IsReachable, IsReported, IsReportedInPart};
+ghost use Rattle.network_reach.specs.Reached.{AreJoinedIn, IsPartReportIn, IsQueryIn, IsReportIn, IsTreeIn, meaning_in, most_rows};
+ghost use Rattle.network_reach.specs.Asked.{IsAnswerTo, IsAsked, IsPut, IsReachable, IsReported, IsReportedAsTree, IsReportedInPart};
 ghost use Rattle.vpc_model.specs.Appliances.{appliances_of};
 
 use crate::reach::{Reached, reach};
@@ -13,9 +15,10 @@ use block_report::print_more;
 use command_job::{Answer, Job, Status, answer_job, refuse_query};
 use fabric::Fabric;
 use header_boxes::Row;
+use ordered_cover::Node;
 use query_words::{Query, read_query};
 use reference_check::Network;
-use report_reader::print_readable;
+use report_reader::{print_readable, print_readable_tree};
 use std::alloc::Global;
 use std::mem;
 use vpc_base::{Header, NoMemory};
@@ -54,6 +57,7 @@ fn answer_blocked(
 ) -> Result<Answer, NoMemory>
     requires query { IsPut n.now query.now }
     requires told { HaveText n.now rows.now }
+    requires listed { query.now.max ≤ most_rows }
     requires report { IsReportIn n.now query.now (told_rows n.now rows.now) }
     requires joined { AreJoinedIn n.now query.now (told_rows n.now rows.now) }
     requires few { length rows.now ≤ query.now.max }
@@ -61,6 +65,28 @@ fn answer_blocked(
         (a.status ≡ Status.No) × IsReported n.now query.now a.text.items) }
 {
     let text = print_readable(alloc, n, query.start, query.goal, &query.sides, rows)?;
+    Ok(Answer {
+        status: Status::No,
+        text,
+    })
+}
+
+// A tree whose leaves hold all headers of the query.
+fn answer_treed(
+    alloc: Global,
+    n: &Network,
+    query: &Query,
+    nodes: &[Node<(Phase, Stop)>],
+) -> Result<Answer, NoMemory>
+    requires query { IsPut n.now query.now }
+    requires many { most_rows < query.now.max }
+    requires told { NodesHaveText n.now nodes.now }
+    requires tree { IsTreeIn n.now query.now (told_nodes n.now nodes.now) }
+    requires few { leaf_count (told_nodes n.now nodes.now) ≤ query.now.max }
+    ensures { IfOk result (λ a.
+        (a.status ≡ Status.No) × IsReportedAsTree n.now query.now a.text.items) }
+{
+    let text = print_readable_tree(alloc, n, query.start, query.goal, &query.sides, nodes)?;
     Ok(Answer {
         status: Status::No,
         text,
@@ -120,6 +146,7 @@ impl<'a> Job for Asking<'a> {
         match reach(alloc, f, deciders, query)? {
             Reached::Through(header) => answer_through(alloc, f, deciders, query, &header),
             Reached::Blocked(rows) => answer_blocked(alloc, f.network(), query, rows.as_slice()),
+            Reached::Tree(nodes) => answer_treed(alloc, f.network(), query, nodes.as_slice()),
             Reached::More(rows, next, cells) => {
                 answer_more(alloc, f.network(), query, rows.as_slice(), &next, cells)
             }

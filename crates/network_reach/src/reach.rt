@@ -1,11 +1,11 @@
 // The answer to a query.
-ghost use Rattle.std.specs.Prelude.{◌≡◌, IfOk};
+ghost use Rattle.std.specs.Prelude.{◌≡◌, ◌≤◌, ◌<◌, IfOk};
 ghost use Rattle.box_walk.specs.Asking.{asked, word_of};
 ghost use Rattle.header_boxes.specs.Rows.{IsFirst, NoneThrough};
 ghost use Rattle.ordered_cover.specs.Cover.{IsMore, IsSearched};
 ghost use Rattle.vpc_model.specs.Appliances.{appliances_of};
 ghost use Rattle.vpc_model.specs.Cuts.{cuts_of};
-ghost use Rattle.network_reach.specs.Reached.{IsQueryIn, IsReached, meaning_in};
+ghost use Rattle.network_reach.specs.Reached.{IsQueryIn, IsReached, meaning_in, most_rows};
 
 use appliances::Deciders;
 use box_walk::{RoundProbe, ThroughProbe};
@@ -13,11 +13,14 @@ use cut_points::cells_in;
 use fabric::Fabric;
 use header_boxes::Row;
 use ordered_cover::search::{cover, first, first_within};
-use ordered_cover::{Cover, Searched};
+use ordered_cover::{Cover, Grown, Node, Searched, grow};
 use query_words::Query;
 use std::alloc::Global;
 use vpc_base::{Header, NoMemory};
 use vpc_model::{Phase, Stop};
+
+// A report of more boxes than so many is a tree.
+const MOST_ROWS: u32 = 20_000;
 
 // So many parts are asked of for a header that gets through before rows are made, where rows cost as little.
 const FEW_PARTS: u32 = 256;
@@ -29,6 +32,8 @@ pub enum Reached {
     Through(Header),
     /// None gets through: rows that hold all headers.
     Blocked(Vec<Row<(Phase, Stop)>>),
+    /// None gets through: a cut tree whose leaves hold all headers, where a report may have more boxes than 20,000.
+    Tree(Vec<Node<(Phase, Stop)>>),
     /// None gets through: as many rows as were allowed, the first header outside them, and the number of
     /// cells that the description's cuts make of the query.
     More(Vec<Row<(Phase, Stop)>>, Header, u128),
@@ -108,7 +113,7 @@ fn beyond(
 
 // The report of a query of which no request gets through. As many rows are asked for as it may have, and what comes
 // after them isn't.
-fn blocked(
+fn blocked_by_rows(
     alloc: Global,
     f: &Fabric,
     round: &RoundProbe,
@@ -118,6 +123,7 @@ fn blocked(
     requires round { asked round.now.fabric.now round.now.start round.now.goal
         ≡ asked f.now query.now.start query.now.goal }
     requires none { NoneThrough (meaning_in f.now query.now) query.now.sides }
+    requires few { query.now.max ≤ most_rows }
     ensures { IfOk result (IsReached f.now query.now) }
 {
     let d = f.network().description();
@@ -131,8 +137,8 @@ fn blocked(
     }
 }
 
-// The answer by rows. Those of a report are made at once, since they tell whether a header gets through as a search does.
-fn by_rows(
+// The same report as a tree, where it may have more boxes than rows.
+fn blocked_by_tree(
     alloc: Global,
     f: &Fabric,
     round: &RoundProbe,
@@ -141,6 +147,52 @@ fn by_rows(
     requires query { IsQueryIn f.now query.now }
     requires round { asked round.now.fabric.now round.now.start round.now.goal
         ≡ asked f.now query.now.start query.now.goal }
+    requires none { NoneThrough (meaning_in f.now query.now) query.now.sides }
+    requires many { most_rows < query.now.max }
+    ensures { IfOk result (IsReached f.now query.now) }
+{
+    let d = f.network().description();
+    match grow(alloc, round, query.sides, query.max)? {
+        Grown::Found(_) => unreachable!(),
+        Grown::Blocked(nodes) => Ok(Reached::Tree(nodes)),
+        Grown::More(rows, next) => {
+            let cells = cells_in(alloc, d, &query.sides)?;
+            Ok(Reached::More(rows, next, cells))
+        }
+    }
+}
+
+// The report of a query of which no request gets through.
+fn blocked(
+    alloc: Global,
+    f: &Fabric,
+    round: &RoundProbe,
+    query: &Query,
+) -> Result<Reached, NoMemory>
+    requires query { IsQueryIn f.now query.now }
+    requires round { asked round.now.fabric.now round.now.start round.now.goal
+        ≡ asked f.now query.now.start query.now.goal }
+    requires none { NoneThrough (meaning_in f.now query.now) query.now.sides }
+    ensures { IfOk result (IsReached f.now query.now) }
+{
+    if query.max <= MOST_ROWS {
+        blocked_by_rows(alloc, f, round, query)
+    } else {
+        blocked_by_tree(alloc, f, round, query)
+    }
+}
+
+// The answer by rows, at most as many as a report of rows may have. They are made at once, since they tell whether a header gets through as a search does.
+fn by_cover(
+    alloc: Global,
+    f: &Fabric,
+    round: &RoundProbe,
+    query: &Query,
+) -> Result<Reached, NoMemory>
+    requires query { IsQueryIn f.now query.now }
+    requires round { asked round.now.fabric.now round.now.start round.now.goal
+        ≡ asked f.now query.now.start query.now.goal }
+    requires few { query.now.max ≤ most_rows }
     ensures { IfOk result (IsReached f.now query.now) }
 {
     // That the network is accepted is a clause of this call.
@@ -152,9 +204,51 @@ fn by_rows(
     }
 }
 
+// The answer by a tree, where a report may have more boxes than rows.
+fn by_tree(
+    alloc: Global,
+    f: &Fabric,
+    round: &RoundProbe,
+    query: &Query,
+) -> Result<Reached, NoMemory>
+    requires query { IsQueryIn f.now query.now }
+    requires round { asked round.now.fabric.now round.now.start round.now.goal
+        ≡ asked f.now query.now.start query.now.goal }
+    requires many { most_rows < query.now.max }
+    ensures { IfOk result (IsReached f.now query.now) }
+{
+    // That the network is accepted is a clause of this call.
+    let _ = f.network().description();
+    match grow(alloc, round, query.sides, query.max)? {
+        Grown::Found(h) => Ok(Reached::Through(h)),
+        Grown::Blocked(nodes) => Ok(Reached::Tree(nodes)),
+        Grown::More(rows, next) => beyond(alloc, f, round, query, rows, next),
+    }
+}
+
+// The answer where the parts that were asked of tell nothing: the rows of a report, or the leaves of its tree, tell whether a
+// header gets through as a search does.
+fn by_boxes(
+    alloc: Global,
+    f: &Fabric,
+    round: &RoundProbe,
+    query: &Query,
+) -> Result<Reached, NoMemory>
+    requires query { IsQueryIn f.now query.now }
+    requires round { asked round.now.fabric.now round.now.start round.now.goal
+        ≡ asked f.now query.now.start query.now.goal }
+    ensures { IfOk result (IsReached f.now query.now) }
+{
+    if query.max <= MOST_ROWS {
+        by_cover(alloc, f, round, query)
+    } else {
+        by_tree(alloc, f, round, query)
+    }
+}
+
 /// Which requests of a query get through, with their replies, or what stops each of them. The first header that gets
 /// through is searched for first, by a probe that doesn't tell apart what stops the others: among a few parts where all requests
-/// are sent to one address, which answers most questions, else among all. Then rows are made. Their number limits the
+/// are sent to one address, which answers most questions, else among all. Then rows are made, or a tree where a report may have more than 20,000 boxes. Their number limits the
 /// report alone: where there are more, and some parts weren't searched, the search goes over all requests.
 ///
 /// Each part that is asked is as large as the rows on its two walks let it be. Only where rows are left out are
@@ -175,7 +269,7 @@ pub fn reach(
     match glance(alloc, f, &probe, query)? {
         Searched::Found(h) => Ok(Reached::Through(h)),
         Searched::Blocked => blocked(alloc, f, &probe, query),
-        Searched::Unfinished => by_rows(alloc, f, &probe, query),
+        Searched::Unfinished => by_boxes(alloc, f, &probe, query),
     }
 }
 

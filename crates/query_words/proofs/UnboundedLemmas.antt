@@ -5,7 +5,7 @@ use Rattle.std.proofs.lemmas.List.{get_or-drop, length-drop}
 use Rattle.vpc_laws.specs.Types.{Description}
 use Rattle.query_words.specs.Ends.{ends_of}
 use Rattle.query_words.specs.Laws.{HasNoMax, WithoutMaxQueriesAreOne}
-use Rattle.query_words.specs.Pairs.{has_pair, no_more, pair_or, pairs_of, ports_pair, read_max, read_ports, read_side}
+use Rattle.query_words.specs.Pairs.{has_pair, no_more, pair_or, pairs_of, ports_pair, read_most_boxes, read_ports, read_side}
 use Rattle.query_words.specs.Refusal.{◌>>=◌}
 use Rattle.query_words.specs.Sides.{sides_of}
 use Rattle.query_words.specs.Unbounded.{unbounded_pairs_of}
@@ -63,9 +63,9 @@ no_max_at words n none from = by (nat_lt n (length words)) refl
         ap (λ (w : List ℕ). bytes_eq w (codes "max")) (ap (λ (k : ℕ). slice_index_or words k []) (sym place) ∙ sym (get_or-drop 6 words (n - 7) [])) ∙ here
 
 without : (words : List (List ℕ)) (n : ℕ) (next : Taken ℕ → Result Pairs QueryRefusal) → has_pair (codes "max") words n ≡ false
-    → pair_or 20000 (codes "max") read_max words n >>= next ≡ next (record { value = 20000; next = n })
+    → pair_or 20000 (codes "max") read_most_boxes words n >>= next ≡ next (record { value = 20000; next = n })
 without words n next none =
-    ap (λ (b : Bool). cond b (read_max words (n + 1) >>= (λ a. Ok (record { value = a; next = n + 2 }))) (Ok (record { value = 20000; next = n })) >>= next) none
+    ap (λ (b : Bool). cond b (read_most_boxes words (n + 1) >>= (λ a. Ok (record { value = a; next = n + 2 }))) (Ok (record { value = 20000; next = n })) >>= next) none
 
 -- what is left to read after the five pairs
 module _ (words : List (List ℕ)) (proto : Taken ℕ) (src dst : Taken (Option (ℕ × ℕ))) (p : Taken (ℕ × ℕ)) where
@@ -76,7 +76,7 @@ module _ (words : List (List ℕ)) (proto : Taken ℕ) (src dst : Taken (Option 
   after_q q = end_of 20000 q.next q
 
   abbrev max_after_q : Taken (ℕ × ℕ) → Result Pairs QueryRefusal
-  max_after_q q = pair_or 20000 (codes "max") read_max words q.next >>= (λ max. end_of max.value max.next q)
+  max_after_q q = pair_or 20000 (codes "max") read_most_boxes words q.next >>= (λ max. end_of max.value max.next q)
 
   abbrev q_pair : Result (Taken (ℕ × ℕ)) QueryRefusal
   q_pair = ports_pair proto.value (codes "port") words p.next

@@ -47,15 +47,23 @@ read_ports words n = do
   ports ← read_as range_of words n
   some_ports n ports
 
--- a number of boxes that a report may have
-abbrev pub some_max : ℕ → Result ℕ QueryRefusal
-some_max m = if nat_le 1 m && nat_le m 20000 then Ok m else Err refusals.MaxOutOfRange
+-- a number of boxes, at most so many
+abbrev pub some_max : ℕ → ℕ → Result ℕ QueryRefusal
+some_max most m = if nat_le 1 m && nat_le m most then Ok m else Err refusals.MaxOutOfRange
 
--- N, a number of at most ten digits
-abbrev pub read_max : List (List ℕ) → ℕ → Result ℕ QueryRefusal
-read_max words n = do
+-- N, a number of at most ten digits, and at most so many
+abbrev pub read_max_to : ℕ → List (List ℕ) → ℕ → Result ℕ QueryRefusal
+read_max_to most words n = do
   m ← read_as (λ w. number_of w 9999999999) words n
-  some_max m
+  some_max most m
+
+-- the rows that `reach` and `diff` may print
+abbrev pub read_max : List (List ℕ) → ℕ → Result ℕ QueryRefusal
+read_max words n = read_max_to 20000 words n
+
+-- the boxes that a report of `ask` may have: more than 20,000 are the leaves of a tree
+abbrev pub read_most_boxes : List (List ℕ) → ℕ → Result ℕ QueryRefusal
+read_most_boxes words n = read_max_to 100000 words n
 
 -- ---- the pairs
 
@@ -73,7 +81,7 @@ pairs_of words = do
   dst ← pair_or None (codes "dst") read_side words src.next
   p ← ports_pair proto.value (codes "sport") words dst.next
   q ← ports_pair proto.value (codes "port") words p.next
-  max ← pair_or 20000 (codes "max") read_max words q.next
+  max ← pair_or 20000 (codes "max") read_most_boxes words q.next
   end ← no_more words max.next
   Ok (record { proto = proto.value; src = src.value; dst = dst.value; p = p.value; q = q.value; max = max.value })
 
@@ -90,4 +98,4 @@ pub record AreTaken (pairs : Pairs) : Type 0 where
   pub p : IsSide pairs.p
   pub q : IsSide pairs.q
   pub least : 1 ≤ pairs.max
-  pub most : pairs.max ≤ 20000
+  pub most : pairs.max ≤ 100000

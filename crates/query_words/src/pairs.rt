@@ -1,11 +1,11 @@
 // The pairs of a query: a name and a value each, in one order and each at most once.
 ghost use Rattle.std.specs.Prelude.{◌≡◌, ◌+◌, ◌≤◌, ◌<◌, IfOk, IfSome, IsTrue, None, codes, length};
 ghost use Rattle.query_words.specs.Pairs.{AreTaken, IsSide, has_pair, no_more, pair_or, pairs_of, ports_pair};
-ghost use Rattle.query_words.specs.Pairs.{read_max, read_ports, read_side};
+ghost use Rattle.query_words.specs.Pairs.{read_max_to, read_ports, read_side};
 ghost use Rattle.query_words.specs.Words.{proto_of, read_as};
 
 use crate::QueryRefusal;
-use crate::values::{MOST_BOXES, read_max, read_ports, read_side};
+use crate::values::{MOST_BOXES, MOST_ROWS, read_max, read_ports, read_side};
 use crate::words::{NumberedWords, has_ports, read_proto};
 
 const TCP: u8 = 6;
@@ -107,23 +107,26 @@ pub(crate) fn read_ports_pair<W: NumberedWords>(
     })
 }
 
+// At most so many, and 20,000 where the pair isn't there.
 pub(crate) fn read_max_pair<W: NumberedWords>(
     words: &W,
+    most: u32,
     next: usize,
 ) -> Result<Taken<u32>, QueryRefusal>
-    requires { 3 ≤ next }
+    requires next { 3 ≤ next }
+    requires most { 20000 ≤ most }
     ensures pair { result
-        ≡ pair_or 20000 (codes "max") read_max (W.words words.now) next }
+        ≡ pair_or 20000 (codes "max") (read_max_to most) (W.words words.now) next }
     ensures next { IfOk result (λ t. next ≤ t.next) }
-    ensures some { IfOk result (λ t. (1 ≤ t.value) × (t.value ≤ 20000)) }
+    ensures some { IfOk result (λ t. (1 ≤ t.value) × (t.value ≤ most)) }
 {
     if !has_pair(words, b"max", next) {
         return Ok(Taken {
-            value: MOST_BOXES,
+            value: MOST_ROWS,
             next,
         });
     }
-    let value = read_max(words, next + 1)?;
+    let value = read_max(words, most, next + 1)?;
     Ok(Taken {
         value,
         next: next + 2,
@@ -150,7 +153,7 @@ pub(crate) fn read_pairs<W: NumberedWords>(words: &W) -> Result<Pairs, QueryRefu
     let dst = read_side_pair(words, b"dst", src.next)?;
     let p = read_ports_pair(words, proto.value, b"sport", dst.next)?;
     let q = read_ports_pair(words, proto.value, b"port", p.next)?;
-    let max = read_max_pair(words, q.next)?;
+    let max = read_max_pair(words, MOST_BOXES, q.next)?;
     no_more(words, max.next)?;
     Ok(Pairs {
         proto: proto.value,

@@ -35,7 +35,7 @@ fn read_numbered<W: NumberedWords>(
     ensures answer { Answers (query_of n.now (W.words words.now)) result }
     ensures valid { IfOk result (λ q. IsValid q.sides) }
     ensures described { IfOk result (λ q. AreDescribed n.now q.start q.goal) }
-    ensures max { IfOk result (λ q. (1 ≤ q.max) × (q.max ≤ 20000)) }
+    ensures max { IfOk result (λ q. (1 ≤ q.max) × (q.max ≤ 100000)) }
 {
     let ends = read_ends(alloc, n, words)?;
     let pairs = read_pairs(words)?;
@@ -59,7 +59,7 @@ pub fn read_query(alloc: Global, n: &Network, words: &[String]) -> Result<Query,
     ensures answer { Answers (query_of n.now (map string_bytes words.now)) result }
     ensures valid { IfOk result (λ q. IsValid q.sides) }
     ensures described { IfOk result (λ q. AreDescribed n.now q.start q.goal) }
-    ensures max { IfOk result (λ q. (1 ≤ q.max) × (q.max ≤ 20000)) }
+    ensures max { IfOk result (λ q. (1 ≤ q.max) × (q.max ≤ 100000)) }
 {
     read_numbered(alloc, n, &CommandWords(words))
 }
@@ -72,7 +72,7 @@ pub fn read_line_query(alloc: Global, n: &Network, words: &[&[u8]]) -> Result<Qu
         (query_of n.now (codes "ask" ∷ [] ∷ map (λ w. w.now) words.now)) result }
     ensures valid { IfOk result (λ q. IsValid q.sides) }
     ensures described { IfOk result (λ q. AreDescribed n.now q.start q.goal) }
-    ensures max { IfOk result (λ q. (1 ≤ q.max) × (q.max ≤ 20000)) }
+    ensures max { IfOk result (λ q. (1 ≤ q.max) × (q.max ≤ 100000)) }
 {
     read_numbered(
         alloc,

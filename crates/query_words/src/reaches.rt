@@ -9,7 +9,7 @@ use crate::QueryRefusal;
 use crate::ends::read_end;
 use crate::pairs::{Taken, has_pair, no_more, read_max_pair, read_side_pair};
 use crate::sides::src_of;
-use crate::values::read_ports;
+use crate::values::{MOST_ROWS, read_ports};
 use crate::words::{CommandWords, LineWords, NumberedWords, has_ports, port_limit, read_proto};
 use reference_check::Network;
 use std::alloc::Global;
@@ -181,7 +181,7 @@ pub(crate) fn read_reach_pairs<W: NumberedWords>(
     let dst = read_side_pair(words, b"dst", src.next)?;
     let sport = read_ports_pair(words, proto.value, b"sport", dst.next)?;
     let port = read_ports_pair(words, proto.value, b"port", sport.next)?;
-    let max = read_max_pair(words, port.next)?;
+    let max = read_max_pair(words, MOST_ROWS, port.next)?;
     no_more(words, max.next)?;
     let ports = sport.value.is_some() || port.value.is_some();
     Ok(ReachPairs {

@@ -21,7 +21,8 @@ pub enum QueryRefusal {
     BothInternet,
     /// The word with this number is a range of ports whose first is greater than its last.
     EmptyRange(u64),
-    /// The greatest number of boxes in a report isn't between 1 and 20,000.
+    /// The greatest number of boxes in a report isn't between 1 and 100,000, or that of rows of `reach` or `diff` isn't between 1
+    /// and 20,000.
     MaxOutOfRange,
     /// A side that was left out is the primary private address of this interface, which has none
     /// (DescribeNetworkInterfaces, `PrivateIpAddress`).

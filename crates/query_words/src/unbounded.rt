@@ -11,7 +11,7 @@ use crate::ends::read_ends;
 use crate::pairs::{Pairs, no_more, read_ports_pair, read_proto_pair, read_side_pair};
 use crate::queries::Query;
 use crate::sides::sides_of;
-use crate::values::MOST_BOXES;
+use crate::values::MOST_ROWS;
 use crate::words::{CommandWords, NumberedWords};
 use reference_check::Network;
 use std::alloc::Global;
@@ -33,7 +33,7 @@ fn read_unbounded_pairs<W: NumberedWords>(words: &W) -> Result<Pairs, QueryRefus
         dst: dst.value,
         p: p.value,
         q: q.value,
-        max: MOST_BOXES,
+        max: MOST_ROWS,
     })
 }
 

@@ -29,6 +29,7 @@ some_if_yes d query status text (asks.through is answer) ended = record {
   through = through_if d _ answer.first.through;
 }
 some_if_yes d query status text (asks.blocked is answer) ended = let same : ends.No ≡ ends.Yes = sym is ∙ ended in absurd (cc)
+some_if_yes d query status text (asks.treed is answer) ended = let same : ends.No ≡ ends.Yes = sym is ∙ ended in absurd (cc)
 some_if_yes d query status text (asks.more is answer) ended = let same : ends.More ≡ ends.Yes = sym is ∙ ended in absurd (cc)
 
 asked_if_yes : (d : Description) (words : List (List ℕ)) (query : Query) (status : Status) (text : List ℕ) → query_of d words ≡ Ok query → IsAsked d words status text → status ≡ ends.Yes

@@ -5,6 +5,7 @@ use Rattle.std.proofs.lemmas.List.Elements.{All-more}
 use Rattle.std.proofs.lemmas.Option.{slice_get-get_or}
 use Rattle.box_walk.specs.Asking.{Asking}
 use Rattle.header_boxes.specs.Rows.{HasWord, IsFirst, IsFirstThrough, NoneThrough}
+use Rattle.report_reader.specs.Reports.{rows_of}
 use Rattle.report_reader.specs.declared.report.Report.{Report}
 use Rattle.vpc_laws.specs.Types.{Description, Header, Row, StopText, Verdict}
 use Rattle.vpc_model.specs.Appliances.{appliances_of}
@@ -43,7 +44,7 @@ true_more d r rows i row below is before none =
 
 -- the first of these rows that isn't true
 pub least_untrue_is : (d : Description) (r : Report) (rows : List (Row StopText)) (i number : ℕ) (row : Row StopText) (h : Header) (v : Verdict)
-    → rows ≡ r.rows → number ≡ i + 1 → i < length rows → row ≡ slice_index_or rows i row → AreTrue d r (take i rows)
+    → rows ≡ rows_of r → number ≡ i + 1 → i < length rows → row ≡ slice_index_or rows i row → AreTrue d r (take i rows)
     → v ≡ verdict_of d (appliances_of d) r.start r.goal h → IsFirstThrough (agreement_of d r.start r.goal row.word) row.part h
     → IsLeastUntrue d r number h v
 least_untrue_is d r rows i number row h v all count below is before verdict found =
@@ -51,8 +52,8 @@ least_untrue_is d r rows i number row h v all count below is before verdict foun
     record {
       row = row;
       numbered = omega arith;
-      stands = subst (λ (k : ℕ). slice_get r.rows k ≡ Some row) (sym index)
+      stands = subst (λ (k : ℕ). slice_get (rows_of r) k ≡ Some row) (sym index)
           (subst (λ (xs : List (Row StopText)). slice_get xs i ≡ Some row) all (slice_get-get_or rows i row below ∙ ap Some (sym is)));
       untrue = first_untrue_is d r row h v verdict found;
-      before = subst (λ (k : ℕ). AreTrue d r (take k r.rows)) (sym index) (subst (λ (xs : List (Row StopText)). AreTrue d r (take i xs)) all before);
+      before = subst (λ (k : ℕ). AreTrue d r (take k (rows_of r))) (sym index) (subst (λ (xs : List (Row StopText)). AreTrue d r (take i xs)) all before);
     }

@@ -5,6 +5,7 @@ use Rattle.vpc_laws.specs.Types.{Box5, Description, Header, Row, StopText, Verdi
 use Rattle.header_boxes.specs.Boxes.{AreDisjoint, holds}
 use Rattle.header_boxes.specs.Rows.{AreWhole, HasWord, IsFirstOutside, IsTrueReport}
 use Rattle.box_survey.specs.Survey.{IsLeastOverlap}
+use Rattle.report_reader.specs.Reports.{rows_of}
 use Rattle.report_reader.specs.declared.report.Report.{Report}
 use Rattle.vpc_model.specs.Appliances.{appliances_of}
 use Rattle.vpc_model.specs.Report.{ending_of, meaning_of}
@@ -39,9 +40,9 @@ pub record IsFirstUntrue (d : Description) (r : Report) (row : Row StopText) (h 
 pub record IsLeastUntrue (d : Description) (r : Report) (i : ℕ) (h : Header) (v : Verdict) : Type 0 where
   pub row : Row StopText
   pub numbered : 1 ≤ i
-  pub stands : slice_get r.rows (i - 1) ≡ Some row
+  pub stands : slice_get (rows_of r) (i - 1) ≡ Some row
   pub untrue : IsFirstUntrue d r row h v
-  pub before : AreTrue d r (take (i - 1) r.rows)
+  pub before : AreTrue d r (take (i - 1) (rows_of r))
 
 -- the first pair of rows, by their numbers from 1, that share a header
 pub record IsLeastPair (rows : List (Row StopText)) (i j : ℕ) : Type 0 where
@@ -49,16 +50,16 @@ pub record IsLeastPair (rows : List (Row StopText)) (i j : ℕ) : Type 0 where
   pub second : 1 ≤ j
   pub least : IsLeastOverlap (boxes_of rows) (i - 1) (j - 1)
 
--- the report is true
+-- the report is true: its rows are, which are the leaves where it is a tree
 abbrev pub IsReportTrue : Description → Report → Type 0
-IsReportTrue d r = IsTrueReport (meaning_in d r) r.sides r.rows
+IsReportTrue d r = IsTrueReport (meaning_in d r) r.sides (rows_of r)
 
--- the first of these that is so
+-- the first of these that is so; the leaves of a tree share no header and hold all
 abbrev pub IsChecked : Description → Report → Checked → Type 0
 IsChecked d r found.Yes = IsReportTrue d r
-IsChecked d r (found.Overlap i j) = IsLeastPair r.rows i j
-IsChecked d r (found.Uncovered h) = AreApart r.rows × IsFirstOutside r.sides r.rows h
-IsChecked d r (found.Untrue i h v) = AreApart r.rows × (AreWhole r.sides r.rows × IsLeastUntrue d r i h v)
+IsChecked d r (found.Overlap i j) = IsLeastPair (rows_of r) i j
+IsChecked d r (found.Uncovered h) = AreApart (rows_of r) × IsFirstOutside r.sides (rows_of r) h
+IsChecked d r (found.Untrue i h v) = AreApart (rows_of r) × (AreWhole r.sides (rows_of r) × IsLeastUntrue d r i h v)
 
 -- a report gets a yes exactly where it is true
 abbrev pub YesIsTruth : Type 0

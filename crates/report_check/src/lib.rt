@@ -5,6 +5,7 @@ mod checked;
 mod checks;
 mod command;
 mod laws;
+mod leaves;
 mod probe;
 mod rows;
 mod texts;

@@ -1,8 +1,8 @@
 // The rows of a report, one after the other.
-ghost use Rattle.std.specs.Prelude.{◌≡◌, IfOk};
+ghost use Rattle.std.specs.Prelude.{◌≡◌, ◌≤◌, All, IfOk, length};
 ghost use Rattle.header_boxes.specs.Boxes.{IsValid};
 ghost use Rattle.header_boxes.specs.Rows.{IsFirst};
-ghost use Rattle.report_reader.specs.Reports.{IsSoundReport};
+ghost use Rattle.report_reader.specs.Reports.{IsSoundReport, row_limit, rows_of};
 ghost use Rattle.vpc_model.specs.Appliances.{appliances_of};
 ghost use Rattle.report_check.specs.Agreement.{agreement_of};
 ghost use Rattle.report_check.specs.Rows.{IsRowSearch};
@@ -11,7 +11,7 @@ use crate::probe::RowProbe;
 use appliances::Deciders;
 use box_walk::RoundProbe;
 use fabric::Fabric;
-use header_boxes::Row;
+use header_boxes::{Box5, Row};
 use ordered_cover::search::first;
 use packet_emulator::round;
 use reference_check::Network;
@@ -31,20 +31,20 @@ pub struct Untrue {
     pub verdict: Verdict,
 }
 
-// The first header of a row that something else becomes of than the row says.
-fn first_other(
+// The first header of a box that something else becomes of than the text says.
+pub(crate) fn first_other(
     alloc: Global,
     n: &Network,
     walks: &RoundProbe,
-    row: &Row<StopText>,
+    part: Box5,
+    word: &StopText,
 ) -> Result<Option<Header>, NoMemory>
     requires network { walks.now.fabric.now ≡ n.now }
-    requires row { IsValid row.now.part }
-    ensures { IfOk result
-        (IsFirst (agreement_of n.now walks.now.start walks.now.goal row.now.word) row.now.part) }
+    requires part { IsValid part }
+    ensures { IfOk result (IsFirst (agreement_of n.now walks.now.start walks.now.goal word.now) part) }
 {
-    let probe = RowProbe::of(walks, n, &row.word);
-    first(alloc, &probe, row.part)
+    let probe = RowProbe::of(walks, n, word);
+    first(alloc, &probe, part)
 }
 
 /// The first row of a report that isn't true of all its headers, if there is one. The probe of walks is made once
@@ -55,18 +55,21 @@ pub fn first_untrue(
     f: &Fabric,
     deciders: &Deciders,
     report: &Report,
+    rows: &[Row<StopText>],
 ) -> Result<Option<Untrue>, NoMemory>
     requires appliances { deciders.now.appliances ≡ appliances_of f.now }
     requires report { IsSoundReport f.now report.now }
+    requires rows { rows.now ≡ rows_of report.now }
+    requires valid { All (λ row. IsValid row.part) rows.now }
+    requires few { length rows.now ≤ row_limit }
     ensures { IfOk result (IsRowSearch f.now report.now) }
 {
     let mut walks = RoundProbe::of(f, deciders, report.start, report.goal);
     walks.look_ahead(&report.sides);
-    let rows = report.rows.as_slice();
     let mut number = 0;
     for row in rows {
         number += 1;
-        if let Some(header) = first_other(alloc, f.network(), &walks, row)? {
+        if let Some(header) = first_other(alloc, f.network(), &walks, row.part, &row.word)? {
             let verdict = round(f, deciders, report.start, report.goal, header);
             return Ok(Some(Untrue {
                 number,

@@ -7,7 +7,7 @@ use Rattle.vpc_laws.specs.Types.{Description}
 use Rattle.command_job.specs.Files.{file_limit}
 use Rattle.command_job.specs.declared.status.Status.{Status}
 use Rattle.command_job.specs.declared.status.Status.TheVariants as ends
-use Rattle.network_reach.specs.Asked.{IsAnswerTo, IsAsked, report_about}
+use Rattle.network_reach.specs.Asked.{IsAnswerTo, IsAsked, report_about, tree_about}
 use Rattle.network_reach.specs.Asked as asks
 use Rattle.report_check.specs.Checked.{IsReportTrue}
 use Rattle.vpc_commands.specs.Terms.{Command, IsAnswered, IsDue, IsFault, command_of}
@@ -39,6 +39,8 @@ answer_is_true : (d : Description) (query : Query) (text : List ℕ) → IsAnswe
 answer_is_true d query text (asks.through status_is answer) = absurd (cc)
 answer_is_true d query text (asks.blocked status_is answer) =
     record { report = report_about query answer.rows; reads = answer.reads; short = answer.short; true_of = answer.report.report }
+answer_is_true d query text (asks.treed status_is answer) =
+    record { report = tree_about query answer.nodes; reads = answer.reads; short = answer.short; true_of = answer.tree.report }
 answer_is_true d query text (asks.more status_is answer) = absurd (cc)
 
 pub reported_is_true : (d : Description) (asked : List (List ℕ)) (text : List ℕ) → IsAsked d asked ends.No text → IsTrueText d text

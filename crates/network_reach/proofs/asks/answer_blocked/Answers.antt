@@ -9,13 +9,14 @@ print_readable-requires c = record {
   sides = c.requires.query.known.sides;
   rows = c.requires.told;
   within = c.requires.report.report.are_true.within;
-  few = omega (arith, c.requires.few, c.requires.query.few);
+  few = omega (arith, c.requires.few, c.requires.listed);
 }
 
 pub returns : goal.returns
 returns c = (
   refl,
   record {
+    listed = c.requires.listed;
     rows = told_rows c.args.n.now c.args.rows.now;
     report = c.requires.report;
     joined = c.requires.joined;

@@ -16,8 +16,8 @@ returns-in-Some g c =
     let row = c.row-item.result in
     let h = c.in-Some.header in
     let found = first_in c.network.result.now d _ _ row c.in_ok-header.field-0 c.network.ensures (c.look_ahead.ensures ∙ c.of-walks.ensures) c.in_ok-header.ensures in
-    least_untrue_is d r c.as_slice-rows.result.now c.loop-row.row-index (c.loop-row.number + 1) row h c.round-verdict.result
-    c.as_slice-rows.ensures (omega arith) (omega arith) c.row-item.is c.loop-row.invariant.before
+    least_untrue_is d r c.args.rows.now c.loop-row.row-index (c.loop-row.number + 1) row h c.round-verdict.result
+    c.requires.rows (omega arith) (omega arith) c.row-item.is c.loop-row.invariant.before
     (c.round-verdict.ensures ∙ ap (λ (a : Appliances). verdict_of d a r.start r.goal h) c.requires.appliances)
     (subst (λ (o : Option Header). IsFirst (agreement_of d r.start r.goal row.word) row.part o) c.in-Some.is found)
 
@@ -29,7 +29,7 @@ loop-row-preserved g c =
     let found = first_in c.network.result.now d _ _ row c.in_ok-header.field-0 c.network.ensures (c.look_ahead.ensures ∙ c.of-walks.ensures) c.in_ok-header.ensures in
     record {
       number = omega arith;
-      before = true_more d r c.as_slice-rows.result.now c.loop-row.row-index row (omega arith) c.row-item.is c.loop-row.invariant.before
+      before = true_more d r c.args.rows.now c.loop-row.row-index row (omega arith) c.row-item.is c.loop-row.invariant.before
           (subst (λ (o : Option Header). IsFirst (agreement_of d r.start r.goal row.word) row.part o) c.in_default.is found);
     }
 
@@ -37,4 +37,4 @@ pub returns : goal.returns
 returns g c =
     let d = c.args.f.now in
     let r = c.args.report.now in
-    subst (AreTrue d r) c.as_slice-rows.ensures (subst (AreTrue d r) (take_all c.loop-row.row-index c.as_slice-rows.result.now (omega arith)) c.loop-row.invariant.before)
+    subst (AreTrue d r) c.requires.rows (subst (AreTrue d r) (take_all c.loop-row.row-index c.args.rows.now (omega arith)) c.loop-row.invariant.before)

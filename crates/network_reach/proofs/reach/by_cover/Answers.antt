@@ -5,7 +5,7 @@ use Rattle.ordered_cover.specs.Cover.{IsBlocked, IsCover, IsMore}
 use Rattle.vpc_model.specs.Accepted.{IsAccepted}
 use Rattle.vpc_model.specs.Cuts.{cuts_of}
 use Rattle.network_reach.proofs.Reports.{blocked_is, through_is}
-use Rattle.network_reach.proofs.reach.by_rows.Goals as goal
+use Rattle.network_reach.proofs.reach.by_cover.Goals as goal
 
 pub returns-in-Found : goal.returns-in-Found
 returns-in-Found g c =
@@ -17,7 +17,7 @@ pub returns-in-Blocked : goal.returns-in-Blocked
 returns-in-Blocked g c =
     let p = c.args.round.now in
     let blocked = subst (IsCover (word_of (asked p.fabric.now p.start p.goal)) (cuts_of p.fabric.now) c.args.query.now.sides c.args.query.now.max) c.in-Blocked.is c.in_ok-h.ensures in
-    blocked_is c.args.f.now c.args.query.now c.in-Blocked.rows (subst IsAccepted c.network.ensures c.description.ensures.accepted) c.requires.query
+    blocked_is c.args.f.now c.args.query.now c.in-Blocked.rows (subst IsAccepted c.network.ensures c.description.ensures.accepted) c.requires.query c.requires.few
     (subst (λ (a : Asking). IsBlocked (word_of a) (cuts_of a.network) c.args.query.now.sides c.args.query.now.max c.in-Blocked.rows.items) c.requires.round blocked)
 
 pub beyond-requires-clause-more : goal.beyond-requires-clause-more
