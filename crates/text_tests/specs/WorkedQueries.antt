@@ -97,6 +97,7 @@ TakesPairs = AskAll
     ∷ (codes "from eni-a to eni-b port 80-80", a_to_b any_port (80, 80) 20000)
     ∷ (codes "from eni-a to eni-b max 1", a_to_b any_port any_port 1)
     ∷ (codes "from eni-a to eni-b max 20000", a_to_b any_port any_port 20000)
+    ∷ (codes "from eni-a to eni-b max 100000", a_to_b any_port any_port 100000)
     ∷ (codes "from eni-a to eni-b sport 5000-5000 max 3", a_to_b (5000, 5000) any_port 3)
     ∷ (
       codes "from internet to eni-a src 198.51.100.0/24 dst 203.0.113.10/32 port 22-22",
@@ -152,7 +153,7 @@ RefusesValues = AskAll
     ∷ (codes "from eni-a to eni-b sport 90-80 port 90-80", Err (refusals.EmptyRange 8))
     ∷ (codes "from eni-a to eni-b src 10.0.0.0/8 sport 2-1 max x", Err (refusals.EmptyRange 10))
     ∷ (codes "from eni-a to eni-b max 0", Err refusals.MaxOutOfRange)
-    ∷ (codes "from eni-a to eni-b max 20001", Err refusals.MaxOutOfRange)
+    ∷ (codes "from eni-a to eni-b max 100001", Err refusals.MaxOutOfRange)
     ∷ (codes "from eni-a to eni-b max 4294967296", Err refusals.MaxOutOfRange)
     ∷ (codes "from eni-a to eni-b max 9999999999", Err refusals.MaxOutOfRange)
     ∷ (codes "from eni-a to eni-b max 10000000000", Err (refusals.BadWord 8))

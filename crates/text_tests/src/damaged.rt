@@ -1,12 +1,14 @@
 // Whatever byte of a report is another one, it is no report, or one that prints as the damaged text.
 use block_report::{
-    phase_text, put, put_box_word, put_end, put_number_line, put_number_word, put_stop_words,
-    put_word,
+    phase_text, put, put_addr_word, put_box_word, put_end, put_number_line, put_number_word,
+    put_stop_words, put_word,
 };
+use box_images::Side;
 use bundle::read_bundle;
 use header_boxes::Row;
+use ordered_cover::Node;
 use reference_check::Network;
-use report_reader::{Report, read_report};
+use report_reader::{Report, Shape, read_report};
 use std::alloc::Global;
 use std::process::Abort;
 use std::test::Fail;
@@ -32,27 +34,95 @@ row 2 reply AclOut acl-b 32767 6-6 10.0.1.10-10.0.1.10 10.0.2.20-10.0.2.20 1024-
 end 2
 ";
 
-fn put_row(out: &mut Vec<u8>, number: u128, row: &Row<StopText>) -> Result<(), NoMemory> {
-    let told = &row.word;
-    put(out, b"row")?;
-    put_number_word(out, number)?;
+const THREE_LEAVES: &[u8] = b"vpc-report 2
+query from eni-a to eni-b
+box 6-6 10.0.1.0-10.0.1.255 10.0.2.20-10.0.2.20 0-32767 443-443
+cut src 10.0.1.16
+cut p 1024
+leaf reply AclOut acl-b 32767
+leaf request GroupsIn eni-b -
+leaf request SourceCheck eni-a -
+end 3
+";
+
+fn put_told(out: &mut Vec<u8>, told: &StopText) -> Result<(), NoMemory> {
     put_word(out, phase_text(told.phase))?;
     put(out, b" ")?;
-    put_stop_words(out, told.name, told.id.bytes(), told.rule.bytes())?;
+    put_stop_words(out, told.name, told.id.bytes(), told.rule.bytes())
+}
+
+fn put_row(out: &mut Vec<u8>, number: u128, row: &Row<StopText>) -> Result<(), NoMemory> {
+    put(out, b"row")?;
+    put_number_word(out, number)?;
+    put_told(out, &row.word)?;
     put_box_word(out, &row.part)?;
     put_end(out)
 }
 
-// The text of a report from the first interface to the second, from what was read of it.
-fn put_report(out: &mut Vec<u8>, report: &Report) -> Result<(), NoMemory> {
-    put(out, b"vpc-report 1\nquery from eni-a to eni-b\nbox")?;
-    put_box_word(out, &report.sides)?;
-    put_end(out)?;
-    let rows = report.rows.as_slice();
+fn put_rows(out: &mut Vec<u8>, rows: &[Row<StopText>]) -> Result<(), NoMemory> {
     for (k, row) in rows.iter().enumerate() {
         put_row(out, k as u128 + 1, row)?;
     }
     put_number_line(out, b"end", rows.len() as u128)
+}
+
+fn put_cut(out: &mut Vec<u8>, side: Side, number: u32) -> Result<(), NoMemory> {
+    put(out, b"cut ")?;
+    match side {
+        Side::Proto => {
+            put(out, b"proto")?;
+            put_number_word(out, u128::from(number))?;
+        }
+        Side::Src => {
+            put(out, b"src")?;
+            put_addr_word(out, number)?;
+        }
+        Side::Dst => {
+            put(out, b"dst")?;
+            put_addr_word(out, number)?;
+        }
+        Side::P => {
+            put(out, b"p")?;
+            put_number_word(out, u128::from(number))?;
+        }
+        Side::Q => {
+            put(out, b"q")?;
+            put_number_word(out, u128::from(number))?;
+        }
+    }
+    put_end(out)
+}
+
+fn put_leaf(out: &mut Vec<u8>, told: &StopText) -> Result<(), NoMemory> {
+    put(out, b"leaf")?;
+    put_told(out, told)?;
+    put_end(out)
+}
+
+// A tree has one leaf more than cuts.
+fn put_nodes(out: &mut Vec<u8>, nodes: &[Node<StopText>]) -> Result<(), NoMemory> {
+    for node in nodes {
+        match node {
+            Node::Cut(side, number) => put_cut(out, *side, *number)?,
+            Node::Leaf(told) => put_leaf(out, told)?,
+        }
+    }
+    put_number_line(out, b"end", (nodes.len() as u128 + 1) / 2)
+}
+
+// The text of a report from the first interface to the second, from what was read of it.
+fn put_report(out: &mut Vec<u8>, report: &Report) -> Result<(), NoMemory> {
+    match &report.shape {
+        Shape::List(_) => put(out, b"vpc-report 1")?,
+        Shape::Tree(_) => put(out, b"vpc-report 2")?,
+    }
+    put(out, b"\nquery from eni-a to eni-b\nbox")?;
+    put_box_word(out, &report.sides)?;
+    put_end(out)?;
+    match &report.shape {
+        Shape::List(rows) => put_rows(out, rows.as_slice()),
+        Shape::Tree(nodes) => put_nodes(out, nodes.as_slice()),
+    }
 }
 
 // Whether this text is no report, or that of what is read of it; and whether it is a report.
@@ -67,11 +137,11 @@ fn is_told(alloc: Global, n: &Network, text: &[u8]) -> (bool, bool) {
     }
 }
 
-fn tells_damage(rt: &impl Abort, alloc: Global, n: &Network) -> Result<(), Fail> {
-    assert_eq!(rt; is_told(alloc, n, TWO_ROWS), (true, true));
-    for k in 0..TWO_ROWS.len() {
+fn tells_damage(rt: &impl Abort, alloc: Global, n: &Network, whole: &[u8]) -> Result<(), Fail> {
+    assert_eq!(rt; is_told(alloc, n, whole), (true, true));
+    for k in 0..whole.len() {
         for bits in [1, 2, 4, 16, 64] {
-            let mut text = TWO_ROWS.to_vec(alloc)?;
+            let mut text = whole.to_vec(alloc)?;
             if let Some(c) = text.get_mut(k) {
                 *c ^= bits;
             }
@@ -85,7 +155,10 @@ fn tells_damage(rt: &impl Abort, alloc: Global, n: &Network) -> Result<(), Fail>
 #[test]
 fn reads_damaged_reports(rt: HostRuntime) -> Result<(), Fail> {
     match read_bundle(rt.alloc(), BUNDLE.as_bytes()) {
-        Ok(n) => tells_damage(&rt, rt.alloc(), &n),
+        Ok(n) => {
+            tells_damage(&rt, rt.alloc(), &n, TWO_ROWS)?;
+            tells_damage(&rt, rt.alloc(), &n, THREE_LEAVES)
+        }
         Err(_) => Err(Fail::new("the bundle makes no network")),
     }
 }
