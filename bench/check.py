@@ -78,7 +78,7 @@ def main():
         head, rows = reported(path, query)
         refused = os.path.join(OUT, "check-refused.txt")
         with open(refused, "w") as file:
-            file.write("vpc-report 2\n")
+            file.write("vpc-report 3\n")
         once, _ = measured([program(), "check", path, refused], 4)
         for form, change, answer in FORMS:
             text = os.path.join(OUT, f"check-{made.__name__}-{count}.txt")

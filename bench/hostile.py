@@ -216,6 +216,7 @@ def flats(count, kinds):
 
 
 STICKS = [(1, 2), (1, 3), (2, 3)]
+CUTS = 2_700_000  # in 60 MiB
 PLATES = [(a, b, c) for a in range(5) for b in range(a + 1, 5) for c in range(b + 1, 5)]
 
 
@@ -234,6 +235,12 @@ def one_overlap(count):
 def concentric(count):
     """Each box within the one before it."""
     return report([[WHOLE[0], (k, 2**32 - 1 - k), (k, 2**32 - 1 - k), (k, 65535 - k), (k, 65535 - k)] for k in range(count)])
+
+
+def cuts_alone(count):
+    """A tree that is nothing but cuts, each below the one before it."""
+    cuts = [f"cut src {accounts.dotted(2**32 - 1 - k)}" for k in range(count)]
+    return "\n".join(["vpc-report 2", "query from eni-a to eni-b", f"box {told(WHOLE)}", *cuts, ""])
 
 
 # ---- events
@@ -429,6 +436,8 @@ def reports():
         for count in counts:
             path = text_file(f"hostile-flats-{count}.txt", lambda n, kinds=kinds: report(flats(n, kinds)), count)
             line(f"{shape}: {count:,}", path, ["check", BEHIND, path], 1, False)
+    path = text_file("hostile-cuts.txt", cuts_alone, CUTS)
+    line(f"cuts alone: {CUTS:,}", path, ["check", BEHIND, path], 4, False)
 
 
 def events():

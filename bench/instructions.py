@@ -46,7 +46,7 @@ def asked(name, make, count, query):
     printed = subprocess.run([program(), *words], stdout=subprocess.PIPE, check=False).stdout.decode()
     if printed.startswith("vpc-report 1"):
         report = told(f"instructions-{make.__name__}.txt", printed)
-        yield f"`check`, {name}", ["check", path, report], ["check", path, told("instructions-bad.txt", "vpc-report 2\n")]
+        yield f"`check`, {name}", ["check", path, report], ["check", path, told("instructions-bad.txt", "vpc-report 3\n")]
 
 
 def replayed(name, make):

@@ -87,6 +87,11 @@ has_ports() {
     case $1 in tcp | udp | icmp | 1 | 6 | 17) ;; *) return 1 ;; esac
 }
 
+# How many rows a command prints at most.
+most_rows() {
+    case $command in ask) echo 100000 ;; *) echo 20000 ;; esac
+}
+
 # Tells why a word ($3) of a place of some kind ($1) isn't of its form; $2 is how it is named.
 tell_of_word() {
     case $1 in
@@ -120,7 +125,7 @@ tell_of_word() {
             tell "$2, is no range of ports: write two numbers from 0 to 65535, as in 1024-65535"
         fi
         ;;
-    N) tell "$2, is no number from 1 to 20000" ;;
+    N) tell "$2, is no number from 1 to $(most_rows)" ;;
     name) tell_of_name "$2" "$3" ;;
     '') tell "$2, isn't of the form that belongs there: ./vpc $command $form" ;;
     *) tell "$2, has to be $1: ./vpc $command $form" ;;
@@ -234,7 +239,7 @@ refused_query() {
     NotAnEnd) tell "$(shown "$of") belongs to a gateway, which sends no packets of its own: ask about the host behind it" ;;
     NoAddress) tell "$(shown "$of") has no primary address, which is meant where src or dst is left out: say which" ;;
     BothInternet) tell 'both ends are the internet: one has to be an interface' ;;
-    MaxOutOfRange) tell "$(named $# "$@"), is no number from 1 to 20000" ;;
+    MaxOutOfRange) tell "$(named $# "$@"), is no number from 1 to $(most_rows)" ;;
     esac
 }
 
@@ -339,7 +344,13 @@ refused_line() {
     esac
     case $2 in
     TooBig) tell "$name is longer than 64 MiB" ;;
-    TooManyBoxes) tell "line $3 of $name is a row past the 20,000 that are read: ask about a part" ;;
+    TooManyBoxes)
+        case $(head -c 13 -- "$file" | tr '\0' '?') in
+        'vpc-report 2') what='a leaf past the 100,000' ;;
+        *) what='a row past the 20,000' ;;
+        esac
+        tell "line $3 of $name is $what that are read: ask about a part"
+        ;;
     *)
         is_number "$2" || return 0
         ! tell_of_kind "$file" "$name" || return 0

@@ -30,8 +30,6 @@ LISTS = {
     "TransitGatewayRoutes": "TransitGatewayRouteTableId",
     "Appliances": "NetworkInterfaceId",
 }
-# What may stand beside them, which vpc reads over. (EC2 answers the options as one object)
-BESIDE = ("Reservations", "VpcBlockPublicAccessOptions", "VpcBlockPublicAccessExclusions")
 # The members of a route that may name its target: the first that is there does.
 TARGETS = (
     "GatewayId NatGatewayId TransitGatewayId VpcPeeringConnectionId NetworkInterfaceId InstanceId "

@@ -10,18 +10,22 @@ from typing import Any, NamedTuple, Optional
 from scripts.bundles import TARGETS, Names, Row, member, rows
 from scripts.commands import ODD, Refused, read_objects
 from scripts.headers import Block, Header, address, block_of
-from scripts.words import USABLE
+from scripts.words import ATTACHED, USABLE
 
 
 class Vpc(NamedTuple):
+    """`access` is its mode of Block Public Access, where that is told."""
+
     id: str
     blocks: list[Block]
+    access: Optional[str]
 
 
 class Subnet(NamedTuple):
     id: str
     vpc: str
     zone: str
+    access: Optional[str]
 
 
 class Interface(NamedTuple):
@@ -133,6 +137,9 @@ TARGET_KINDS = {
     "VpcPeeringConnectionId": "peering",
     "NetworkInterfaceId": "interface",
 }
+ACCESS_MODES = ("off", "block-ingress", "block-bidirectional")
+# The states of instances whose interfaces send and receive packets.
+RUNNING = ("pending", "running")
 PROTOCOL_WORDS = {"-1": None, "tcp": 6, "udp": 17, "icmp": 1, "icmpv6": 58}
 
 
@@ -163,7 +170,14 @@ def vpc_of(row: Row) -> Vpc:
         it["CidrBlock"] for it in items(row, "CidrBlockAssociationSet")
         if member(it, "CidrBlockState", "State") in (None, "associated")
     ]
-    return Vpc(row["VpcId"], [block_of(it) for it in dict.fromkeys([row["CidrBlock"], *more])])
+    blocks = [block_of(it) for it in dict.fromkeys([row["CidrBlock"], *more])]
+    return Vpc(row["VpcId"], blocks, access_of(row))
+
+
+def access_of(row: Row) -> Optional[str]:
+    """The mode of Block Public Access that a VPC or a subnet tells."""
+    mode = member(row, "BlockPublicAccessStates", "InternetGatewayBlockMode")
+    return None if mode is None else ACCESS_MODES[ACCESS_MODES.index(mode)]
 
 
 def interface_of(row: Row) -> Interface:
@@ -286,11 +300,14 @@ class Network:
                 lists[name] += found if isinstance(found, list) else []
         self.vpcs = {it["VpcId"]: vpc_of(it) for it in lists["Vpcs"]}
         self.subnets = {
-            it["SubnetId"]: Subnet(it["SubnetId"], it["VpcId"], it["AvailabilityZone"])
+            it["SubnetId"]: Subnet(
+                it["SubnetId"], it["VpcId"], it["AvailabilityZone"], access_of(it)
+            )
             for it in lists["Subnets"]
         }
         interfaces = lists["NetworkInterfaces"]
         self.interfaces = {it["NetworkInterfaceId"]: interface_of(it) for it in interfaces}
+        self.read_instances(lists["Reservations"])
         self.read_tables(lists["RouteTables"])
         self.read_lists(lists["PrefixLists"], lists["PrefixListEntries"])
         self.read_acls(lists["NetworkAcls"])
@@ -301,6 +318,17 @@ class Network:
         self.appliances = {it["NetworkInterfaceId"]: appliance_of(it) for it in lists["Appliances"]}
         self.names = Names(objects)
         self.index_addresses()
+
+    def read_instances(self, reservations: list[Any]) -> None:
+        """The instances that don't run, by their interfaces: the first of each, and its state."""
+        self.stopped: dict[str, tuple[str, str]] = {}
+        # (a reservation that is no object tells of none)
+        objects = (row for row in reservations if isinstance(row, dict))
+        for it in (it for row in objects for it in items(row, "Instances")):
+            name, state = it["InstanceId"], member(it, "State", "Name")
+            if state is not None and state not in RUNNING:
+                for eni in items(it, "NetworkInterfaces"):
+                    self.stopped.setdefault(eni["NetworkInterfaceId"], (name, state))
 
     def read_tables(self, found: list[Row]) -> None:
         self.tables: dict[str, RouteTable] = {}
@@ -370,7 +398,7 @@ class Network:
         for row in gateways:
             attached = [
                 it["VpcId"] for it in items(row, "Attachments")
-                if it["State"] in ("available", "attached")
+                if it["State"] in ATTACHED
             ]
             self.igws[row["InternetGatewayId"]] = attached
             for it in attached:
@@ -423,6 +451,20 @@ class Network:
                 self.members.setdefault(group, {}).update(own)
 
     # -- what one component does with a header
+
+    def is_idle(self, interface: Interface) -> bool:
+        """Whether it is attached to nothing, or to an instance that doesn't run."""
+        return interface.idle or interface.id in self.stopped
+
+    def mode_of(self, subnet: str) -> str:
+        """The mode of Block Public Access: its own, else that of its VPC."""
+        found = self.subnets[subnet]
+        return found.access or self.vpcs[found.vpc].access or "off"
+
+    def is_blocked(self, interface: Interface) -> bool:
+        """Whether public access of an interface is blocked."""
+        mode, nat = self.mode_of(interface.subnet), self.nat_at.get(interface.id)
+        return mode == "block-bidirectional" or (mode == "block-ingress" and not nat)
 
     def table_at(self, subnet: str) -> RouteTable:
         return self.table_of_subnet.get(subnet) or self.main_of[self.subnets[subnet].vpc]

@@ -22,11 +22,6 @@ ANOTHER = "or be deleted, so that another one is chosen"
 # The two sentences of each stop. A word in braces is that of Why, of the packet and the component;
 # stops that aren't here have a method there.
 SENTENCES = {
-    "Detached": (
-        "{s.it} is attached to nothing (its status is available), so no packet leaves it or comes "
-        "to it.",
-        "{s.it} would have to be attached to an instance.",
-    ),
     "SourceCheck": (
         "{s.its_source} is none of the private addresses of {s.it} ({s.addresses}), and its "
         "source/destination check is on.",
@@ -393,6 +388,35 @@ class Why:
             yield f"{named(it)}, which {dotted(far)} belongs to, doesn't count here: it {why}."
 
     # -- other stops whose sentences differ by what is known
+
+    def stop_detached(self) -> tuple[str, str]:
+        none = "so no packet leaves it or comes to it."
+        if self.interface.idle:
+            why = f"{self.it} is attached to nothing (its status is available), {none}"
+            return why, f"{self.it} would have to be attached to an instance."
+        name, state = self.network.stopped[self.stop.id]
+        instance = f"instance {harmless(name)}"
+        why = f"{self.it} is an interface of {instance}, whose state is {harmless(state)}, {none}"
+        return why, f"{instance} would have to be running."
+
+    def stop_blockpublicaccess(self) -> tuple[str, str]:
+        network, named = self.network, self.teller.named
+        found, end = network.subnets[self.stop.id], self.facts.get("end")
+        vpc, is_ingress = named(found.vpc), self.rule == "block-ingress"
+        carried = "carries nothing from or to its interfaces"
+        carried += " but what its NAT gateways open, and the answers to that" * is_ingress
+        by = f", as that of VPC {vpc} is" if found.access is None else ""
+        mode = f"block public access of {self.it} is {self.rule}{by}"
+        why = [f"{mode}: an internet gateway {carried}."]
+        if end and self.h:
+            own = (self.h.dst, "a public address")
+            own = (self.h.src, "an address") if self.facts["outward"] else own
+            why.append(f"{dotted(own[0])} is {own[1]} of {named(end.id)}, which is there.")
+        modes = "off or block-ingress" if end and end.id in network.nat_at else "off"
+        where = f"by an exclusion of {self.it} or of {vpc}, or for the whole account"
+        is_out = is_ingress and end and self.facts["outward"]
+        other = ", or the route to lead to a NAT gateway" if is_out else ""
+        return " ".join(why), f"it would have to be {modes} there, {where}{other}."
 
     def stop_notahost(self) -> tuple[str, str]:
         at = f" at {dotted(self.h.dst)}" if self.h else ""

@@ -6,7 +6,7 @@ from __future__ import annotations
 from collections.abc import Iterator, Sequence
 from typing import Any, NamedTuple, Optional, Union
 
-from scripts.explain_network import Network, Route, is_unroutable
+from scripts.explain_network import Interface, Network, Route, is_unroutable
 from scripts.headers import Header, reply_of
 from scripts.texts import (
     AclVerdict, ChosenRoute, Decision, End, Hop, NoText, Stopped, Walk, Why,
@@ -28,6 +28,7 @@ HOMES = {
     "acls": "AclOut AclIn",
     "vpcs": "NoHost NoGateway",
     "igws": "GatewayDetached NoPublic",
+    "subnets": "BlockPublicAccess",
     "nats": "NatNotAvailable NatAnswer NatProtocol NatFull NatUnsolicited",
     "peerings": "PeerNotActive PeerSource PeerDestination",
     "attachments": "TgwNoZone TgwNoTable",
@@ -58,6 +59,10 @@ def home_of(name: str) -> Optional[str]:
 def bare_stop(network: Network, stop: Stopped) -> Stop:
     """A stop of which the packet isn't told."""
     known(network, home_of(stop.name), stop.id)
+    if stop.name == "BlockPublicAccess" and stop.rule != network.mode_of(stop.id):
+        raise NoText(f"block public access of {stop.id} is {network.mode_of(stop.id)}")
+    if stop.name == "Detached" and not network.is_idle(network.interfaces[stop.id]):
+        raise NoText(f"{stop.id} is attached, and to no instance that doesn't run")
     return Stop(stop.name, stop.id, stop.rule, {})
 
 
@@ -129,6 +134,8 @@ class Way:
             facts = {}
         elif name in ("AclOut", "AclIn"):
             facts.update(self.acl_facts(self.end, name == "AclOut"))
+        elif name == "BlockPublicAccess":
+            facts.update(access_facts(self.network, self.end.id, self.last.header))
         else:
             facts.update(getattr(self, f"at_{self.last.place.replace('-', '_')}")())
         return Stop(name, self.end.id, self.end.rule, facts)
@@ -205,7 +212,19 @@ def may_stop(network: Network, stop: Stopped, h: Header) -> bool:
         return stop.rule in held if name == "Blackhole" else not held
     if name == "NoHost":
         return not network.host_of(stop.id, h.dst)
+    if name == "BlockPublicAccess":
+        return bool(access_facts(network, stop.id, h))
     return True
+
+
+def access_facts(network: Network, subnet: str, h: Header) -> dict[str, Any]:
+    """The interface of a subnet, whose public access is blocked there, by whose public address a
+    packet goes out, else comes in; nothing where there is none."""
+    sender, owner = network.host_of(network.subnets[subnet].vpc, h.src), network.owner_of.get(h.dst)
+    for outward, end in ((True, sender), (False, owner[0] if owner else None)):
+        if end and end.subnet == subnet and network.is_blocked(end):
+            return {"end": end, "outward": outward}
+    return {}
 
 
 def stops_first(network: Network, start: str, stop: Stopped, h: Header) -> bool:
@@ -229,6 +248,8 @@ def reply_stop(network: Network, stop: Stopped, request: Walk) -> Stop:
         subnets = network.acls[stop.id].subnets
         facts["row"] = network.row_numbered(stop.id, stop.name == "AclOut", stop.rule)
         facts["subnet"] = subnets[0] if len(subnets) == 1 else None
+    if stop.name == "BlockPublicAccess":
+        facts.update(access_facts(network, stop.id, found[0]))
     # (of these the header alone doesn't make the sentences)
     return bare if stop.name in NEED_MORE else Stop(stop.name, stop.id, stop.rule, facts)
 

@@ -65,6 +65,14 @@ def is_within(box: Box, whole: Box) -> bool:
     return True
 
 
+def with_side(box: Box, side: int, ends: Range) -> Box:
+    """A box with other ends of one side."""
+    sides = list(box)
+    sides[side] = ends
+    proto, src, dst, p, q = sides
+    return proto, src, dst, p, q
+
+
 class Block(NamedTuple):
     """The addresses that begin with some bits of one."""
 

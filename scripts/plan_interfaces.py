@@ -189,12 +189,28 @@ class InterfaceChanges(Applying):
             self.attach(row, it["instance"], it.get("device_index"))
 
     def attach(self, row: Row, instance: Any, index: Any) -> None:
+        self.leave_instances(row)
         row["Attachment"] = {"DeviceIndex": index, "InstanceId": instance, "Status": "attached"}
         row["Status"] = "in-use"
+        for it in self.bundle.instances():
+            if it.get("InstanceId") == instance:
+                own = {"NetworkInterfaceId": row["NetworkInterfaceId"]}
+                room(it, "NetworkInterfaces").append(own)
 
     def detach(self, row: Row) -> None:
+        self.leave_instances(row)
         row.pop("Attachment", None)
         row["Status"] = "available"
+
+    def leave_instances(self, row: Row) -> None:
+        """An interface goes by the state of its instance: no other one names it."""
+        for it in self.bundle.instances():
+            found = it.get("NetworkInterfaces")
+            if isinstance(found, list):
+                it["NetworkInterfaces"] = [
+                    eni for eni in found
+                    if member(eni, "NetworkInterfaceId") != row["NetworkInterfaceId"]
+                ]
 
     def interface_of(self, change: Change) -> Row:
         return self.named(change, "NetworkInterfaceId", "network_interface_id")

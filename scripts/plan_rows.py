@@ -134,14 +134,18 @@ class Bundle:
         found = self.one_of_vpc("SecurityGroups", vpc, is_named, f"group {shown(name)}")
         return found["GroupId"]
 
+    def instances(self) -> Iterator[Row]:
+        """What is told of instances, in Reservations."""
+        for it in (row for part in self.objects for row in rows(part, "Reservations")):
+            yield from rows(it, "Instances")
+
     def interfaces_of(self, instance: Optional[str]) -> list[Row]:
         """The interfaces of an instance: by their attachments, or by what is told of the instance
         where they don't tell it."""
         if instance is None:
             return []
         told = [
-            eni.get("NetworkInterfaceId") for part in self.objects
-            for it in rows(part, "Reservations") for row in rows(it, "Instances")
+            eni.get("NetworkInterfaceId") for row in self.instances()
             if row.get("InstanceId") == instance for eni in rows(row, "NetworkInterfaces")
         ]
         return [

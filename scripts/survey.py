@@ -6,10 +6,12 @@ its ids.
 
     not followed: route rtb-1 10.9.0.0/16 to vgw-1: packets stop there as Unmodelled
     not followed: 12 route tables with routes of IPv6, as rtb-2: every answer is about IPv4 alone
+    not told: block public access of subnet-1
 
-docs/LIMITS.md says more of each, and what AWS does that no bundle tells. A bundle without
-interfaces, as of a region that nobody uses, is told by a line that begins with `no interfaces`.
-Whether vpc takes the bundle is not asked here.
+Block public access that isn't told, as older command lines don't, counts as off. docs/LIMITS.md
+says more of each, and what AWS does that no bundle tells. A bundle without interfaces, as of a
+region that nobody uses, is told by a line that begins with `no interfaces`. Whether vpc takes the
+bundle is not asked here.
 
 Status 0: there is nothing; 1: there is something; 2: BUNDLE can't be read or is no bundle, as a
 line on standard error says. It needs Python 3.9 or later alone.
@@ -22,10 +24,10 @@ from collections.abc import Iterable, Iterator, Sequence
 from typing import Any, NamedTuple, Optional
 
 from scripts.bundles import (
-    BESIDE, LISTS, TARGETS, NoBundle, Row, harmless, harmless_ids, has_lists, json_in, member,
-    objects_of, rows,
+    LISTS, TARGETS, NoBundle, Row, harmless, harmless_ids, has_lists, json_in, member, objects_of,
+    rows,
 )
-from scripts.words import USABLE
+from scripts.words import ATTACHED, USABLE
 
 FOLLOWED = ("NatGatewayId", "TransitGatewayId", "VpcPeeringConnectionId", "NetworkInterfaceId")
 EMPTY = (
@@ -42,14 +44,17 @@ NONE_PUBLIC = "packets from them stop as NoPublic, and none to them comes to the
 
 
 class Kind(NamedTuple):
-    """How several findings of a kind are called, and what they mean for answers."""
+    """How several findings of a kind are called, what they mean for answers, and how their lines
+    begin."""
 
     many: str
     mean: str
+    begin: str = "not followed: "
 
 
 class Finding(NamedTuple):
-    """A finding: its kind, what it is, its id or the first words of it, and what it means."""
+    """A finding: its kind, what it is, its id or the first words of it, and what it means, where
+    that is told."""
 
     kind: Kind
     what: str
@@ -102,12 +107,10 @@ def is_of_ipv4(rule: Row) -> bool:
 
 
 def bundle_of(path: str) -> Bundle:
-    lists: dict[str, list[Row]] = {name: [] for name in (*LISTS, *BESIDE)}
+    lists: dict[str, list[Row]] = {name: [] for name in LISTS}
     for number, part in enumerate(has_lists(objects_of(json_in(path))), 1):
         for name, joined in lists.items():
             found = part.get(name)
-            if isinstance(found, dict) and name in BESIDE:
-                found = [found]
             if found is not None and not isinstance(found, list):
                 raise NoBundle(f"its {name} is no list")
             joined += [it for it in found or [] if isinstance(it, dict)]
@@ -325,7 +328,6 @@ BALANCERS = Kind(
     "interfaces of load balancers, of which isn't told what they send on",
     "packets end there; ask on from them to their targets",
 )
-IDLE = Kind("instances that don't run", "their interfaces take and send packets all the same")
 
 
 def delegated_prefixes(bundle: Bundle) -> Findings:
@@ -365,29 +367,13 @@ def load_balancers(bundle: Bundle) -> Findings:
             yield Finding(BALANCERS, what, name, "packets end there; ask on from it to its targets")
 
 
-def idle_instances(bundle: Bundle) -> Findings:
-    instances = (it for row in bundle["Reservations"] for it in rows(row, "Instances"))
-    for it in instances:
-        state, interfaces = member(it, "State", "Name"), rows(it, "NetworkInterfaces")
-        if state not in (None, "pending", "running") and interfaces:
-            enis = harmless_ids(eni.get("NetworkInterfaceId") for eni in interfaces)
-            name = harmless(it.get("InstanceId"))
-            what = f"state {harmless(state)} of instance {name}"
-            yield Finding(IDLE, what, name, f"{enis} takes and sends packets all the same")
-
-
 # ---- gateways
 
 SECONDARY = Kind(
     "NAT gateways with secondary addresses",
     "they send packets on from their primary addresses alone",
 )
-BLOCKED_VPCS = Kind(
-    "VPCs with block public access", "packets pass their internet gateways all the same"
-)
-BLOCKED_ACCOUNTS = Kind(
-    "accounts with block public access", "packets pass their internet gateways all the same"
-)
+UNTOLD_ACCESS = Kind("subnets", "", "not told: block public access of ")
 
 
 def secondary_addresses(bundle: Bundle) -> Findings:
@@ -401,31 +387,18 @@ def secondary_addresses(bundle: Bundle) -> Findings:
             yield Finding(SECONDARY, f"secondary addresses of {it}, {others}", it, means)
 
 
-def blocked_public_access(bundle: Bundle) -> Findings:
-    """What newer command lines tell of VPCs and subnets."""
-    modes: dict[tuple[str, str], list[Any]] = {}
-    for it in bundle["Vpcs"] + bundle["Subnets"]:
-        mode = member(it, "BlockPublicAccessStates", "InternetGatewayBlockMode")
-        if mode not in (None, "off"):
-            of_vpc = modes.setdefault((harmless(it.get("VpcId")), harmless(mode)), [])
-            of_vpc += [it["SubnetId"]] if "SubnetId" in it else []
-    for (vpc, mode), subnets in modes.items():
-        what = f"block public access ({mode}) of {vpc}"
-        what += f", {harmless_ids(subnets)}" * bool(subnets)
-        yield Finding(BLOCKED_VPCS, what, vpc, "packets pass its internet gateway all the same")
-
-
-def public_access_options(bundle: Bundle) -> Findings:
-    """What was added to a bundle of an account's own options."""
-    excluded = bundle["VpcBlockPublicAccessExclusions"]
-    exclusions = harmless_ids(it.get("ExclusionId") for it in excluded)
-    for it in bundle["VpcBlockPublicAccessOptions"]:
-        mode, name = it.get("InternetGatewayBlockMode"), harmless(it.get("AwsAccountId"))
-        if mode not in (None, "off"):
-            what = f"block public access ({harmless(mode)}) of account {name}"
-            what += f", which excludes {exclusions}" * bool(exclusions)
-            means = "packets pass its internet gateways all the same"
-            yield Finding(BLOCKED_ACCOUNTS, what, name, means)
+def untold_access(bundle: Bundle) -> Findings:
+    """Subnets by whose internet gateway packets pass, unless it is blocked, which isn't told."""
+    states = ("BlockPublicAccessStates", "InternetGatewayBlockMode")
+    attached = {
+        harmless(it.get("VpcId")) for row in bundle["InternetGateways"]
+        for it in rows(row, "Attachments") if it.get("State") in ATTACHED
+    }
+    for it in bundle["Subnets"]:
+        vpc, name = harmless(it.get("VpcId")), harmless(it.get("SubnetId"))
+        told = (member(row, *states) for row in (it, bundle.vpcs.get(vpc)))
+        if vpc in attached and all(mode is None for mode in told):
+            yield Finding(UNTOLD_ACCESS, name, name, "")
 
 
 # ---- transit gateways
@@ -600,17 +573,16 @@ def zone_names(bundle: Bundle) -> Findings:
 FINDERS = (
     unmodelled_routes, networks_behind, route_states, gateway_tables, unlisted_groups, ipv6_routes,
     ipv6_rules, ipv6_acl_rows, ipv6_entries, delegated_prefixes, public_addresses, load_balancers,
-    idle_instances, secondary_addresses, blocked_public_access, public_access_options,
-    other_attachments, missing_tables, transit_routes, attachment_options, doubled_attachments,
-    transit_references, zone_names,
+    secondary_addresses, untold_access, other_attachments, missing_tables, transit_routes,
+    attachment_options, doubled_attachments, transit_references, zone_names,
 )
 
 
 # ---- lines
 
 
-def line(what: str, means: str) -> str:
-    return f"not followed: {what}: {means}"
+def line(kind: Kind, what: str, means: str) -> str:
+    return f"{kind.begin}{what}" + f": {means}" * bool(means)
 
 
 def survey(bundle: Bundle, is_all: bool) -> list[str]:
@@ -618,15 +590,16 @@ def survey(bundle: Bundle, is_all: bool) -> list[str]:
     lines = [] if bundle["NetworkInterfaces"] else [EMPTY]
     found = list(dict.fromkeys(it for find in FINDERS for it in find(bundle)))
     if is_all:
-        return lines + [line(it.what, it.means) for it in found]
+        return lines + [line(it.kind, it.what, it.means) for it in found]
     kinds: dict[Kind, list[Finding]] = {}
     for it in found:
         kinds.setdefault(it.kind, []).append(it)
     for kind, (first, *more) in kinds.items():
         if more:
-            lines.append(line(f"{len(more) + 1:,} {kind.many}, as {first.name}", kind.mean))
+            what = f"{len(more) + 1:,} {kind.many}, as {first.name}"
+            lines.append(line(kind, what, kind.mean))
         else:
-            lines.append(line(first.what, first.means))
+            lines.append(line(kind, first.what, first.means))
     return lines
 
 

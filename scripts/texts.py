@@ -8,8 +8,8 @@ from dataclasses import dataclass
 from typing import NoReturn, Optional, Union
 
 from scripts.grammar import Members, forms_of, is_id
-from scripts.headers import Box, Header, Range, address, is_within, reply_of
-from scripts.words import PROTOCOL_NUMBERS
+from scripts.headers import Box, Header, Range, address, is_within, reply_of, with_side
+from scripts.words import CUT_SIDES, PROTOCOL_NUMBERS
 
 
 class NoText(Exception):
@@ -131,7 +131,8 @@ class ReportRow:
 
 @dataclass
 class Report:
-    """`next` and `cells` are None where the rows hold all."""
+    """`next` and `cells` are None where the rows hold all. Of a tree of cuts the rows are its
+    leaves, in their order."""
 
     start: str
     goal: str
@@ -444,11 +445,8 @@ def read_report(text: Text) -> Report:
     """A report, or the rows of one that would be longer."""
     first, query = text.take("vpc-report", "more boxes"), text.take("query")
     text.agrees((query["from"], query["to"]) != ("internet", "internet"))
-    whole, rows = box_of(text.take("box")), []
-    for it in text.numbered("row"):
-        row = ReportRow(it["phase"], stop_of(it), box_of(it))
-        rows.append(row)
-        text.must(is_within(row.box, whole), "a row lies beyond the box of the query")
+    whole = box_of(text.take("box"))
+    rows = list(leaves(text, whole) if first.get("version") == 2 else report_rows(text, whole))
     if first["line"] == "vpc-report":
         count_of(text, len(rows))
         return Report(query["from"], query["to"], whole, rows, None, None)
@@ -458,6 +456,29 @@ def read_report(text: Text) -> Report:
     cells = text.take("cells")["cells"]
     text.agrees(len(rows) < int(cells))
     return Report(query["from"], query["to"], whole, rows, following, cells)
+
+
+def report_rows(text: Text, whole: Box) -> Iterator[ReportRow]:
+    for it in text.numbered("row"):
+        row = ReportRow(it["phase"], stop_of(it), box_of(it))
+        text.must(is_within(row.box, whole), "a row lies beyond the box of the query")
+        yield row
+
+
+def leaves(text: Text, whole: Box) -> Iterator[ReportRow]:
+    """The leaves of a tree of cuts, each with its box. Behind a cut stands what is below it, and
+    then what begins there."""
+    left = [whole]
+    while left:
+        told, box = text.take("cut", "leaf"), left.pop()
+        if told["line"] == "leaf":
+            yield ReportRow(told["phase"], stop_of(told), box)
+            continue
+        side, at = CUT_SIDES.index(told["side"]), told["at"]
+        at = address(at) if isinstance(at, str) else at
+        low, high = box[side]
+        text.must(low < at <= high, "a cut lies beyond its side")
+        left += [with_side(box, side, it) for it in ((at, high), (low, at - 1))]
 
 
 def read_rows(text: Text, more: str) -> tuple[str, list[Members], Optional[tuple[str, Header]]]:

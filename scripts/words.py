@@ -1,13 +1,13 @@
-"""The words of vpc's texts, each list once. tests/words.py compares them with the sources of the
+"""The words of vpc's texts, each list once. tests/package.py compares them with the sources of the
 program."""
 
 # What may stop a packet.
 STOPS = (
     "Detached SourceCheck DestCheck GroupsOut GroupsIn NotAHost ApplianceDrop NoRoute Blackhole "
-    "AclOut AclIn NoHost NoGateway GatewayDetached NoPublic PrivateAddress NatNotAvailable "
-    "NatAnswer NatProtocol NatFull NatUnsolicited PeerNotActive PeerSource PeerDestination "
-    "TgwNoAttachment TgwNoZone TgwNoTable TgwNoRoute TgwBlackhole Unmodelled Loop TooFar "
-    "WrongPlace WrongReturn NoReply"
+    "AclOut AclIn NoHost NoGateway GatewayDetached NoPublic PrivateAddress BlockPublicAccess "
+    "NatNotAvailable NatAnswer NatProtocol NatFull NatUnsolicited PeerNotActive PeerSource "
+    "PeerDestination TgwNoAttachment TgwNoZone TgwNoTable TgwNoRoute TgwBlackhole Unmodelled Loop "
+    "TooFar WrongPlace WrongReturn NoReply"
 ).split()
 # Where a packet may be.
 PLACES = "out router enter in igw-out internet igw-in nat-out nat-in peer tgw tgw-leave".split()
@@ -20,10 +20,13 @@ COUNTED_LISTS = (
 # The protocols that have a name.
 PROTOCOLS = {1: "icmp", 6: "tcp", 17: "udp"}
 PROTOCOL_NUMBERS = {name: number for number, name in PROTOCOLS.items()}
-# The states of what a transit gateway may lead packets to.
+# The states of what a transit gateway may lead packets to, and of an internet gateway that is
+# attached.
 USABLE = ("available", "modifying")
-# The sides of a header and of a box, as queries name them.
+ATTACHED = ("available", "attached")
+# The sides of a header and of a box, as queries name them and as cuts do.
 SIDES = ("proto", "src", "dst", "sport", "port")
+CUT_SIDES = ("proto", "src", "dst", "p", "q")
 
 
 def counted(count: int, one: str, many: str = "") -> str:

@@ -14,7 +14,7 @@ BOX = rf"{OCTET}-{OCTET} {ADDRESS}-{ADDRESS} {ADDRESS}-{ADDRESS} {NUMBER}-{NUMBE
 PLACE = "(?:out|router|enter|in|igw-out|internet|igw-in|nat-out|nat-in|peer|tgw|tgw-leave)"
 NAME = (
     "(?:Detached|SourceCheck|DestCheck|GroupsOut|GroupsIn|NotAHost|ApplianceDrop|NoRoute|Blackhole|AclOut|AclIn|NoHost|NoGateway|GatewayDetached|NoPublic"
-    "|PrivateAddress|NatNotAvailable|NatAnswer|NatProtocol|NatFull|NatUnsolicited|PeerNotActive|PeerSource|PeerDestination|TgwNoAttachment|TgwNoZone|TgwNoTable"
+    "|BlockPublicAccess|PrivateAddress|NatNotAvailable|NatAnswer|NatProtocol|NatFull|NatUnsolicited|PeerNotActive|PeerSource|PeerDestination|TgwNoAttachment|TgwNoZone|TgwNoTable"
     "|TgwNoRoute|TgwBlackhole|Unmodelled|Loop|TooFar|WrongPlace|WrongReturn|NoReply)"
 )
 LIST = (
@@ -30,7 +30,9 @@ VERDICT = rf"acl {ID} (?:in|out) {NUMBER} (?:allow|deny)\n"
 REASONS = rf"(?:group {ID} (?:in|out) {ID}\n|(?:route {ID} {ID} {ID}\n)?(?:{VERDICT}){{0,2}})(?:becomes {HEADER}\n)?"
 EXPLAINED = rf"(?:{HOP}{REASONS}){{1,64}}"
 ROWS = rf"(?:row {COUNT} (?:request|reply) {STOP} {BOX}\n)*"
-QUERY = rf"query from {ID} to {ID}\nbox {BOX}\n{ROWS}"
+ASKED = rf"query from {ID} to {ID}\nbox {BOX}\n"
+QUERY = rf"{ASKED}{ROWS}"
+NODES = rf"(?:cut (?:(?:src|dst) {ADDRESS}|(?:proto|p|q) {NUMBER})\n|leaf (?:request|reply) {STOP}\n)+"
 CAUSE = (
     rf"(?:TooBig|NotJson|WrongShape {PATH}|BadText {PATH}|DuplicateId {ID}|MissingReference {ID} {ID}|DuplicateAddress {ID} {ADDRESS}|DuplicatePublic {ADDRESS}"
     rf"|NoRouteTable {ID}|NoAcl {ID}|TwoInternetGateways {ID}|TwoTables {ID}|TwoAcls {ID}|TooManyRows {LIST})"
@@ -47,7 +49,7 @@ TEXTS = {
     "ask": {
         **WITH_FILE,
         0: rf"reachable\npacket {HEADER}\nrequest\n{HOPS}arrived {ID}\nreply\n{HOPS}arrived {ID}\n",
-        1: rf"vpc-report 1\n{QUERY}end {NUMBER}\n",
+        1: rf"(?:vpc-report 1\n{QUERY}|vpc-report 2\n{ASKED}{NODES})end {NUMBER}\n",
         4: rf"refused query {WORD}|BothInternet|EmptyRange {COUNT}|MaxOutOfRange|NoAddress {ID})\n",
         5: rf"more boxes\n{QUERY}next {HEADER}\ncells {COUNT}\n",
     },
@@ -149,15 +151,50 @@ def corner(box):
 # ---- reports
 
 class Report:
-    """A report: its ends, its box, and rows of a phase, a stop's three words and a box."""
+    """A report: its ends, its box, and rows of a phase, a stop's three words and a box. Of a tree they are its leaves, and `nodes` its
+    lines, of cuts and of leaves."""
 
-    def __init__(self, start, goal, box, rows):
-        self.start, self.goal, self.box, self.rows = start, goal, box, rows
+    def __init__(self, start, goal, box, rows, nodes=None):
+        self.start, self.goal, self.box, self.rows, self.nodes = start, goal, box, rows, nodes
 
     def text(self):
-        rows = [f"row {k + 1} ".encode() + b" ".join(what) + b" " + box_text(box).encode() for k, (what, box) in enumerate(self.rows)]
-        lines = [b"vpc-report 1", b"query from " + self.start + b" to " + self.goal, b"box " + box_text(self.box).encode(), *rows, b"end %d" % len(rows)]
-        return b"\n".join(lines) + b"\n"
+        """As a list of rows."""
+        return self.lines(1, [f"row {k + 1} ".encode() + b" ".join(what) + b" " + box_text(box).encode() for k, (what, box) in enumerate(self.rows)], len(self.rows))
+
+    def tree_text(self):
+        """As the tree of its nodes."""
+        return self.lines(2, self.nodes, sum(it.startswith(b"leaf ") for it in self.nodes))
+
+    def lines(self, version, lines, count):
+        head = [b"vpc-report %d" % version, b"query from " + self.start + b" to " + self.goal, b"box " + box_text(self.box).encode()]
+        return b"\n".join([*head, *lines, b"end %d" % count]) + b"\n"
+
+
+SIDES = (b"proto", b"src", b"dst", b"p", b"q")
+
+
+def replaced(box, side, ends):
+    return (*box[:side], ends, *box[side + 1 :])
+
+
+def leaves_of(nodes, box):
+    """The leaves of a tree of the box, each with its box; None where the lines are none."""
+    rows, left = [], [box]
+    for line in nodes:
+        if not left:
+            return None
+        word, *words = line.split(b" ")
+        own = left.pop()
+        if word == b"leaf":
+            rows.append((tuple(words), own))
+            continue
+        side = SIDES.index(words[0])
+        at, (low, high) = address(words[1]) if side in (1, 2) else int(words[1]), own[side]
+        if not low < at <= high:
+            return None
+        # (what is below the cut comes first)
+        left += [replaced(own, side, (at, high)), replaced(own, side, (low, at - 1))]
+    return None if left else rows
 
 
 def report_of(text):
@@ -166,8 +203,13 @@ def report_of(text):
         return None
     lines = text.split(b"\n")
     words = [line.split(b" ") for line in lines]
+    box = box_of(words[2][1:])
+    if text.startswith(b"vpc-report 2\n"):
+        nodes = lines[3:-2]
+        rows = leaves_of(nodes, box)
+        return None if rows is None else Report(words[1][2], words[1][4], box, rows, nodes)
     rows = [(tuple(w[2:6]), box_of(w[6:])) for w in words if w[0] == b"row"]
-    return Report(words[1][2], words[1][4], box_of(words[2][1:]), rows)
+    return Report(words[1][2], words[1][4], box, rows)
 
 
 def first_overlap(rows):

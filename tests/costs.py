@@ -20,7 +20,7 @@ import tempfile
 TOP = os.path.dirname(os.path.dirname(os.path.abspath(__file__)))
 sys.path.insert(0, os.path.join(TOP, "bench"))
 
-from ask import odd_ports, subnets, tcp  # noqa: E402 # (it stands in bench)
+from ask import odd_ports, ranges_and_sources, subnets, tcp  # noqa: E402 # (it stands in bench)
 
 BEHIND = os.path.join(TOP, "bench", "behind-nat.json")
 BETWEEN = "from eni-a to eni-b"
@@ -87,12 +87,27 @@ def rows_checked(count):
     return ["check", words[1], written("r.txt", printed)], 0, None
 
 
+def leaves_asked(count):
+    """A tree with some two leaves for each port range of a source."""
+    path = bundle("n.json", ranges_and_sources(round(count ** 0.5)))
+    return ["ask", path, *f"{BETWEEN} src 198.51.0.0/16 max 100000".split()], 1, idle(path)
+
+
+def leaves_checked(count):
+    """That tree, checked."""
+    words = leaves_asked(count)[0]
+    printed = subprocess.run([PROGRAM, *words], stdout=subprocess.PIPE, check=False).stdout.decode()
+    return ["check", words[1], written("r.txt", printed)], 0, None
+
+
 CASES = [
     ("connections and their answers", connections, 12_500, 8),
     ("hosts on the same ports", translations, 13_750, 8),
     ("20,000 packets, and rules for other ports", rules_that_end_before, 2_500, 2),
     ("rules for a port each, asked", ports_asked, 2_499, 8),
     ("rows of a report, checked", rows_checked, 2_499, 8),
+    ("leaves of a tree, asked", leaves_asked, 12_100, 8),
+    ("leaves of a tree, checked", leaves_checked, 12_100, 8),
 ]
 
 

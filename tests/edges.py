@@ -305,6 +305,45 @@ def most_rows():
     yield ("20,000 rows of a listing", words, 0, "\n".join(["vpc-reach 1", query, *rows[:20_000], "end 20000", ""]), {})
 
 
+def tree(depths, one_more=False):
+    """A true tree about what o.json refuses: so many cuts by source ports below each other, for each destination port from 80 on. Every
+    other one is cut from above: what is cut first comes last."""
+    nodes, leaf = [], "leaf request GroupsIn eni-b -"
+    for k, depth in enumerate(depths):
+        nodes += [f"cut q {81 + k}"] if k + 1 < len(depths) else []
+        if k % 2:
+            nodes += [*(f"cut p {at}" for at in range(depth, 0, -1)), *[leaf] * (depth + 1)]
+        else:
+            nodes += [it for at in range(1, depth + 1) for it in (f"cut p {at}", leaf)] + [leaf]
+    count = sum(depths) + len(depths)
+    box = f"6-6 10.0.1.10-10.0.1.10 10.0.1.20-10.0.1.20 0-65535 80-{79 + len(depths)}"
+    return "\n".join(["vpc-report 2", "query from eni-a to eni-b", f"box {box}", *nodes, *[leaf] * one_more, f"end {count}", ""])
+
+
+def trees():
+    """Trees of 100,000 leaves, whose cuts lie as deep, with a small stack; of one leaf more; and cuts alone."""
+    small = {"prepare": lambda: resource.setrlimit(resource.RLIMIT_STACK, (SMALL_STACK, SMALL_STACK))}
+    words = "check o.json tree.txt".split()
+    for depths in ((65_535, 34_463), (49_999, 49_999), (33_000, 33_000, 33_997)):
+        file_of("tree.txt", tree(depths))
+        yield (f"a tree of 100,000 leaves: {depths}", words, 0, "yes\n", small)
+    whole = tree((49_999, 49_999))
+    file_of("tree.txt", tree((49_999, 49_999), True))
+    yield ("a leaf after a whole tree of 100,000", words, 4, f"refused report {len(whole.splitlines())}\n", small)
+    file_of("tree.txt", tree((50_000, 49_999)))
+    nodes = tree((50_000, 49_999)).splitlines()
+    yield ("a tree of 100,001 leaves", words, 4, f"refused report TooManyBoxes {len(nodes) - 1}\n", small)
+    file_of("tree.txt", whole.replace("leaf request GroupsIn eni-b -\nend", "leaf reply GroupsIn eni-b -\nend"))
+    yield ("a tree of 100,000 leaves, of which the last isn't true", words, 1, "no untrue 100000 tcp 10.0.1.10 10.0.1.20 49999 81 request GroupsIn eni-b -\n", small)
+    cuts = ["vpc-report 2", "query from eni-a to eni-b", "box 6-6 0.0.0.0-255.255.255.255 10.0.1.20-10.0.1.20 0-65535 80-80"]
+    cuts += [f"cut src 255.{k >> 16 & 255}.{k >> 8 & 255}.{k & 255}" for k in range(2_700_000, 0, -1)]
+    file_of("tree.txt", "\n".join([*cuts, ""]))
+    yield ("cuts alone, in 56 MiB", words, 4, f"refused report {len(cuts) + 1}\n", small)
+
+
+SMALL_STACK = 512 * 1024
+
+
 def outputs():
     """Outputs that take nothing, or a part."""
     texts = [*WHOLE.values(), "trace none.json".split(), WHOLE["trace"][:1] + ["none.json"] + WHOLE["trace"][2:], "check o.json none.txt".split()]
@@ -415,7 +454,7 @@ def main():
                            ("far.json", with_route()), ("rules.txt", RULE)):
             file_of(name, data)
         passed, failed = 0, 0
-        for group in (statuses, refusals, counts, bad_words, odd_words, unread, piped, long_files, long_texts, most_rows, outputs, memory):
+        for group in (statuses, refusals, counts, bad_words, odd_words, unread, piped, long_files, long_texts, most_rows, trees, outputs, memory):
             for case in group():
                 wrong = difference(case)
                 passed, failed = (passed, failed + 1) if wrong else (passed + 1, failed)

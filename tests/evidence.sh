@@ -94,6 +94,15 @@ run sh "$room/with blanks/verify.sh" ./none
 is 'verified by what is none' "$status $(printf '%s\n' "$out" | grep -c 'not shown')" '1 2'
 cd "$room/work" || exit
 
+# A tree is a report like any other.
+"$program" ask shop.json from internet to eni-db max 100000 >tree.txt
+run "$evidence" --to tree shop.json tree.txt
+is 'a tree' "$status $out $err $(head -n 1 tree/texts/tree.txt) $(cat tree/checks/tree.txt)" '0 tree  vpc-report 2 yes'
+run sh tree/verify.sh "$program"
+is 'a tree: verified' "$status $out $err" '0 the checksums are those of SHA256SUMS
+tree.txt: true of bundle.json '
+rm -r tree tree.txt
+
 # Each file in turn is changed, is gone, or is one more.
 for it in $(cd made && find . -type f ! -name verify.sh); do
     rm -rf copy && cp -r made copy && echo >>"copy/$it"

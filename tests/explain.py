@@ -1,7 +1,7 @@
 #!/usr/bin/env python3
 """Whether `explain` tells the truth: tests/explain.py PROGRAM [--cases N]
 
-Each of the 35 stops has a row in STOPS: a small network, a packet or a question, what the sentences have to say, and the change that
+Each of the 36 stops has a row in STOPS: a small network, a packet or a question, what the sentences have to say, and the change that
 they ask for. PROGRAM answers, `explain` tells of the answer, the change is made, and PROGRAM no longer stops there. In N networks made
 at random (as tests/fuzz.py has them) each sentence is tried likewise: where it says that a row of an ACL or a route let a packet pass,
 PROGRAM stops the packet there once that row denies, or the route is a blackhole; and what would have to change is changed. Answers that
@@ -114,6 +114,14 @@ def permitted(bundle, group, outward, block, proto="tcp", port=None):
     row(bundle, group)["IpPermissionsEgress" if outward else "IpPermissions"].append({"IpProtocol": proto, **ports, "IpRanges": [{"CidrIp": block}]})
 
 
+def blocked(bundle, name, mode):
+    updated(bundle, name, BlockPublicAccessStates={"InternetGatewayBlockMode": mode})
+
+
+def instance(name, state, eni, **members):
+    return {"InstanceId": name, "State": {"Name": state}, "NetworkInterfaces": [{"NetworkInterfaceId": eni}], **members}
+
+
 def several(*acts):
     return lambda bundle: [act(bundle) for act in acts]
 
@@ -165,6 +173,8 @@ MANY = 55_000
 STOPS = [
     ("Detached", act(updated, "eni-b", Status="available"), "trace", TO_B.format(5432), "stopped Detached eni-b -", "eni-b is attached to nothing (its status is available)", "eni-b would have to be attached",
      act(updated, "eni-b", Status="in-use")),
+    ("Detached, of an instance that is stopped", lambda bundle: bundle.update(Reservations=[{"Instances": [instance("i-1", "stopped", "eni-b", Tags=[{"Key": "Name", "Value": "db one"}])]}]), "trace", TO_B.format(5432), "stopped Detached eni-b -",
+     "eni-b (db one) is an interface of instance i-1, whose state is stopped", "instance i-1 would have to be running", lambda bundle: bundle["Reservations"][0]["Instances"][0]["State"].update(Name="running")),
     ("SourceCheck", nothing, "trace", "open from eni-a tcp 10.1.1.99 10.2.1.10 5000 5432", "stopped SourceCheck eni-a -", "10.1.1.99 is none of the private addresses of eni-a (web one) (10.1.1.10)",
      "come from one of these addresses, or the source/destination check of eni-a (web one) to be off", act(updated, "eni-a", SourceDestCheck=False)),
     ("DestCheck", several(act(routed, "rtb-a", "10.2.1.10/32", NetworkInterfaceId="eni-c")), "trace", TO_B.format(5432), "stopped DestCheck eni-c -",
@@ -209,6 +219,18 @@ STOPS = [
      act(updated, "eni-a", PrivateIpAddresses=[{"PrivateIpAddress": "10.1.1.10", "Association": {"PublicIp": "203.0.113.20"}}])),
     ("NoPublic, for a NAT gateway", act(routed, "rtb-a", "192.0.2.0/24", GatewayId="igw-1"), "trace", TO_NET.format("192.0.2.1"), "stopped NoPublic igw-1 -", "has no public address", "or the route to lead to a NAT gateway",
      lambda bundle: (route(bundle, "rtb-a", "192.0.2.0/24").pop("GatewayId"), route(bundle, "rtb-a", "192.0.2.0/24").update(NatGatewayId="nat-1"))),
+    ("BlockPublicAccess", act(blocked, "subnet-n", "block-ingress"), "trace", "open from internet tcp 198.51.100.7 203.0.113.10 1 2", "stopped BlockPublicAccess subnet-n block-ingress",
+     "block public access of subnet-n is block-ingress: an internet gateway carries nothing from or to its interfaces but what its NAT gateways open, and the answers to that. 203.0.113.10 is a public address of eni-c, which is there.",
+     "it would have to be off there, by an exclusion of subnet-n or of vpc-a (shop), or for the whole account.", act(blocked, "subnet-n", "off")),
+    ("BlockPublicAccess, by VPC and outward", act(blocked, "vpc-a", "block-bidirectional"), "trace", "open from eni-c tcp 10.1.3.10 198.51.100.7 1 2", "stopped BlockPublicAccess subnet-n block-bidirectional",
+     "block public access of subnet-n is block-bidirectional, as that of VPC vpc-a (shop) is: an internet gateway carries nothing from or to its interfaces. 10.1.3.10 is an address of eni-c, which is there.",
+     "it would have to be off there, by an exclusion of subnet-n or of vpc-a (shop), or for the whole account.", act(blocked, "subnet-n", "off")),
+    ("BlockPublicAccess, outward without a NAT gateway", act(blocked, "subnet-n", "block-ingress"), "trace", "open from eni-c tcp 10.1.3.10 198.51.100.7 1 2", "stopped BlockPublicAccess subnet-n block-ingress",
+     "10.1.3.10 is an address of eni-c, which is there.", "or the route to lead to a NAT gateway", lambda bundle: route(bundle, "rtb-n", ANYWHERE).update(GatewayId=None, NatGatewayId="nat-1")),
+    ("BlockPublicAccess, behind a NAT gateway", act(blocked, "subnet-n", "block-bidirectional"), "trace", TO_NET.format("198.51.100.7"), "stopped BlockPublicAccess subnet-n block-bidirectional",
+     "10.1.3.5 is an address of eni-n, which is there.", "it would have to be off or block-ingress there, by an exclusion of subnet-n", act(blocked, "subnet-n", "block-ingress")),
+    ("BlockPublicAccess of a reply", several(public_way, act(blocked, "subnet-a", "block-ingress"), act(routed, "rtb-a", "198.51.100.0/24", GatewayId="igw-1")), "replay", "answer from eni-a tcp 10.1.1.10 198.51.100.7 22 5000", "event 1 stopped BlockPublicAccess subnet-a block-ingress",
+     "block public access of subnet-a is block-ingress: an internet gateway carries nothing from or to its interfaces but what its NAT gateways open, and the answers to that.", "it would have to be off there", act(blocked, "subnet-a", "off")),
     ("PrivateAddress", nothing, "trace", TO_NET.format("10.9.0.1"), "stopped PrivateAddress internet -", "its destination 10.9.0.1 is non-routable", "its destination 10.9.0.1 would have to be a public address", TO_NET.format("198.51.100.7")),
     ("PrivateAddress, both", nothing, "trace", "open from internet tcp 10.9.0.1 192.168.0.1 1 2", "stopped PrivateAddress internet -", "its source 10.9.0.1 and its destination 192.168.0.1 are non-routable", "would have to be public addresses",
      "open from internet tcp 198.51.100.7 203.0.113.10 1 2"),
@@ -420,6 +442,11 @@ def mended(bundle, stop):
         bundle["NetworkInterfaces"].append({"NetworkInterfaceId": "eni-new", "SubnetId": subnet, "PrivateIpAddress": dotted(h.dst)})
     elif stop.name == "Detached":
         by_id(bundle, "NetworkInterfaces", "NetworkInterfaceId", stop.id)["Status"] = "in-use"
+        for it in (it for row_of in bundle.get("Reservations", []) for it in row_of["Instances"]):
+            if stop.id in [eni["NetworkInterfaceId"] for eni in it["NetworkInterfaces"]]:
+                it["State"] = {"Name": "running"}
+    elif stop.name == "BlockPublicAccess":
+        by_id(bundle, "Subnets", "SubnetId", stop.id)["BlockPublicAccessStates"] = {"InternetGatewayBlockMode": "off"}
     elif stop.name in ("SourceCheck", "DestCheck"):
         by_id(bundle, "NetworkInterfaces", "NetworkInterfaceId", stop.id)["SourceDestCheck"] = False
     elif stop.name == "ApplianceDrop":

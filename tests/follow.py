@@ -168,7 +168,7 @@ class Walker:
 
     def at_out(self, label: str, place: Place, h: Header, notes: list[Note]) -> Step:
         interface = self.network.interfaces[place[1]]
-        if interface.idle:
+        if self.network.is_idle(interface):
             return None, Stop("Detached", interface.id, "-", {})
         if interface.checked and h.src not in interface.addresses:
             return None, Stop("SourceCheck", interface.id, "-", {"header": h})
@@ -179,7 +179,7 @@ class Walker:
 
     def at_in(self, label: str, place: Place, h: Header, notes: list[Note]) -> Step:
         interface = self.network.interfaces[place[1]]
-        if interface.idle:
+        if self.network.is_idle(interface):
             return None, Stop("Detached", interface.id, "-", {})
         if interface.checked and h.dst not in interface.addresses:
             return None, Stop("DestCheck", interface.id, "-", {"header": h})
@@ -282,8 +282,15 @@ class Walker:
         if public is None:
             facts = {"header": h, "vpc": place[1], "host": host}
             return None, Stop("NoPublic", self.network.igw_of[place[1]], "-", facts)
+        assert host
+        if self.network.is_blocked(host):
+            return None, self.blocked(host, True, label, h)
         notes.append(("public", h.src, public))
         return None, Go(("internet", "internet"), h._replace(src=public))
+
+    def blocked(self, end: Interface, outward: bool, label: str, h: Header) -> Stop:
+        facts = {"header": h, "label": label, "end": end, "outward": outward}
+        return Stop("BlockPublicAccess", end.subnet, self.network.mode_of(end.subnet), facts)
 
     def at_internet(self, label: str, place: Place, h: Header, notes: list[Note]) -> Step:
         if is_unroutable(h.src) or is_unroutable(h.dst):
@@ -298,7 +305,9 @@ class Walker:
         return None, Go(("igw-in", vpc), h)
 
     def at_igw_in(self, label: str, place: Place, h: Header, notes: list[Note]) -> Step:
-        _, private, _ = self.network.owner_of[h.dst]
+        owner, private, _ = self.network.owner_of[h.dst]
+        if self.network.is_blocked(owner):
+            return None, self.blocked(owner, False, label, h)
         notes.append(("private", h.dst, private))
         return None, Go(("enter", place[1], "gateway"), h._replace(dst=private))
 

@@ -4,7 +4,8 @@
 Each case is one run of PROGRAM (without it out/vpc): a command, a bundle, and a report or events where the command reads them.
 Bundles are made at random (networks.py) or come from examples/ and bench/; they, the second files and the words are mostly
 damaged (damage.py): bits, parts, tokens exchanged or copied, members and rows repeated, deep nesting, numbers and texts that
-don't fit. Reports are also rewritten so that they stay true: rows in another order, or in pieces.
+don't fit. Reports are also rewritten so that they stay true: rows in another order, or in pieces, leaves of a tree cut, and a tree
+told as rows.
 
 Of each case it wants: an end within 20 seconds, by no signal; nothing on standard error; a status of docs/ANSWERS.md, which is
 6 for a missing file alone and neither 7 nor 8; one of the texts of answers.py; and that the text is true as far as other runs tell.
@@ -12,7 +13,7 @@ The word that is refused is the first wrong one. The rows of a report are disjoi
 packets of some rows where the rows say; it brings the packet of `reachable` there and back. `trace` and `replay` end alike, and
 `why` has the lines of `trace`. A yes of `check` is true in the same ways, and so is a no.
 
---damage runs other cases: each byte of two reports removed, doubled or replaced by each of some others.
+--damage runs other cases: each byte of three reports, of which one is a tree, removed, doubled or replaced by each of some others.
 
 A case is told by the seed and its number alone: `--seed S --only K` runs it again, shows it and keeps its files.
 """
@@ -148,9 +149,12 @@ class Case:
         machine.write("b.json", text)
         status, printed, _ = machine.run([b"ask", b"b.json", *ends.query(rng)])
         report = answers.report_of(printed) if status in (1, 5) else made_report(rng, ends)
+        is_tree = bool(report.nodes) and rng.random() < 0.7
         for _ in range(rng.choice((0, 1, 1, 2, 3)) if len(report.rows) < 1000 else 0):
-            rng.choice(REWRITES)(rng, report)
-        self.second = report.text() if rng.random() < 0.65 else damage.line_text(rng, report.text())
+            if not is_tree or any(map(is_leaf, report.nodes)):
+                rng.choice(TREE_REWRITES if is_tree else REWRITES)(rng, report)
+        text = report.tree_text() if is_tree else report.text()
+        self.second = text if rng.random() < 0.65 else damage.line_text(rng, text)
         return [b"check", b"b.json", b"s.txt"]
 
 
@@ -228,6 +232,65 @@ def ends_exchanged(_rng, report):
 
 REWRITES = (in_pieces, in_pieces, in_pieces, in_another_order, in_another_order, left_out, repeated, row_moved, row_moved, box_moved, stops_exchanged, another_stop, another_stop, ends_exchanged)
 
+# ---- and trees
+
+def is_leaf(node):
+    return node.startswith(b"leaf ")
+
+
+def some_node(rng, report, kind):
+    found = [k for k, node in enumerate(report.nodes) if is_leaf(node) == kind]
+    return rng.choice(found) if found else None
+
+
+def cut_text(side, number):
+    return b"cut " + answers.SIDES[side] + b" " + (answers.dotted(number) if side in (1, 2) else str(number)).encode()
+
+
+def leaf_cut(rng, report):
+    """A leaf in two, at any number."""
+    k = some_node(rng, report, True)
+    rows = answers.leaves_of(report.nodes, report.box)
+    if rows is None:
+        return
+    box = rows[sum(map(is_leaf, report.nodes[:k]))][1]
+    side = rng.choice([n for n in range(5) if box[n][0] < box[n][1]] or [None])
+    if side is not None:
+        report.nodes[k:k] = [cut_text(side, rng.randint(box[side][0] + 1, box[side][1])), report.nodes[k]]
+
+
+def cut_moved(rng, report):
+    k = some_node(rng, report, False)
+    if k is not None:
+        _, side, number = report.nodes[k].split(b" ")
+        side = answers.SIDES.index(side)
+        number = answers.address(number) if side in (1, 2) else int(number)
+        report.nodes[k] = cut_text(rng.choice((side, side, rng.randrange(5))), max(0, number + rng.choice((-1, 1, 256))))
+
+
+def nodes_exchanged(rng, report):
+    k, n = damage.at(rng, report.nodes), damage.at(rng, report.nodes)
+    report.nodes[k], report.nodes[n] = report.nodes[n], report.nodes[k]
+
+
+def node_lost(rng, report):
+    del report.nodes[damage.at(rng, report.nodes)]
+
+
+def node_repeated(rng, report):
+    report.nodes.insert(damage.at(rng, report.nodes), rng.choice(report.nodes))
+
+
+def another_leaf(rng, report):
+    k = some_node(rng, report, True)
+    words = report.nodes[k].split(b" ")
+    at = rng.randrange(1, 5)
+    words[at] = rng.choice(((b"request", b"reply"), (b"GroupsIn", b"GroupsOut", b"AclIn", b"NoRoute", b"BlockPublicAccess", b"WrongPlace"), (report.start, report.goal), (b"-", b"100", b"1", b"block-ingress"))[at - 1])
+    report.nodes[k] = b" ".join(words)
+
+
+TREE_REWRITES = (leaf_cut, leaf_cut, leaf_cut, cut_moved, cut_moved, nodes_exchanged, node_lost, node_repeated, another_leaf, ends_exchanged)
+
 TWO_ROWS = b"""vpc-report 1
 query from eni-a to eni-b
 box 6-6 10.0.1.10-10.0.1.10 10.0.2.20-10.0.2.20 0-32767 443-443
@@ -242,6 +305,21 @@ row 1 request PrivateAddress internet - 6-6 10.0.1.10-10.0.1.10 10.9.0.0-10.9.25
 row 2 request PrivateAddress internet - 6-6 10.0.1.10-10.0.1.10 10.9.0.0-10.9.255.255 1024-65535 443-443
 end 2
 """
+# (no cut of it may stand elsewhere: what is stopped below it is stopped otherwise)
+TREE = b"""vpc-report 2
+query from eni-a to eni-b
+box 6-6 10.0.1.8-10.0.1.11 10.0.2.20-10.0.2.20 5000-5000 440-446
+cut src 10.0.1.10
+leaf request SourceCheck eni-a -
+cut src 10.0.1.11
+cut q 443
+leaf request GroupsIn eni-b -
+cut q 444
+leaf reply AclOut acl-b 32767
+leaf request GroupsIn eni-b -
+leaf request SourceCheck eni-a -
+end 5
+"""
 # The second subnet of bench/behind-nat.json gets an ACL of its own, which lets out what goes to high ports alone.
 OWN_ACL = (b'{"NetworkAclId":"acl-b","Associations":[{"SubnetId":"subnet-b"}],"Entries":[{"RuleNumber":100,"Egress":false,"Protocol":"-1","RuleAction":"allow","CidrBlock":"0.0.0.0/0"},'
            b'{"RuleNumber":100,"Egress":true,"Protocol":"6","PortRange":{"From":32768,"To":65535},"RuleAction":"allow","CidrBlock":"0.0.0.0/0"}]},')
@@ -250,18 +328,18 @@ BITS = tuple(1 << k for k in range(8))
 
 
 @functools.lru_cache(maxsize=1)
-def two_reports():
-    """Two true reports, each with its bundle: the second one is as `ask` prints it."""
+def three_reports():
+    """Three true reports, each with its bundle: the second and the third one are as `ask` prints them."""
     behind = compact("bench/behind-nat.json")
     own = behind.replace(b',{"SubnetId":"subnet-b"}],"Entries"', b'],"Entries"').replace(b'"NetworkAcls":[', b'"NetworkAcls":[' + OWN_ACL)
-    return (own, TWO_ROWS), (behind, ASKED)
+    return (own, TWO_ROWS), (behind, ASKED), (own, TREE)
 
 
 @functools.lru_cache(maxsize=1)
 def damaged():
     """The bundles with each text of their reports in which one byte is removed, doubled or another one."""
     found = []
-    for bundle, text in two_reports():
+    for bundle, text in three_reports():
         texts = {}
         for k, old in enumerate(text):
             for new in (b"", bytes([old] * 2), *(bytes([old ^ bit]) for bit in BITS), *(bytes([n]) for n in REPLACEMENTS)):
@@ -395,11 +473,14 @@ def ask_is_true(machine, case, status, text):
         want(answers.fate(machine.replay, case.words[3], case.words[5], h) == (b"through",), "the packet doesn't get through")
     if status in (1, 5):
         report = answers.report_of(text)
+        want(report is not None, "no tree of its box")
+        told = dict(zip(case.words[6::2], case.words[7::2]))
+        want(bool(report.nodes) == (status == 1 and int(told.get(b"max", 20000)) > 20000), "a report in the other form")
         want((report.start, report.goal) == (case.words[3], case.words[5]), "other ends")
         want(all(asked in (None, told) for asked, told in zip(asked_box(case.words), report.box)), "another box")
         rows_hold(machine, rng, report, status == 1, 2)
         corners = [answers.corner(box) for _, box in report.rows]
-        want(corners == sorted(corners), "rows in another order")
+        want(report.nodes or corners == sorted(corners), "rows in another order")
         if status == 5:
             h = answers.header_of(text.splitlines()[-2].split(b" ")[1:])
             want(answers.holds(report.box, h) and not any(answers.holds(box, h) for _, box in report.rows), "`next` is in a row")
@@ -410,7 +491,7 @@ def check_is_true(machine, case, status, text):
     if status not in (0, 1):
         return
     report = answers.report_of(case.second)
-    want(report is not None and case.second.startswith(b"vpc-report 1\n"), "a report in another form was read")
+    want(report is not None and case.second.startswith((b"vpc-report 1\n", b"vpc-report 2\n")), "a report in another form was read")
     if status == 0:
         rows_hold(machine, rng, report, True, 4)
         return

@@ -107,6 +107,48 @@ row 2 reply NoReply internet - 6-6 10.0.1.10-10.0.1.10 10.0.0.0-255.255.255.255 
 end 2
 {"text":"ask","line":"end","n":2}
 
+vpc-report 2
+{"text":"ask","line":"vpc-report","version":2}
+query from eni-a to internet
+{"text":"ask","line":"query","from":"eni-a","to":"internet"}
+box 0-255 10.0.1.10-10.0.1.11 0.0.0.0-255.255.255.255 0-65535 443-444
+{"text":"ask","line":"box","proto":[0,255],"src":["10.0.1.10","10.0.1.11"],"dst":["0.0.0.0","255.255.255.255"],"p":[0,65535],"q":[443,444]}
+cut src 10.0.1.11
+{"text":"ask","line":"cut","side":"src","at":"10.0.1.11"}
+cut proto 255
+{"text":"ask","line":"cut","side":"proto","at":255}
+leaf request TgwBlackhole tgw-rtb-a 10.2.9.0/24
+{"text":"ask","line":"leaf","phase":"request","name":"TgwBlackhole","id":"tgw-rtb-a","rule":"10.2.9.0/24"}
+cut dst 128.0.0.0
+{"text":"ask","line":"cut","side":"dst","at":"128.0.0.0"}
+leaf reply NoReply internet -
+{"text":"ask","line":"leaf","phase":"reply","name":"NoReply","id":"internet","rule":null}
+cut q 444
+{"text":"ask","line":"cut","side":"q","at":444}
+leaf request BlockPublicAccess subnet-0a block-ingress
+{"text":"ask","line":"leaf","phase":"request","name":"BlockPublicAccess","id":"subnet-0a","rule":"block-ingress"}
+leaf reply NoReply internet -
+{"text":"ask","line":"leaf","phase":"reply","name":"NoReply","id":"internet","rule":null}
+cut p 1
+{"text":"ask","line":"cut","side":"p","at":1}
+leaf reply NoReply internet -
+{"text":"ask","line":"leaf","phase":"reply","name":"NoReply","id":"internet","rule":null}
+leaf request SourceCheck eni-a -
+{"text":"ask","line":"leaf","phase":"request","name":"SourceCheck","id":"eni-a","rule":null}
+end 6
+{"text":"ask","line":"end","n":6}
+
+vpc-report 2
+{"text":"ask","line":"vpc-report","version":2}
+query from eni-a to eni-b
+{"text":"ask","line":"query","from":"eni-a","to":"eni-b"}
+box 6-6 10.0.1.10-10.0.1.10 10.0.2.20-10.0.2.20 0-65535 80-80
+{"text":"ask","line":"box","proto":[6,6],"src":["10.0.1.10","10.0.1.10"],"dst":["10.0.2.20","10.0.2.20"],"p":[0,65535],"q":[80,80]}
+leaf request GroupsIn eni-b -
+{"text":"ask","line":"leaf","phase":"request","name":"GroupsIn","id":"eni-b","rule":null}
+end 1
+{"text":"ask","line":"end","n":1}
+
 more boxes
 {"text":"ask","line":"more boxes"}
 query from internet to eni-b
@@ -539,6 +581,7 @@ NoHost vpc-1 -
 NoGateway vpc-1 -
 GatewayDetached igw-2 -
 NoPublic igw-1 -
+BlockPublicAccess subnet-0a block-bidirectional
 PrivateAddress internet -
 NatNotAvailable nat-1 -
 NatAnswer nat-1 -
@@ -586,6 +629,7 @@ acl acl-2 out 80 deny
 stopped AclOut acl-2 80
 """
 REPORT = f"vpc-report 1\nquery from eni-a to eni-b\nbox {BOX}\n"
+TREE, LEAF = REPORT.replace("1", "2", 1), "leaf request GroupsIn eni-b -\n"
 
 # What is no text, or only looks like one.
 NONE = [
@@ -621,6 +665,13 @@ NONE = [
     REPORT.replace("vpc-report 1", "more boxes") + "next tcp 10.0.1.10 10.0.2.20 0 80\ncells 7\n",
     REPORT.replace("vpc-report 1", "more boxes") + f"row 1 request GroupsIn eni-b - {BOX}\nnext tcp 10.0.1.10 10.0.2.20 0 81\ncells 7\n",
     REPORT.replace("vpc-report 1", "more boxes") + f"row 1 request GroupsIn eni-b - {BOX}\nnext tcp 10.0.1.10 10.0.2.20 0 80\ncells 1\n",
+    # trees
+    TREE, TREE + LEAF, TREE + "end 0\n", TREE + LEAF + "end 2\n", TREE + LEAF + LEAF + "end 2\n", TREE + "cut p 1\n" + LEAF + "end 1\n", TREE + "cut p 1\n" + LEAF * 3 + "end 3\n", REPORT + LEAF + "end 1\n",
+    TREE + "cut p 0\n" + LEAF * 2 + "end 2\n", TREE + "cut p 65536\n" + LEAF * 2 + "end 2\n", TREE + "cut p 00\n" + LEAF * 2 + "end 2\n", TREE + "cut q 80\n" + LEAF * 2 + "end 2\n", TREE + "cut q 81\n" + LEAF * 2 + "end 2\n",
+    TREE + "cut sport 1\n" + LEAF * 2 + "end 2\n", TREE + "cut src 10.0.1.10\n" + LEAF * 2 + "end 2\n", TREE + "cut p 0.0.0.1\n" + LEAF * 2 + "end 2\n", TREE + "cut src 1\n" + LEAF * 2 + "end 2\n",
+    TREE + "cut p 10\ncut p 10\n" + LEAF * 3 + "end 3\n", TREE + "cut p 10\n" + LEAF + "cut p 10\n" + LEAF * 2 + "end 3\n", TREE + "leaf request GroupsIn eni-b\nend 1\n", TREE + "leaf GroupsIn eni-b -\nend 1\n", TREE + "leaf request Absent eni-b -\nend 1\n",
+    TREE + f"row 1 request GroupsIn eni-b - {BOX}\nend 1\n", TREE + LEAF + "end 1\nend 1\n", TREE.replace("vpc-report 2", "vpc-report 3") + LEAF + "end 1\n", TREE.replace("vpc-report 2", "vpc-reach 2") + LEAF + "end 1\n",
+    TREE.replace("vpc-report 2", "more boxes") + LEAF + "next tcp 10.0.1.10 10.0.2.20 0 80\ncells 7\n",
     # the others
     "event 2 stopped NoRoute rtb-1 -\n", "event 1 stopped\n", "make 0\npair eni-1 internet blocked\n", "make 2\npair eni-1 internet blocked\n", "make 999999999999999\n",
     "make 51\n" + "".join(f"pair eni-1 eni-{k} blocked\n" for k in range(2, 52)) + "pair eni-1 internet blocked\n",
@@ -682,6 +733,7 @@ def stop_texts():
     for it in STOPS.strip().splitlines():
         yield f"{HOP}stopped {it}\n"
         yield f"{REPORT}row 1 reply {it} {BOX}\nend 1\n"
+        yield f"{TREE}leaf reply {it}\nend 1\n"
         yield f"no untrue 1 tcp 10.0.1.10 10.0.2.20 0 80 request {it}\n"
         yield f"event 1 stopped {it}\n"
         yield f"vpc-diff 1\nquery\nrow 1 eni-a closed eni-b reply {it} {BOX}\nend 1\n"
@@ -718,7 +770,7 @@ def answers(program):
             hosts = [row["NetworkInterfaceId"] for part in (bundle if isinstance(bundle, list) else [bundle]) for row in part["NetworkInterfaces"]][:5]
             for start, goal in itertools.permutations([*hosts, "internet"], 2):
                 words = ["ask", path, "from", start, "to", goal]
-                for more in ([], ["port", "443-443"], ["dst", "0.0.0.0/0", "max", "1"]):
+                for more in ([], ["port", "443-443"], ["dst", "0.0.0.0/0", "max", "100000"], ["dst", "0.0.0.0/0", "max", "1"]):
                     text = asked(*words, *more)
                     yield text
                 report, events = os.path.join(room, "report.txt"), os.path.join(room, "events.txt")

@@ -85,9 +85,11 @@ class Interface(NamedTuple):
     checked: bool
     idle: bool
     gateway: bool
+    blocks: list  # delegated ones
 
-    def own(self):
-        return [private for private, _ in self.addresses]
+    def has(self, number):
+        """Whether it is one of its private addresses, or lies in one of its blocks."""
+        return number in [private for private, _ in self.addresses] or any(it.holds(number) for it in self.blocks)
 
 
 class Route(NamedTuple):
@@ -125,6 +127,7 @@ class Attachment(NamedTuple):
     gateway: str
     vpc: str
     subnets: list
+    references: bool  # whether groups may be named over it
 
 
 class TransitRoute(NamedTuple):
@@ -152,15 +155,15 @@ def once(rows, field):
     return kept.values()
 
 
-def read_interface(row):
+def read_interface(row, is_stopped):
     told = [(address(it["PrivateIpAddress"]), member(it, "Association", "PublicIp")) for it in items(row, "PrivateIpAddresses")]
     pairs = [(private, address(public) if public else None) for private, public in told]
     primary = address(row["PrivateIpAddress"]) if member(row, "PrivateIpAddress") else None
     if primary is not None and primary not in [private for private, _ in pairs]:
         pairs.insert(0, (primary, None))
     checked, kind = member(row, "SourceDestCheck"), (member(row, "InterfaceType") or "").lower().replace("_", "").replace("-", "")
-    return Interface(row["NetworkInterfaceId"], row["SubnetId"], primary, pairs, [it["GroupId"] for it in items(row, "Groups")], checked is not False, member(row, "Status") == "available",
-                     kind in ("natgateway", "transitgateway"))
+    return Interface(row["NetworkInterfaceId"], row["SubnetId"], primary, pairs, [it["GroupId"] for it in items(row, "Groups")], checked is not False, member(row, "Status") == "available" or is_stopped,
+                     kind in ("natgateway", "transitgateway"), [block(it["Ipv4Prefix"]) for it in items(row, "Ipv4Prefixes")])
 
 
 TARGETS = {"GatewayId": "other", "NatGatewayId": "nat", "TransitGatewayId": "transit", "VpcPeeringConnectionId": "peering", "NetworkInterfaceId": "interface", "InstanceId": "other",
@@ -248,7 +251,10 @@ class Network:
         self.parts = bundle if isinstance(bundle, list) else [bundle]
         self.vpcs = {row["VpcId"]: self.read_blocks(row) for row in self.rows("Vpcs")}
         self.subnets = {row["SubnetId"]: (row["VpcId"], row["AvailabilityZone"]) for row in self.rows("Subnets")}
-        self.interfaces = {row["NetworkInterfaceId"]: read_interface(row) for row in self.rows("NetworkInterfaces")}
+        self.access = {row[field]: member(row, "BlockPublicAccessStates", "InternetGatewayBlockMode") for name, field in (("Vpcs", "VpcId"), ("Subnets", "SubnetId")) for row in self.rows(name)}
+        instances = [it for row in self.rows("Reservations") for it in items(row, "Instances") if member(it, "State", "Name") not in (None, "pending", "running")]
+        stopped = {it["NetworkInterfaceId"] for row in instances for it in items(row, "NetworkInterfaces")}
+        self.interfaces = {row["NetworkInterfaceId"]: read_interface(row, row["NetworkInterfaceId"] in stopped) for row in self.rows("NetworkInterfaces")}
         self.read_tables()
         self.lists = self.read_lists()
         self.read_acls()
@@ -300,6 +306,10 @@ class Network:
         for row in self.rows("SecurityGroups"):
             self.vpc_of_group[row["GroupId"]] = row["VpcId"]
             self.groups[row["GroupId"]] = {way: [read_permission(it) for it in items(row, name)] for way, name in (("in", "IpPermissions"), ("out", "IpPermissionsEgress"))}
+        self.homes = {name: {vpc} for name, vpc in self.vpc_of_group.items()}
+        for row in self.rows("SecurityGroupVpcAssociations"):
+            if row["GroupId"] in self.homes and member(row, "State") == "associated":
+                self.homes[row["GroupId"]].add(row["VpcId"])
         kept = [row for row in self.rows("SecurityGroupRules") if row["GroupId"] in self.groups and any(member(row, *it) for it in (("CidrIpv4",), ("PrefixListId",), ("ReferencedGroupInfo", "GroupId")))]
         kept = once(kept, "SecurityGroupRuleId")
         for name in {row["GroupId"] for row in kept}:
@@ -307,11 +317,17 @@ class Network:
 
     def read_transit(self):
         rows = [row for row in self.rows("TransitGatewayVpcAttachments") if row["State"] in ("available", "modifying")]
-        self.attachments = {row["TransitGatewayAttachmentId"]: Attachment(row["TransitGatewayId"], row["VpcId"], items(row, "SubnetIds")) for row in once(rows, "TransitGatewayAttachmentId")}
+        self.attachments = {row["TransitGatewayAttachmentId"]: Attachment(row["TransitGatewayId"], row["VpcId"], items(row, "SubnetIds"), self.has_references(row)) for row in once(rows, "TransitGatewayAttachmentId")}
+        self.referencing = {row["TransitGatewayId"] for row in once(self.rows("TransitGateways"), "TransitGatewayId") if self.has_references(row)}
         rows = [row for row in self.rows("TransitGatewayAttachments") if member(row, "Association", "TransitGatewayRouteTableId")]
         self.associations = {row["TransitGatewayAttachmentId"]: row["Association"]["TransitGatewayRouteTableId"] for row in once(rows, "TransitGatewayAttachmentId")}
         self.transit_tables = {
             row["TransitGatewayRouteTableId"]: [self.read_transit_route(it) for it in items(row, "Routes") if ":" not in it["DestinationCidrBlock"]] for row in self.rows("TransitGatewayRoutes")}
+
+    @staticmethod
+    def has_references(row):
+        """Whether the option is told to be on."""
+        return member(row, "Options", "SecurityGroupReferencingSupport") == "enable"
 
     @staticmethod
     def read_transit_route(row):
@@ -324,8 +340,10 @@ class Network:
         return self.subnets[subnet][0]
 
     def host(self, vpc, number):
-        """The interface of the VPC that has the private address."""
-        return next((it.id for it in self.interfaces.values() if self.vpc_of(it.subnet) == vpc and number in it.own()), None)
+        """The interface of the VPC that has the private address, else the one in whose block it lies."""
+        here = [it for it in self.interfaces.values() if self.vpc_of(it.subnet) == vpc]
+        having = [it.id for it in here if number in [private for private, _ in it.addresses]] + [it.id for it in here if it.has(number)]
+        return having[0] if having else None
 
     def public_of(self, vpc, private):
         return next((theirs for it in self.interfaces.values() if self.vpc_of(it.subnet) == vpc for own, theirs in it.addresses if own == private and theirs is not None), None)
@@ -333,6 +351,13 @@ class Network:
     def behind(self, public):
         """The VPC and the private address of a public address."""
         return next(((self.vpc_of(it.subnet), own) for it in self.interfaces.values() for own, theirs in it.addresses if theirs == public), None)
+
+    def public_access(self, interface):
+        """How Block Public Access stops packets of an interface at the internet gateway: the subnet and its mode, or that of its VPC; None where it doesn't."""
+        subnet = self.interfaces[interface].subnet
+        mode = self.access[subnet] or self.access[self.vpc_of(subnet)] or "off"
+        by_gateway = any(life and life.interface == interface for life in self.nats.values())
+        return (subnet, mode) if mode == "block-bidirectional" or (mode == "block-ingress" and not by_gateway) else None
 
     def is_end(self, end):
         return end is INTERNET or (end in self.interfaces and not self.interfaces[end].gateway)
@@ -365,12 +390,20 @@ def acl_verdict(network, acl, way, header):
     return (network.acls[acl][way][min(matching)[1]].allow, min(matching)[0]) if matching else (False, 32767)
 
 
-def counts(network, group, named):
-    """Whether a group that a rule of another names is described, in one VPC with it or in one that an active peering joins to it."""
-    if named not in network.groups:
-        return False
-    vpcs = (network.vpc_of_group[group], network.vpc_of_group[named])
-    return vpcs[0] == vpcs[1] or any(pair in (vpcs, vpcs[::-1]) for pair in network.peerings.values())
+def counts(network, interface, group, named, way):
+    """Whether a group that a rule of another names, at an interface, is described and has a home in the rule's VPC or in one that is joined to it. A rule's VPC is that of the interface
+    where its group has a home there."""
+    here = network.vpc_of(network.interfaces[interface].subnet)
+    own = here if here in network.homes[group] else network.vpc_of_group[group]
+    return any(own == home or are_joined(network, own, home, way) for home in network.homes.get(named, ()))
+
+
+def are_joined(network, one, other, way):
+    """By an active peering; or, for inward rules, by a transit gateway over which groups may be named, as at both attachments."""
+    if any(pair in ((one, other), (other, one)) for pair in network.peerings.values()):
+        return True
+    near, far = ({it.gateway for it in network.attachments.values() if it.vpc == vpc and it.references} for vpc in (one, other))
+    return way == "in" and bool(near & far & network.referencing)
 
 
 def first_rule(network, interface, way, header):
@@ -381,8 +414,8 @@ def first_rule(network, interface, way, header):
             if not rule.may_be(header):
                 continue
             blocks = rule.blocks + [it for name in rule.lists for it in network.lists[name]]
-            members = [it for name in rule.groups if counts(network, group, name) for one in network.interfaces.values() if name in one.groups for it in one.own()]
-            if any(it.holds(far) for it in blocks) or far in members:
+            members = [one for name in rule.groups if counts(network, interface, group, name, way) for one in network.interfaces.values() if name in one.groups]
+            if any(it.holds(far) for it in blocks) or any(it.has(far) for it in members):
                 return f"{group} {way} {rule.id or number}"
     return None
 
@@ -484,7 +517,7 @@ class Walk:
     def out_of(self, header, interface):
         row = self.network.interfaces[interface]
         need(not row.idle, "Detached", interface)
-        need(not row.checked or header.src in row.own(), "SourceCheck", interface)
+        need(not row.checked or row.has(header.src), "SourceCheck", interface)
         self.pass_groups(interface, "out", header)
         return ("router", row.subnet, ("host", interface)), header
 
@@ -555,9 +588,9 @@ class Walk:
     def into(self, header, interface):
         row = self.network.interfaces[interface]
         need(not row.idle, "Detached", interface)
-        need(not row.checked or header.dst in row.own(), "DestCheck", interface)
+        need(not row.checked or row.has(header.dst), "DestCheck", interface)
         self.pass_groups(interface, "in", header)
-        if interface not in self.network.appliances or header.dst in row.own():
+        if interface not in self.network.appliances or row.has(header.dst):
             raise Arrival(interface)
         forwards = any(all(low <= it <= high for it, (low, high) in zip(header, box)) for box in self.network.appliances[interface])
         need(forwards, "ApplianceDrop", interface)
@@ -566,6 +599,7 @@ class Walk:
     def igw_out(self, header, vpc):
         public = self.network.public_of(vpc, header.src)
         need(public is not None, "NoPublic", self.network.internet_gateways[vpc])
+        self.may_be_public(vpc, header.src)
         return ("internet",), header._replace(src=public)
 
     def internet(self, header):
@@ -576,8 +610,15 @@ class Walk:
         need(behind[0] in self.network.internet_gateways, "NoGateway", behind[0])
         return ("igw_in", behind[0]), header
 
+    def may_be_public(self, vpc, private):
+        """Whatever label a packet has: an answer is stopped as an open is."""
+        stop = self.network.public_access(self.network.host(vpc, private))
+        need(stop is None, "BlockPublicAccess", *(stop or ("", "")))
+
     def igw_in(self, header, vpc):
         behind = self.network.behind(header.dst)
+        if behind and behind[0] == vpc:
+            self.may_be_public(*behind)
         return ("enter", vpc, "gateway"), header._replace(dst=behind[1]) if behind and behind[0] == vpc else header
 
     def nat_out(self, header, nat):
@@ -723,6 +764,7 @@ def cuts(network):
     permissions = [rule for ways in network.groups.values() for rules_ in ways.values() for rule in rules_]
     rows = permissions + [row for ways in network.acls.values() for rows_ in ways.values() for row in rows_]
     blocks = [*NON_ROUTABLE, *itertools.chain(*network.vpcs.values(), *network.lists.values()), *(it for row in rows for it in row.blocks)]
+    blocks += [it for row in network.interfaces.values() for it in row.blocks]
     blocks += [it.block for table in network.tables.values() for it in table if it.block] + [it.block for table in network.transit_tables.values() for it in table]
     boxes = [box for told in network.appliances.values() for box in told]
     own = [it for row in network.interfaces.values() for pair in row.addresses for it in pair if it is not None]

@@ -1,7 +1,11 @@
-"""Small networks, made at random: bundles of every kind of row, changed copies of them, and the ends and addresses that occur in them."""
+"""Small networks, made at random: bundles of every kind of row, changed copies of them, and the ends and addresses that occur in them.
+
+Some have modes of Block Public Access, and some instances that don't run. NETWORKS_MORE in the environment names kinds of rows that all
+have besides, with commas between: access, instances, prefixes, references."""
 
 import ipaddress
 import json
+import os
 import re
 
 ANYWHERE = "0.0.0.0/0"
@@ -145,6 +149,55 @@ def add_vpc(rng, whole, v, vpcs, parts, lists):
         add_attachment(rng, whole, v, subnets)
 
 
+def add_access(rng, whole):
+    """Block Public Access: of subnets, of VPCs, and of neither."""
+    modes = ("off", "off", "block-ingress", "block-bidirectional")
+    for it in whole["Vpcs"] + whole["Subnets"]:
+        if rng.random() < 0.4:
+            it["BlockPublicAccessStates"] = {"InternetGatewayBlockMode": rng.choice(modes)}
+
+
+def add_instances(rng, whole):
+    """Instances in several states, some of an interface that another one names too."""
+    rows = [it["NetworkInterfaceId"] for it in whole["NetworkInterfaces"]]
+    for number, name in enumerate(rng.sample(rows, rng.randrange(len(rows) + 1))):
+        told = {"InstanceId": f"i-{number}", "NetworkInterfaces": [{"NetworkInterfaceId": it} for it in {name: 0, rng.choice(rows): 0}]}
+        state = rng.choice(("running", "running", "pending", "stopped", "stopping", "terminated", None))
+        whole.setdefault("Reservations", []).append({"Instances": [{**told, "State": {"Name": state}} if state else told]})
+
+
+def add_prefixes(rng, whole):
+    """Delegated blocks, which no other address or block of the VPC meets."""
+    for it in whole["NetworkInterfaces"]:
+        if "InterfaceType" not in it and rng.random() < 0.3:
+            _, v, s, k = it["NetworkInterfaceId"].split("-")
+            it["Ipv4Prefixes"] = [{"Ipv4Prefix": f"10.{v}.{s}.{first + 16 * int(k)}/28"} for first in rng.choice(((16,), (144,), (16, 144)))]
+
+
+def add_references(rng, whole):
+    """Groups that may be named over transit gateways, and such as belong to several VPCs."""
+    def option(chance):
+        return {"Options": {"SecurityGroupReferencingSupport": "enable" if rng.random() < chance else "disable"}}
+
+    for it in whole["TransitGatewayVpcAttachments"]:
+        it.update(option(0.8) if rng.random() < 0.9 else {})
+    if whole["TransitGatewayVpcAttachments"] and rng.random() < 0.8:
+        whole["TransitGateways"] = [{"TransitGatewayId": "tgw-1", **option(0.8)}]
+    vpcs, groups = ([it[field] for it in whole[name]] for name, field in (("Vpcs", "VpcId"), ("SecurityGroups", "GroupId")))
+    for _ in range(rng.randrange(4)):
+        row = {"GroupId": rng.choice(groups), "VpcId": rng.choice(vpcs), "State": rng.choice(("associated", "associated", "associating"))}
+        whole.setdefault("SecurityGroupVpcAssociations", []).append(row)
+        if rng.random() < 0.7:
+            # (an interface there has the group, as the association lets it)
+            homes = {it["SubnetId"]: it["VpcId"] for it in whole["Subnets"]}
+            there = rng.choice([it for it in whole["NetworkInterfaces"] if homes[it["SubnetId"]] == row["VpcId"]])
+            there["Groups"] = [it for it in there["Groups"] if it["GroupId"] != row["GroupId"]] + [{"GroupId": row["GroupId"]}]
+
+
+# Kinds of rows that a network has where they are asked for, or by chance.
+MORE = {"access": add_access, "instances": add_instances, "prefixes": add_prefixes, "references": add_references}
+
+
 LISTS = ("Vpcs", "Subnets", "NetworkInterfaces", "RouteTables", "NetworkAcls", "SecurityGroups", "SecurityGroupRules", "InternetGateways", "NatGateways", "VpcPeeringConnections",
          "TransitGatewayVpcAttachments", "TransitGatewayAttachments", "TransitGatewayRoutes", "PrefixLists", "Appliances")
 
@@ -169,6 +222,12 @@ def network(rng):
         kind = rng.choice([{"Kind": "all"}, {"Kind": "none"}, {"Kind": "service", "Ports": "80-443"}, {"Kind": "peer", "Prefix": block(rng, vpcs)}])
         whole["Appliances"].append({"NetworkInterfaceId": "eni-0-0-0", **kind})
         whole["NetworkInterfaces"][0]["SourceDestCheck"] = False
+    wanted = [*filter(None, os.environ.get("NETWORKS_MORE", "").split(","))]
+    for name, chance in (("access", 0.3), ("instances", 0.2)):
+        if rng.random() < chance and name not in wanted:
+            wanted.insert(0, name)
+    for name in wanted:
+        MORE[name](rng, whole)
     return json.dumps({name: rows for name, rows in whole.items() if rows}, separators=(",", ":")).encode()
 
 
@@ -295,6 +354,8 @@ class Change:
 
     def more_hosts(self):
         it = json.loads(json.dumps(self.some(self.hosts)))
+        # (whose blocks stay its own)
+        it.pop("Ipv4Prefixes", None)
         own = re.sub(r"\d+$", str(self.rng.randrange(210, 220)), it["PrivateIpAddress"])
         if own not in json.dumps(self.whole):
             self.whole["NetworkInterfaces"].append({**it, "NetworkInterfaceId": self.new_id(), "PrivateIpAddress": own, "PrivateIpAddresses": [{"PrivateIpAddress": own}], "SourceDestCheck": True})
@@ -436,4 +497,4 @@ class Ends:
         for name in (b"sport", b"port"):
             if proto != b"50" and rng.random() < 0.35:
                 words += [name, b"%d-%d" % tuple(ports(rng))]
-        return [*words, b"max", b"%d" % rng.choice((1, 2, 10, 1000))] if rng.random() < 0.2 else words
+        return [*words, b"max", b"%d" % rng.choice((1, 2, 10, 1000, 20000, 20001, 50000, 100000))] if rng.random() < 0.3 else words

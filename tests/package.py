@@ -80,6 +80,8 @@ def run_words(results):
     results.add("lists that are counted", lists, words.COUNTED_LISTS)
     results.add("lists of a bundle", set(words.COUNTED_LISTS) - set(LISTS), set())
     results.add("sides", len(words.SIDES), len(headers.LAST))
+    sides = re.search(r"^fn side_name\b.*?^}", source("crates/block_report/src/trees.rt"), re.M | re.S)[0]
+    results.add("sides of cuts", tuple(bytes_in(sides)), words.CUT_SIDES)
 
 
 def run_tables(results):

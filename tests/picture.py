@@ -24,6 +24,8 @@ import sys
 import tempfile
 import xml.etree.ElementTree as xml
 
+import answers
+
 TOP = os.path.dirname(os.path.dirname(os.path.abspath(__file__)))
 sys.path.insert(0, TOP)
 
@@ -77,6 +79,18 @@ row 1 reply AclOut acl-b 32767 6-6 10.0.1.10-10.0.1.10 10.0.2.20-10.0.2.20 0-102
 row 2 request Unmodelled vpce-1 - 6-6 10.0.1.10-10.0.1.10 10.0.2.20-10.0.2.20 1024-32767 443-443
 end 2
 """
+TREE = """vpc-report 2
+query from eni-a to eni-b
+box 6-6 10.0.1.8-10.0.1.11 10.0.2.20-10.0.2.20 0-32767 443-443
+cut src 10.0.1.10
+leaf request SourceCheck eni-a -
+cut src 10.0.1.11
+cut p 1024
+leaf reply AclOut acl-b 32767
+leaf request Unmodelled vpce-1 -
+leaf request BlockPublicAccess subnet-a block-ingress
+end 4
+"""
 MORE = """more boxes
 query from eni-a to eni-b
 box 6-6 10.0.1.10-10.0.1.10 10.0.2.20-10.0.2.20 5000-5000 0-65535
@@ -116,7 +130,7 @@ row 5 eni-d closed eni-b request Absent eni-d - 6-6 10.0.1.12-10.0.1.12 10.0.2.2
 end 5
 """
 TEXTS = [
-    ("a walk and its reply", NAT), ("a walk that is stopped", STOPPED), ("a report", REPORT), ("more boxes", MORE), ("a matrix", MATRIX),
+    ("a walk and its reply", NAT), ("a walk that is stopped", STOPPED), ("a report", REPORT), ("a tree", TREE), ("more boxes", MORE), ("a matrix", MATRIX),
     ("an empty matrix", "matrix\n"), ("reach", REACH), ("more reach", MORE_REACH), ("nothing reached", "vpc-reach 1\nquery\nend 0\n"), ("a change", DIFF),
     ("no change", "vpc-diff 1\nquery from eni-a\nend 0\n"),
     ("more changes", "more changes\n" + "\n".join(DIFF.splitlines()[1:-1]) + "\nnext eni-x tcp 10.0.0.1 10.0.0.2 0 1\n"),
@@ -130,7 +144,9 @@ REFUSED = [
     ("nothing", ""), ("a newline", "\n"), ("words", "refused words 1\n"), ("a file", "read fault 1\n"), ("memory", "want of memory\n"), ("yes", "yes\n"),
     ("an untrue report", "no untrue 1 tcp 10.0.1.10 10.0.2.20 0 80 through\n"), ("events", "event 1 arrived eni-b tcp 10.0.1.10 10.0.1.20 5000 443\n"),
     ("make", "make 1\npair eni-1 internet blocked\n"), ("a refused bundle", "refused description NoAcl subnet-a\n"), ("bytes", b"\xff\xfe\x00"),
-    ("a null", "matrix\0\n"), ("another version", "vpc-report 2\nquery from eni-a to eni-b\n"), ("two texts", STOPPED + STOPPED), ("a line more", MATRIX + "\n"),
+    ("a null", "matrix\0\n"), ("another version", REPORT.replace("vpc-report 1", "vpc-report 3")), ("a list as a tree", REPORT.replace("vpc-report 1", "vpc-report 2")),
+    ("a tree as a list", TREE.replace("vpc-report 2", "vpc-report 1")), ("a cut beyond its side", TREE.replace("cut p 1024", "cut p 32768")), ("a leaf less", TREE.replace("leaf reply AclOut acl-b 32767\n", "")),
+    ("a tree of a wrong count", TREE.replace("end 4", "end 5")), ("two texts", STOPPED + STOPPED), ("a line more", MATRIX + "\n"),
     ("lines that end with two bytes", NAT.replace("\n", "\r\n")), ("a number twice", REPORT.replace("row 2", "row 1")), ("a wrong count", REPORT.replace("end 2", "end 3")),
     ("an address beyond", STOPPED.replace("10.0.1.10", "10.0.1.256")), ("a range backwards", REPORT.replace("0-1023", "1023-0")),
     ("a port beyond", REPORT.replace("1024-32767", "1024-65536")), ("a row beyond the box", REPORT.replace("1024-32767", "1024-32768")),
@@ -254,6 +270,8 @@ def words_of(svg):
 
 def strange_words(svg, text, names):
     """Words of a picture that stand neither in the text, nor in the names, nor among its own; numbers aside."""
+    # (the boxes of leaves stand in no line)
+    text += answers.report_of(text.encode()).text().decode() if text.startswith("vpc-report 2") else ""
     told = set(re.split(r"[\s:]+", text)) | {part for it in text.split() for part in it.split("-")} | set(script.OWN_WORDS)
     told |= {word for it in re.findall(r'"((?:[^"\\]|\\.)*)"', names) for word in re.split(r"[\s,;:.()]+", printable(json.loads(f'"{it}"')))}
     parts = {word for it in told for word in re.split(r"[,;:.()]+", it)}
@@ -294,6 +312,13 @@ def run_texts(results, path):
         check_picture(results, f"{name}, long ids", long, is_wrapped=True)
         odd = text.replace("eni-a", "<eni&a>").replace("eni-b", "\"b'--").replace("acl-1", "<!--").replace("acl-b", "]]>").replace("vpce-1", "&#0;")
         check_picture(results, f"{name}, ids of signs", odd, is_wrapped=True)
+
+
+def run_trees(results):
+    """A tree is drawn as the list of its leaves is."""
+    for name, text in (("a tree", TREE), ("a tree of many leaves", large_tree(300)), ("a tree of one leaf", "\n".join([*TREE.splitlines()[:3], "leaf request GroupsIn eni-b -", "end 1", ""]))):
+        alike = [picture(it)[1] for it in (text, answers.report_of(text.encode()).text().decode())]
+        results.add(f"{name}: as its rows", alike[0] == alike[1], True)
 
 
 def run_why(results, path):
@@ -870,6 +895,23 @@ def large_report(ports):
     return "\n".join(["vpc-report 1", f"query from internet to {AWS}", f"box {box}", *lines, f"end {len(lines)}", ""])
 
 
+def large_tree(count):
+    """A tree of so many leaves, cut in the middle by ports in turn."""
+    rng, nodes, left = random.Random(count), [], [((0, 65535), (0, 65535), count)]
+    while left:
+        p, q, leaves = left.pop()
+        if leaves == 1:
+            nodes.append(f"leaf request AclIn acl-{rng.randrange(20)} {rng.randrange(1, 40)}")
+            continue
+        side = 0 if p[1] - p[0] > q[1] - q[0] else 1
+        low, high = (p, q)[side]
+        at = (low + high) // 2 + 1
+        nodes.append(f"cut {'pq'[side]} {at}")
+        parts = [((it, q) if side == 0 else (p, it)) for it in ((low, at - 1), (at, high))]
+        left += [(*parts[1], leaves - leaves // 2), (*parts[0], leaves // 2)]
+    return "\n".join(["vpc-report 2", f"query from internet to {AWS}", "box 6-6 10.9.9.9-10.9.9.9 10.0.0.1-10.0.0.1 0-65535 0-65535", *nodes, f"end {count}", ""])
+
+
 def large_reach():
     rng, lines = random.Random(3), []
     for s, e in itertools.product(range(100), range(200)):
@@ -887,13 +929,13 @@ def own_rows():
 def run_large(results):
     for name, text in (
         ("a report of 20,000 rows, 5 ports", large_report(5)), ("a report of 20,000 rows, 400 ports", large_report(400)), ("a matrix of 500 hosts", matrix_text(1, 500, 14)),
-        ("a matrix of 500 hosts of 90 kinds", matrix_text(2, 500, 90)), ("20,000 rows of reach", large_reach()), ("a change of 200 rows", diff_text(5, 200)), ("20,000 rows of one way", own_rows()),
+        ("a matrix of 500 hosts of 90 kinds", matrix_text(2, 500, 90)), ("20,000 rows of reach", large_reach()), ("a change of 200 rows", diff_text(5, 200)), ("20,000 rows of one way", own_rows()), ("a tree of 100,000 leaves", large_tree(100_000)),
     ):
         before = resource.getrusage(resource.RUSAGE_CHILDREN)
         ran = subprocess.run([os.path.join(TOP, "picture")], input=text.encode(), capture_output=True, check=False)
         after = resource.getrusage(resource.RUSAGE_CHILDREN)
         took = after.ru_utime + after.ru_stime - before.ru_utime - before.ru_stime
-        results.add(f"{name}: took {took:.1f} s", (ran.returncode, ran.stderr, took < (5 if "one way" in name else 2)), (0, b"", True))
+        results.add(f"{name}: took {took:.1f} s", (ran.returncode, ran.stderr, took < (5 if "one way" in name or "tree" in name else 2)), (0, b"", True))
         svg = check_picture(results, name, text)
         results.add(f"{name}: size", len(ran.stdout) < 700_000, True)
         if "report" in name:
@@ -948,6 +990,7 @@ def main(words):
     for seed, hosts, kinds in ((1, 1, 1), (2, 2, 2), (3, 12, 4), (4, 40, 40), (5, 80, 70), (6, 120, 8)):
         run_matrix(results, seed, hosts, kinds)
     run_planes(results)
+    run_trees(results)
     run_large(results)
     if words:
         run_answers(results, os.path.abspath(words[0]))

@@ -71,8 +71,11 @@ SENTENCES = [
     (f"{ASK} proto 47 port 1-2", 'word 9, "port", asks for ports, and this protocol has none: leave them out'),
     (f"{ASK} proto 47 src 10.0.0.0/8 sport 1-2", 'word 11, "sport", asks for ports, and this protocol has none: leave them out'),
     (f"{ASK} proto icmp port 2-1", 'word 10, "2-1", is backwards: write 1-2'),
-    (f"{ASK} max 0", 'word 8, "0", is no number from 1 to 20000'),
-    (f"{ASK} max many", 'word 8, "many", is no number from 1 to 20000'),
+    (f"{ASK} max 0", 'word 8, "0", is no number from 1 to 100000'),
+    (f"{ASK} max 100001", 'word 8, "100001", is no number from 1 to 100000'),
+    (f"{ASK} max many", 'word 8, "many", is no number from 1 to 100000'),
+    (f"reach {ONE} max 20001", 'word 4, "20001", is no number from 1 to 20000'),
+    (f"diff {ONE} shop.json max some", 'word 5, "some", is no number from 1 to 20000'),
     (f"reach {ONE} to eni-b from eni-a", f'word 5, "from", stands too late: the order is from, to, {PAIRS}'),
     (f"reach {ONE} to eni-x", f'word 4, "eni-x", is neither internet nor the id of an interface of {ONE}'),
     (f"reach {ONE} port 443", 'word 4, "443", is no range: write 443-443'),
@@ -127,9 +130,24 @@ SENTENCES = [
     (f"replay {ONE} windows.txt", r"line 1 of windows.txt ends with a carriage return: tr -d '\r' takes these out"),
     (f"replay {ONE} gap.txt", f"line 1 of gap.txt, which is empty or missing, is no packet of {ONE}: a line is LABEL from END PROTO SRC DST P Q"),
     (f"check {ONE} empty.json", "empty.json is empty"),
+    (f"check {ONE} rows.txt", "line 20004 of rows.txt is a row past the 20,000 that are read: ask about a part"),
+    (f"check {ONE} tree.txt", "line 200005 of tree.txt is a leaf past the 100,000 that are read: ask about a part"),
     (f"replay {ONE} large.txt", "large.txt is longer than 64 MiB"),
     ("matrix large.txt", "large.txt is longer than 64 MiB: jq -c . takes the blanks out"),
 ]
+
+
+def long_report(version):
+    """A report of more rows or leaves than are read: by ports, those of sources first."""
+    ends = "6-6 10.0.1.10-10.0.1.10 10.0.1.20-10.0.1.20"
+    lines, stop = [f"vpc-report {version}", "query from eni-a to eni-b", f"box {ends} 0-65535 0-65535"], "request GroupsIn eni-b -"
+    if version == 1:
+        lines += [f"row {k} {stop} {ends} {k}-{k} 0-65535" for k in range(1, 20_002)]
+    else:
+        for side, count in (("p", 65_535), ("q", 34_466)):
+            for k in range(1, count + 1):
+                lines += [f"cut {side} {k}", f"leaf {stop}"]
+    return "\n".join([*lines, ""]).encode()
 
 
 def write_files(room):
@@ -168,6 +186,8 @@ def write_files(room):
         "ports.txt": b"# web\nreachable from eni-a to eni-b port 443\n",
         "ends.txt": b"open from eni-a to eni-x\n",
         "most.txt": b"reachable from eni-a to eni-b max 5\n",
+        "rows.txt": long_report(1),
+        "tree.txt": long_report(2),
         "address.txt": event + event.replace(b"10.0.1.10", b"10.0.1.010"),
     }
     with open(os.path.join(TOP, "examples", "shop.json"), "rb") as file:

@@ -135,7 +135,10 @@ class Question:
         if "dst" in self.told or self.goal in (model.ANY, model.INTERNET):
             targets = [self.told.get("dst") or every]
         else:
-            targets = [(it, it) for it in sorted({it for row in self.described(self.goal) for pair in row.addresses for it in pair if it is not None})]
+            told = [(it, it) for row in self.described(self.goal) for pair in row.addresses for it in pair if it is not None]
+            told += [(it.first, it.last) for row in self.described(self.goal) for it in row.blocks]
+            # (those that lie in no other)
+            targets = [it for it in sorted(set(told)) if not any(other != it and other[0] <= it[0] and it[1] <= other[1] for other in told)]
         return [(self.proto, src, dst, self.p, self.q) for src in sources for dst in targets]
 
     def cuts(self):

@@ -1,8 +1,8 @@
 #!/usr/bin/env python3
 """What `survey` tells of small bundles, and whether the program answers as it says: tests/survey.py [PROGRAM]
 
-Each row of ROWS is one bundle: a small network and what the row puts into it. Its lines are all that survey prints of it, without
-`not followed: ` and with --all. Without it no line is another where each is of a kind of its own, and those of one kind are one line
+Each row of ROWS is one bundle: a small network and what the row puts into it. Its lines are all that survey prints of it with --all,
+without `not followed: `. Without it no line is another where each is of a kind of its own, and those of one kind are one line
 with their count (FOLDED). Where a row has a packet and PROGRAM is given, PROGRAM traces the packet in the same bundle, and its last
 line is the row's: so a line that says how packets end is true of the program. The rows call survey within this process, and a few
 more run it as one of its own. The last line is 'N passed, M failed'.
@@ -24,7 +24,7 @@ from scripts import survey as script
 
 # vpc-a, attached to igw-a and to tgw-1, and vpc-b of another account, attached to tgw-1: a host and a table in each of the subnets.
 BASE = json.loads("""{
-"Vpcs": [{"VpcId": "vpc-a", "CidrBlock": "10.1.0.0/16"}, {"VpcId": "vpc-b", "CidrBlock": "10.2.0.0/16"}],
+"Vpcs": [{"VpcId": "vpc-a", "CidrBlock": "10.1.0.0/16", "BlockPublicAccessStates": {"InternetGatewayBlockMode": "off"}}, {"VpcId": "vpc-b", "CidrBlock": "10.2.0.0/16"}],
 "Subnets": [
   {"SubnetId": "subnet-a", "VpcId": "vpc-a", "AvailabilityZone": "us-east-1a", "AvailabilityZoneId": "use1-az6", "OwnerId": "111122223333"},
   {"SubnetId": "subnet-b", "VpcId": "vpc-b", "AvailabilityZone": "us-east-1a", "AvailabilityZoneId": "use1-az6", "OwnerId": "444455556666"}],
@@ -81,6 +81,7 @@ HIDDEN = "packets from it stop as NoPublic, and none to it comes to the interfac
 UNLISTED = "that SecurityGroupRules has no rule of sg-b: its IpPermissions and IpPermissionsEgress count"
 NO_TABLE = "which the bundle doesn't have: packets stop there as TgwNoTable"
 EMPTY = "no interfaces: there is no end but the internet to ask about; another region or account may be meant"
+IGW_B = '{"InternetGatewayId": "igw-b", "Attachments": [{"State": "%s", "VpcId": "vpc-b"}]}'
 LACKS = "its addresses that PrivateIpAddresses lacks stop as NoHost, and as sources as SourceCheck"
 
 # Name, what is put in by its place or list, the lines, the packet, the last line of its trace.
@@ -162,7 +163,7 @@ ROWS = [
     ("an application load balancer", {"eni": '{"InterfaceType": "interface", "Description": "ELB app/shop/50dc6c495c0c9188"}'},
      ["what the load balancer of eni-a sends on: packets end there; ask on from it to its targets"], TO_B, "stopped GroupsIn eni-b -"),
     ("a stopped instance", {"Reservations": '{"Instances": [{"InstanceId": "i-1", "State": {"Name": "stopped"}, "NetworkInterfaces": [{"NetworkInterfaceId": "eni-a"}]}]}'},
-     ["state stopped of instance i-1: eni-a takes and sends packets all the same"], "open from eni-a udp 10.1.1.10 10.2.1.10 1 2", "arrived eni-b"),
+     [], "open from eni-a udp 10.1.1.10 10.2.1.10 1 2", "stopped Detached eni-a -"),
     ("a running one", {"Reservations": '{"Instances": [{"InstanceId": "i-1", "State": {"Name": "running"}, "NetworkInterfaces": [{"NetworkInterfaceId": "eni-a"}]}]}'}, [], None, None),
 
     # groups
@@ -179,11 +180,14 @@ ROWS = [
                                        "route": '{"DestinationCidrBlock": "10.2.1.0/24", "NatGatewayId": "nat-1"}'},
      ["secondary addresses of nat-1, 10.1.1.5: it sends packets on from 10.1.1.6 alone"], TO_B, "stopped Loop nat-1 -"),
     ("public access that is blocked, by VPC", {"vpc": '{"BlockPublicAccessStates": {"InternetGatewayBlockMode": "block-bidirectional"}}', "eni": '{"PrivateIpAddresses": [{"PrivateIpAddress": "10.1.1.10", "Association": {"PublicIp": "203.0.113.10"}}]}'},
-     ["block public access (block-bidirectional) of vpc-a: packets pass its internet gateway all the same"], OUT, "arrived internet"),
-    ("by subnet", {"subnet": '{"BlockPublicAccessStates": {"InternetGatewayBlockMode": "block-ingress"}}'}, ["block public access (block-ingress) of vpc-b, subnet-b: packets pass its internet gateway all the same"], None, None),
-    ("off", {"vpc": '{"BlockPublicAccessStates": {"InternetGatewayBlockMode": "off"}}', "VpcBlockPublicAccessOptions": '{"AwsAccountId": "111122223333", "InternetGatewayBlockMode": "off"}'}, [], None, None),
-    ("by account", {"VpcBlockPublicAccessOptions": '{"AwsAccountId": "111122223333", "InternetGatewayBlockMode": "block-ingress"}', "VpcBlockPublicAccessExclusions": '{"ExclusionId": "vpcbpa-exclude-1"}'},
-     ["block public access (block-ingress) of account 111122223333, which excludes vpcbpa-exclude-1: packets pass its internet gateways all the same"], None, None),
+     [], OUT, "stopped BlockPublicAccess subnet-a block-bidirectional"),
+    ("that isn't told", {"vpc": '{"BlockPublicAccessStates": null}', "eni": '{"PrivateIpAddresses": [{"PrivateIpAddress": "10.1.1.10", "Association": {"PublicIp": "203.0.113.10"}}]}'},
+     ["not told: block public access of subnet-a"], OUT, "arrived internet"),
+    ("without its mode", {"vpc": '{"BlockPublicAccessStates": {"InternetGatewayBlockMode": null}}'}, ["not told: block public access of subnet-a"], None, None),
+    ("of a second VPC", {"InternetGateways": IGW_B % "attached"}, ["not told: block public access of subnet-b"], None, None),
+    ("by its subnet alone", {"InternetGateways": IGW_B % "available", "subnet": '{"BlockPublicAccessStates": {"InternetGatewayBlockMode": "block-ingress"}}'}, [], None, None),
+    ("of a gateway that is being detached", {"InternetGateways": IGW_B % "detaching"}, [], None, None),
+    ("by account", {"VpcBlockPublicAccessOptions": '{"AwsAccountId": "111122223333", "InternetGatewayBlockMode": "block-ingress"}', "VpcBlockPublicAccessExclusions": '{"ExclusionId": "vpcbpa-exclude-1"}'}, [], None, None),
 
     # transit gateways
     ("an attachment of another kind", {"TransitGatewayAttachments": '{"TransitGatewayAttachmentId": "att-vpn", "TransitGatewayId": "tgw-1", "ResourceType": "vpn", "State": "available"}'},
@@ -234,9 +238,8 @@ FOLDED = [
       "2 gateways to other networks, as vgw-1: packets from behind them can't be asked about"]),
     ("a thousand of them", {"route": ", ".join('{"DestinationCidrBlock": "10.9.%d.%d/32", "GatewayId": "vpce-1"}' % (k // 256, k % 256) for k in range(1000))},
      [f"1,000 routes that lead beyond what is followed, as rtb-a 10.9.0.0/32 to vpce-1: {STOPS}"]),
-    ("two instances", {"Reservations": '{"Instances": [{"InstanceId": "i-1", "State": {"Name": "stopped"}, "NetworkInterfaces": [{"NetworkInterfaceId": "eni-a"}]},'
-                                       '{"InstanceId": "i-2", "State": {"Name": "stopped"}, "NetworkInterfaces": [{"NetworkInterfaceId": "eni-b"}]}]}'},
-     ["2 instances that don't run, as i-1: their interfaces take and send packets all the same"]),
+    ("two subnets of which block public access isn't told", {"vpc": '{"BlockPublicAccessStates": {}}', "InternetGateways": IGW_B % "available"},
+     ["not told: block public access of 2 subnets, as subnet-a"]),
     ("both directions of a reference", {"in": '{"IpProtocol": "tcp", "UserIdGroupPairs": [{"GroupId": "sg-a"}]}, {"IpProtocol": "udp", "UserIdGroupPairs": [{"GroupId": "sg-a"}]}'},
      ["2 references over transit gateways, as sg-b in 2 to sg-a over tgw-1: what they alone allow stops as GroupsIn or GroupsOut"]),
     ("a word that is none", {"RouteTables": '{"RouteTableId": "rtb-\\u001b[2J", "Routes": [{"DestinationIpv6CidrBlock": "::/0", "GatewayId": "igw-a"}]}, '
@@ -275,6 +278,11 @@ def put(bundle, place, texts):
         row.update(rows[0])
 
 
+def printed(lines):
+    """Lines as they are printed."""
+    return [it if it.startswith("not told: ") else f"not followed: {it}" for it in lines]
+
+
 def survey(*words):
     """The status of survey, called within this process, and its lines on standard output and standard error."""
     out, err = io.StringIO(), io.StringIO()
@@ -308,7 +316,7 @@ def run_row(results, row, path, program):
         put(bundle, place, texts)
     with open(path, "w", encoding="utf-8") as file:
         json.dump(bundle, file)
-    wanted = (1 if lines else 0, [f"not followed: {it}" for it in lines], [])
+    wanted = (1 if lines else 0, printed(lines), [])
     results.add(name, survey("--all", path), wanted)
     results.add(f"{name}, --all behind", survey(path, "--all"), wanted)
     status, found, err = survey(path)
@@ -330,7 +338,7 @@ def run_folded(results, path):
             put(bundle, place, texts)
         with open(path, "w", encoding="utf-8") as file:
             json.dump(bundle, file)
-        results.add(name, survey(path), (1, [f"not followed: {it}" for it in lines], []))
+        results.add(name, survey(path), (1, printed(lines), []))
 
 
 def run_file(results, row, path):
