@@ -140,7 +140,7 @@ def refusals():
         ("trace c.json " + PACKET.replace("eni-a", "eni-z") + " 443", "packet UnknownId 5"),
         ("ask c.json from eni-nat to eni-b", "query NotAnEnd eni-nat"), ("ask c.json from internet to internet", "query BothInternet"),
         ("ask c.json " + QUERY + " port 80", "query BadWord 8"), ("ask c.json " + QUERY + " port 80-79", "query EmptyRange 8"),
-        ("ask c.json " + QUERY + " max 20001", "query MaxOutOfRange"),
+        ("ask c.json " + QUERY + " max 100001", "query MaxOutOfRange"),
         ("ask c.json from eni-none to eni-b", "query NoAddress eni-none"), ("ask c.json from eni-a to eni-none", "query NoAddress eni-none"),
         ("ask c.json from eni-a to eni-none port 80-79", "query EmptyRange 8"), ("ask c.json from eni-none to eni-b max 0", "query MaxOutOfRange"),
         ("check c.json over.txt", "report TooManyBoxes 20004"),
