@@ -6,7 +6,7 @@ use Rattle.vpc_model.specs.declared.rows.NatLife.TheVariants as lives
 use Rattle.vpc_model.specs.declared.rows.Reach.TheVariants as reaches
 use Rattle.vpc_model.specs.declared.rows.Target.TheVariants as targets
 use Rattle.vpc_model.specs.Nat.{inward}
-use Rattle.vpc_model.specs.Lookup.{no_subnet, no_vpc}
+use Rattle.vpc_model.specs.Lookup.{no_scope, no_subnet, no_vpc}
 
 -- ---- addresses, rules and routes
 
@@ -98,6 +98,7 @@ bare vpcs subnets = record {
   associations = [];
   tgw_tables = [];
   appliances = [];
+  scope = no_scope;
 }
 
 -- ---- tables alone

@@ -1,6 +1,6 @@
 -- Where packets are stopped in small networks: each stop at least once.
 use Rattle.std.specs.Prelude.{◌++◌, ◌∷◌, ◌≡◌, ◌+◌, [], Bool, List, None, Option, Some, codes, false, length, map, true, ℕ}
-use Rattle.vpc_laws.specs.Types.{Description, Header, Interface, NatLife, Outcome, Peering, Route, RuleRef, SubnetNo}
+use Rattle.vpc_laws.specs.Types.{Description, Dir, GroupScope, GroupVpc, Header, Interface, NatLife, Outcome, Peering, Route, RuleRef, SubnetNo}
 use Rattle.vpc_model.specs.declared.outcomes.By.TheVariants as bys
 use Rattle.vpc_base.specs.declared.headers.Dir.TheVariants as dirs
 use Rattle.vpc_model.specs.declared.places.End.TheVariants as ends
@@ -17,7 +17,7 @@ use Rattle.vpc_model.specs.declared.outcomes.Verdict.TheVariants as verdicts
 use Rattle.vpc_examples.specs.Examples.{a_to_c, a_to_server, att, eni, first_walk, from_server, hop, hop_by, nat, outcome_of, subnet, tcp, verdict_in, vpc, walk_after}
 use Rattle.vpc_examples.specs.Networks.{acl, acl_1, allow_all, allow_row, anywhere, attached, bare, behind_nat, block, eni_n, gone_route, group, host, host_with, https_from, https_from_group, local_1, main_table, open_rows, peered, public_hosts, route, site_group, site_host, site_subnet, tcp_row, tgw_route, transit, transit_subnet, two_subnets, v4}
 use Rattle.vpc_model.specs.Terms.{attachment_for, chosen_tgw_route, first_rule, interface_at, is_unroutable, leave_subnet, reference_counts}
-use Rattle.vpc_model.specs.Lookup.{no_subnet, no_vpc}
+use Rattle.vpc_model.specs.Lookup.{no_scope, no_subnet, no_vpc}
 
 -- where a first packet from the first host, or from the internet, ends
 abbrev pub open_from_a : Description → Header → Outcome
@@ -125,7 +125,7 @@ CountsReferences =
 
 -- whether the second site's rule may name the first one's group, where peerings of these pairs are active
 abbrev pub counts_over : List (List ℕ × List ℕ) → Bool
-counts_over pairs = reference_counts (refers_across (map (λ pair. record { id = pair.0 ++ pair.1; pair = Some pair }) pairs)) (codes "vpc-b") (codes "sg-a")
+counts_over pairs = reference_counts (refers_across (map (λ pair. record { id = pair.0 ++ pair.1; pair = Some pair }) pairs)) dirs.Inward (codes "vpc-b") (codes "sg-a")
 
 -- an active peering counts where it is of exactly these two VPCs: not one of either with a third, whichever asked for it, nor
 -- one with each, nor one of a VPC with itself
@@ -137,6 +137,54 @@ OtherPeeringsDontCount =
     (map counts_over (((a, b) ∷ []) ∷ ((b, a) ∷ []) ∷ ((a, c) ∷ (c, b) ∷ (b, a) ∷ []) ∷ []) ≡ true ∷ true ∷ true ∷ [])
     × ((map counts_over (((a, c) ∷ []) ∷ ((c, a) ∷ []) ∷ ((b, c) ∷ []) ∷ ((c, b) ∷ []) ∷ []) ≡ false ∷ false ∷ false ∷ false ∷ [])
     × (map counts_over ([] ∷ ((a, c) ∷ (c, b) ∷ []) ∷ ((a, a) ∷ []) ∷ ((b, b) ∷ []) ∷ []) ≡ false ∷ false ∷ false ∷ false ∷ []))
+
+-- two VPCs at a transit gateway, where the second site's group lets in HTTPS from the members of the first's
+abbrev pub refers_over : GroupScope → Description
+refers_over scope = record transit {
+  groups = site_group (codes "a") ∷ group (codes "sg-b") (codes "vpc-b") (https_from_group (codes "sg-a") ∷ []) [] ∷ [];
+  scope = scope;
+}
+
+-- whether either site's rule of the direction may name the other's group, that of the second first
+abbrev pub count_either_way : Dir → GroupScope → List Bool
+count_either_way dir scope =
+    reference_counts (refers_over scope) dir (codes "vpc-b") (codes "sg-a") ∷ reference_counts (refers_over scope) dir (codes "vpc-a") (codes "sg-b") ∷ []
+
+abbrev pub both_attachments : GroupScope
+both_attachments = record { gateways = codes "tgw-1" ∷ []; attachments = codes "att-a" ∷ codes "att-b" ∷ []; vpcs = [] }
+
+-- an inward rule may name a group over a transit gateway where its option and those of both attachments are on; an outward one may not
+abbrev pub CountsReferencesOverTransit : Type 0
+CountsReferencesOverTransit =
+    let h = tcp (v4 10 1 1 10) (v4 10 2 1 10) 0 443 in
+    (inward_rule (refers_over both_attachments) 1 h ≡ Some (record { group = record { 0 = 1 }; dir = dirs.Inward; number = 1 }))
+    × ((inward_rule (refers_over no_scope) 1 h ≡ None)
+    × ((count_either_way dirs.Inward both_attachments ≡ true ∷ true ∷ [])
+    × ((count_either_way dirs.Outward both_attachments ≡ false ∷ false ∷ [])
+    × ((count_either_way dirs.Inward (record both_attachments { gateways = codes "tgw-2" ∷ [] }) ≡ false ∷ false ∷ [])
+    × ((count_either_way dirs.Inward (record both_attachments { attachments = codes "att-a" ∷ [] }) ≡ false ∷ false ∷ [])
+    × (count_either_way dirs.Inward (record both_attachments { attachments = codes "att-b" ∷ [] }) ≡ false ∷ false ∷ []))))))
+
+-- a group of the first VPC that an interface of the second has, which lets in HTTPS from the members of the second's group
+abbrev pub shared_group : List GroupVpc → Description
+shared_group vpcs = record transit {
+  interfaces = site_host (codes "a") 1 ∷ record (site_host (codes "b") 2) { groups = codes "sg-s" ∷ [] } ∷ host (codes "eni-b9") (codes "subnet-b") (v4 10 2 9 10) (codes "sg-b") ∷ [];
+  groups = site_group (codes "a") ∷ site_group (codes "b") ∷ group (codes "sg-s") (codes "vpc-a") (https_from_group (codes "sg-b") ∷ []) [] ∷ [];
+  scope = record no_scope { vpcs = vpcs };
+}
+
+-- rules of a group count in the VPC of the interface where the group belongs to it, else in the group's own
+abbrev pub RulesAreInTheVpcOfTheInterface : Type 0
+RulesAreInTheVpcOfTheInterface =
+    let h = tcp (v4 10 2 9 10) (v4 10 2 1 10) 0 443 in
+    let in_b : GroupVpc = record { group = codes "sg-s"; vpc = codes "vpc-b" } in
+    (inward_rule (shared_group (in_b ∷ [])) 1 h ≡ Some (record { group = record { 0 = 2 }; dir = dirs.Inward; number = 1 }))
+    × ((inward_rule (shared_group []) 1 h ≡ None)
+    × ((inward_rule (shared_group (record in_b { group = codes "sg-b" } ∷ [])) 1 h ≡ None)
+    × ((inward_rule (shared_group (record in_b { vpc = codes "vpc-c" } ∷ [])) 1 h ≡ None)
+    -- and a group may be named where any of its VPCs is the rule's
+    × ((reference_counts (shared_group (in_b ∷ [])) dirs.Outward (codes "vpc-b") (codes "sg-s") ≡ true)
+    × (reference_counts (shared_group []) dirs.Outward (codes "vpc-b") (codes "sg-s") ≡ false)))))
 
 -- an interface without groups is judged by none, and makes no connection
 abbrev pub NeedsNoGroups : Type 0

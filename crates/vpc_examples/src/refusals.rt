@@ -1,5 +1,5 @@
 // Where packets are stopped in small networks.
-ghost use Rattle.vpc_examples.specs.Stops.{ChecksInterfaces, GatewaysHostNothing, OwnsAllAddresses, JudgesExit, JudgesEveryEntry, PublicAddressesAreOfOneVpc, UnroutableBlocksEnd, EntersNamedGateway, ChecksRoutes, JudgesEntry, FindsFirstRule, CountsReferences, OtherPeeringsDontCount, NeedsNoGroups, ChecksInternetGateways, ChecksNatGateways, ChecksPeerings, ChecksTransitEntry, ChecksTransitExit, LeavesByZone, StaticRouteIsChosen, ChecksReturns, ChecksReturnedHeader, RepliesReturnToTheStart, RequestsReachTheirTarget, LongWalksEnd};
+ghost use Rattle.vpc_examples.specs.Stops.{ChecksInterfaces, GatewaysHostNothing, OwnsAllAddresses, JudgesExit, JudgesEveryEntry, PublicAddressesAreOfOneVpc, UnroutableBlocksEnd, EntersNamedGateway, ChecksRoutes, JudgesEntry, FindsFirstRule, CountsReferences, CountsReferencesOverTransit, RulesAreInTheVpcOfTheInterface, OtherPeeringsDontCount, NeedsNoGroups, ChecksInternetGateways, ChecksNatGateways, ChecksPeerings, ChecksTransitEntry, ChecksTransitExit, LeavesByZone, StaticRouteIsChosen, ChecksReturns, ChecksReturnedHeader, RepliesReturnToTheStart, RequestsReachTheirTarget, LongWalksEnd};
 
 /// Idle interfaces, and the source/destination check.
 pub fn checks_interfaces()
@@ -34,6 +34,16 @@ pub fn counts_references()
 /// Peerings of other VPCs than the two.
 pub fn counts_no_other_peerings()
     ensures { OtherPeeringsDontCount }
+{}
+
+/// Which groups a rule may name over transit gateways.
+pub fn counts_references_over_transit_gateways()
+    ensures { CountsReferencesOverTransit }
+{}
+
+/// Rules of groups that belong to several VPCs.
+pub fn counts_rules_in_the_vpc_of_the_interface()
+    ensures { RulesAreInTheVpcOfTheInterface }
 {}
 
 /// Interfaces without groups.

@@ -9,8 +9,8 @@ use Rattle.vpc_model.specs.declared.places.Came.TheVariants as from
 use Rattle.vpc_base.proofs.Lemmas.{cond_both, false≢true}
 use Rattle.prefix_text.specs.Block.{holds}
 use Rattle.vpc_laws.specs.Access.{IsBlockedNext, IsOff, open_subnet, open_vpc, opened}
-use Rattle.vpc_laws.specs.Types.{Access, Acl, AclNo, AttNo, By, Description, Dir, EniNo, Header, IgwNo, Interface, Label, NatGateway, NatLife, NatNo, PeerNo, Place, RuleRef, Stop, Subnet, SubnetNo, TableNo, Target, TgwTableNo, Vpc, VpcNo}
-use Rattle.vpc_model.specs.Terms.{Appliances, Connection, Moment, Next, Passing, Step, Translation, access_in, access_of, acl_at, acl_of, acl_verdict, answer_passing, attached_gateway, attachment_at, attachment_for, blocked, blocked_at, by_pair, by_route, chosen_route, crossing, deliver, eni_no, enter_host, entering, first_rule_of, first_subnet, from_inward, from_nat, gateway_of, go, go_private, go_public, group_of_id, has_address, has_block, has_vpc, host_of, igw_no, in_passing, interface_at, inward, is_attached, is_blocked, is_full, is_gateway, is_in_vpc, is_in_zone, is_listed, is_tracked, is_translatable, is_unroutable, label_passing, leave_by, leave_subnet, leaving, nat_at, nat_no, nat_of, new_translation, no_route, no_subnet, no_vpc, open_passing, or_else, other_side, out_passing, over_peering, own_address, own_subnet, owned_by, owner_of, pairs_in, pairs_of, passing_groups, passing_of, peer_no, peering_at, plain, private_of, public_of, rule_of_group, step_at, step_into, step_nat_in, step_nat_out, step_out, stop, stops_at, subnet_at, subnet_no, subnet_of, table_at, table_of, to_host, to_interface, to_internet, to_nat, to_owner, to_peer, to_target, to_transit, to_zone, translate, translated_to, translation_of, unless_stopped, vpc_at, vpc_no, vpc_of_interface, vpc_of_subnet, zone_subnet}
+use Rattle.vpc_laws.specs.Types.{Access, Acl, AclNo, AttNo, By, Description, Dir, EniNo, GroupNo, Header, IgwNo, Interface, Label, NatGateway, NatLife, NatNo, PeerNo, Place, RuleRef, Stop, Subnet, SubnetNo, TableNo, Target, TgwTableNo, Vpc, VpcNo}
+use Rattle.vpc_model.specs.Terms.{Appliances, Connection, Moment, Next, Passing, Step, Translation, access_in, access_of, acl_at, acl_of, acl_verdict, answer_passing, attached_gateway, attachment_at, attachment_for, blocked, blocked_at, by_pair, by_route, chosen_route, crossing, deliver, eni_no, enter_host, entering, first_rule_of, first_subnet, from_inward, from_nat, gateway_of, go, go_private, go_public, group_at, group_of_id, has_address, has_block, has_vpc, host_of, igw_no, in_passing, interface_at, inward, is_attached, is_blocked, is_full, is_gateway, is_in_vpc, is_in_zone, is_listed, is_tracked, is_translatable, is_unroutable, label_passing, leave_by, leave_subnet, leaving, nat_at, nat_no, nat_of, new_translation, no_route, no_subnet, no_vpc, open_passing, or_else, other_side, out_passing, over_peering, own_address, own_subnet, owned_by, owner_of, pairs_in, pairs_of, passing_groups, passing_of, peer_no, peering_at, permission_allows, permissions_of, plain, private_of, public_of, rule_of_group, step_at, step_into, step_nat_in, step_nat_out, step_out, stop, stops_at, subnet_at, subnet_no, subnet_of, table_at, table_of, to_host, to_interface, to_internet, to_nat, to_owner, to_peer, to_target, to_transit, to_zone, translate, translated_to, translation_of, unless_stopped, vpc_at, vpc_no, vpc_of_interface, vpc_of_subnet, vpcs_of_group, zone_subnet}
 use Rattle.vpc_model.specs.declared.places.EnterBy.TheVariants as through
 use Rattle.vpc_model.specs.declared.places.Place.TheVariants as places
 use Rattle.vpc_model.specs.declared.rows.Access.TheVariants as modes
@@ -306,16 +306,27 @@ module _ (d : Description) where
 
   -- ---- interfaces
 
-  rules-same : (dir : Dir) (h : Header) (ids : List (List ℕ)) → first_rule_of e dir h ids ≡ first_rule_of d dir h ids
-  rules-same dir h [] = refl
-  rules-same dir h (id ∷ ids) = ap (λ (o : Option RuleRef). or_else (option_and_then (rule_of_group d dir h) (group_of_id d id)) o) (rules-same dir h ids)
+  rule-same : (r : Interface) (dir : Dir) (h : Header) (n : GroupNo) → rule_of_group e r dir h n ≡ rule_of_group d r dir h n
+  rule-same r dir h n =
+      let g = group_at d n in
+      let make : ℕ → RuleRef = λ k. record { group = n; dir = dir; number = k + 1 } in
+      ap (λ (v : List ℕ). option_map make (position (permission_allows d (cond (is_listed v (vpcs_of_group d g)) v g.vpc) dir h) (permissions_of dir g)))
+      (vpc_of_interface-same r)
+
+  found_rule-same : (r : Interface) (dir : Dir) (h : Header) (o : Option GroupNo) → option_and_then (rule_of_group e r dir h) o ≡ option_and_then (rule_of_group d r dir h) o
+  found_rule-same r dir h None = refl
+  found_rule-same r dir h (Some n) = rule-same r dir h n
+
+  rules-same : (r : Interface) (dir : Dir) (h : Header) (ids : List (List ℕ)) → first_rule_of e r dir h ids ≡ first_rule_of d r dir h ids
+  rules-same r dir h [] = refl
+  rules-same r dir h (id ∷ ids) = ap₂ (λ (o x : Option RuleRef). or_else o x) (found_rule-same r dir h (group_of_id d id)) (rules-same r dir h ids)
 
   label-same : (label : Label) (i : EniNo) (dir : Dir) (h : Header) (conns : List Connection) → label_passing e label i dir h conns ≡ label_passing d label i dir h conns
   label-same labels.Opening i dir h conns =
-      let r = interface_at d i in ap (open_passing conns (record { eni = i; dir = dir; header = h })) (rules-same dir h r.groups)
+      let r = interface_at d i in ap (open_passing conns (record { eni = i; dir = dir; header = h })) (rules-same r dir h r.groups)
   label-same labels.Answer i dir h conns =
       let r = interface_at d i in
-      ap (λ (o : Option RuleRef). cond (is_tracked conns i dir h) (record { by = Some bys.Tracked; conns = conns }) (answer_passing conns o)) (rules-same dir h r.groups)
+      ap (λ (o : Option RuleRef). cond (is_tracked conns i dir h) (record { by = Some bys.Tracked; conns = conns }) (answer_passing conns o)) (rules-same r dir h r.groups)
 
   passing-same : (label : Label) (i : EniNo) (dir : Dir) (h : Header) (conns : List Connection) (ids : List (List ℕ))
       → passing_groups e label i dir h conns ids ≡ passing_groups d label i dir h conns ids

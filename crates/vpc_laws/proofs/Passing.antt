@@ -129,7 +129,7 @@ refused_are_forgotten d appliances label m = (step_at-passed d appliances label 
 
 -- ---- opens that a rule allows
 
-open-by : (d : Description) (i : EniNo) (dir : Dir) (h : Header) (conns : List Connection) (r : RuleRef) (groups : List (List ℕ)) → first_rule_of d dir h groups ≡ Some r → first_rule d (interface_at d i) dir h ≡ Some r
+open-by : (d : Description) (i : EniNo) (dir : Dir) (h : Header) (conns : List Connection) (r : RuleRef) (groups : List (List ℕ)) → first_rule_of d (interface_at d i) dir h groups ≡ Some r → first_rule d (interface_at d i) dir h ≡ Some r
     → (passing_groups d Opening i dir h conns groups).by ≡ Some (Rule r)
 open-by d i dir h conns r [] e f = absurd (none-some r e)
 open-by d i dir h conns r (g ∷ gs) e f = rw f refl

@@ -12,7 +12,7 @@ use Rattle.vpc_model.specs.declared.places.EnterBy.TheVariants as through
 use Rattle.vpc_model.specs.declared.places.Place.TheVariants as places
 use Rattle.vpc_model.specs.declared.stops.Stop.TheVariants as stops
 use Rattle.vpc_model.specs.declared.rows.Target.TheVariants as targets
-use Rattle.vpc_model.specs.Terms.{Appliances, Connection, IsAccepted, Moment, Next, Step, Translation, acl_at, acl_of, acl_verdict, arrive, attachment_at, attachment_for, attachment_of_id, beats, beats_tgw, blocked, blocked_at, boxes_at, by_attachment, by_pair, by_route, by_tgw_route, by_tgw_table, chosen_route, chosen_tgw_route, crossing, deliver, deliver_by, eni_no, enter_host, entering, first_rule_of, first_subnet, forwarded, from_inward, from_nat, gateway_of, go, go_private, go_public, group_at, group_of_id, has_address, has_block, has_foreign_text, has_gateway, has_rule, has_subnet, has_text, has_vpc, host_of, igw_no, in_passing, interface_at, inward, is_attached, is_attachment, is_blocked, is_candidate, is_eni, is_eni_of, is_entry, is_full, is_gateway, is_group, is_igw, is_in_vpc, is_in_zone, is_listed, is_live, is_nat, is_origin, is_peering, is_route, is_rule, is_side, is_sound, is_subnet, is_subnet_of, is_table, is_tgw_route, is_tgw_table, is_translatable, is_unbeaten, is_unroutable, is_vpc, joins, leave_by, leave_subnet, leaving, nat_at, nat_no, nat_of, new_translation, no_group, no_interface, no_permission, no_route, no_tgw_route, or_else, other_side, out_passing, own_address, own_subnet, owned_by, owner_of, pairs_of, passes, passing_of, peer_no, peering_at, permission_allows, permissions_of, private_of, public_of, rule_of_group, step_at, step_internet, step_into, step_nat_in, step_nat_out, step_of, step_out, stop, subnet_at, subnet_no, subnet_of, table_at, table_of, table_of_attachment, tgw_table_at, tgw_table_of_id, to_attachment, to_host, to_interface, to_internet, to_nat, to_owner, to_peer, to_target, to_transit, to_zone, translate, translation_of, unless_stopped, vpc_at, vpc_no, vpc_of_interface, vpc_of_subnet, zone_subnet}
+use Rattle.vpc_model.specs.Terms.{Appliances, Connection, IsAccepted, Moment, Next, Step, Translation, acl_at, acl_of, acl_verdict, arrive, attachment_at, attachment_for, attachment_of_id, beats, beats_tgw, blocked, blocked_at, boxes_at, by_attachment, by_pair, by_route, by_tgw_route, by_tgw_table, chosen_route, chosen_tgw_route, crossing, deliver, deliver_by, eni_no, enter_host, entering, first_rule_of, first_subnet, forwarded, from_inward, from_nat, gateway_of, go, go_private, go_public, group_at, group_of_id, has_address, has_block, has_foreign_text, has_gateway, has_rule, has_subnet, has_text, has_vpc, host_of, igw_no, in_passing, interface_at, inward, is_attached, is_attachment, is_blocked, is_candidate, is_eni, is_eni_of, is_entry, is_full, is_gateway, is_group, is_igw, is_in_vpc, is_in_zone, is_listed, is_live, is_nat, is_origin, is_peering, is_route, is_rule, is_side, is_sound, is_subnet, is_subnet_of, is_table, is_tgw_route, is_tgw_table, is_translatable, is_unbeaten, is_unroutable, is_vpc, joins, leave_by, leave_subnet, leaving, nat_at, nat_no, nat_of, new_translation, no_group, no_interface, no_permission, no_route, no_tgw_route, or_else, other_side, out_passing, own_address, own_subnet, owned_by, owner_of, pairs_of, passes, passing_of, peer_no, peering_at, permission_allows, permissions_of, private_of, public_of, rule_of_group, step_at, step_internet, step_into, step_nat_in, step_nat_out, step_of, step_out, stop, subnet_at, subnet_no, subnet_of, table_at, table_of, table_of_attachment, tgw_table_at, tgw_table_of_id, to_attachment, to_host, to_interface, to_internet, to_nat, to_owner, to_peer, to_target, to_transit, to_zone, translate, translation_of, unless_stopped, vpc_at, vpc_no, vpc_of_interface, vpc_of_rules, vpc_of_subnet, zone_subnet}
 use Rattle.prefix_text.specs.Block.{holds}
 use Rattle.vpc_laws.specs.Terms.{AsksGroups, HasAllNamed, HasTarget, IdsHaveNumbers, LeadsWell, LetsPass, NumbersAreInRange, own_connection}
 use Rattle.vpc_laws.proofs.Accepting.{accepted_has_all_named}
@@ -527,10 +527,10 @@ step_at-well d known appliances label (places.TgwLeave a s) m sound =
 
 -- ---- rules
 
-rule-found : (d : Description) (dir : Dir) (h : Header) (n : GroupNo) → is_group d n ≡ true → IfFound (is_rule d) (rule_of_group d dir h n)
-rule-found d dir h n inside =
+rule-found : (d : Description) (e : Interface) (dir : Dir) (h : Header) (n : GroupNo) → is_group d n ≡ true → IfFound (is_rule d) (rule_of_group d e dir h n)
+rule-found d e dir h n inside =
     let g = group_at d n in
-    let p = permission_allows d g.vpc dir h in
+    let p = permission_allows d (vpc_of_rules d e g) dir h in
     let rules = permissions_of dir g in
     let make : ℕ → RuleRef = λ k. record { group = n; dir = dir; number = k + 1 } in
     found-by make (is_rule d) p rules no_permission
@@ -545,14 +545,14 @@ group-found d id =
     let make : ℕ → GroupNo = λ k. record { 0 = k } in
     found-by make (is_group d) p d.groups no_group (λ k inside _. inside) (position p d.groups) refl
 
-rule_by-found : (d : Description) (dir : Dir) (h : Header) (o : Option GroupNo) → IfFound (is_group d) o → IfFound (is_rule d) (option_and_then (rule_of_group d dir h) o)
-rule_by-found d dir h None found = tt
-rule_by-found d dir h (Some n) found = rule-found d dir h n found
+rule_by-found : (d : Description) (e : Interface) (dir : Dir) (h : Header) (o : Option GroupNo) → IfFound (is_group d) o → IfFound (is_rule d) (option_and_then (rule_of_group d e dir h) o)
+rule_by-found d e dir h None found = tt
+rule_by-found d e dir h (Some n) found = rule-found d e dir h n found
 
-pub first_rule-found : (d : Description) (dir : Dir) (h : Header) (ids : List (List ℕ)) → IfFound (is_rule d) (first_rule_of d dir h ids)
-first_rule-found d dir h [] = tt
-first_rule-found d dir h (id ∷ ids) =
-    if_found-else (is_rule d) (option_and_then (rule_of_group d dir h) (group_of_id d id)) (first_rule_of d dir h ids) (rule_by-found d dir h (group_of_id d id) (group-found d id)) (first_rule-found d dir h ids)
+pub first_rule-found : (d : Description) (e : Interface) (dir : Dir) (h : Header) (ids : List (List ℕ)) → IfFound (is_rule d) (first_rule_of d e dir h ids)
+first_rule-found d e dir h [] = tt
+first_rule-found d e dir h (id ∷ ids) =
+    if_found-else (is_rule d) (option_and_then (rule_of_group d e dir h) (group_of_id d id)) (first_rule_of d e dir h ids) (rule_by-found d e dir h (group_of_id d id) (group-found d id)) (first_rule-found d e dir h ids)
 
 lets-rule : (d : Description) (label : Label) (conns : List Connection) (c : Connection) (by : By) → LetsPass d label conns c by → has_rule d by ≡ true
 lets-rule d label conns c bys.Nothing lets = refl
@@ -560,7 +560,7 @@ lets-rule d label conns c bys.NoGroups lets = refl
 lets-rule d label conns c bys.Tracked lets = refl
 lets-rule d label conns c (bys.Rule r) lets =
     let e = interface_at d c.eni in
-    subst (IfFound (is_rule d)) lets.0 (first_rule-found d c.dir c.header e.groups)
+    subst (IfFound (is_rule d)) lets.0 (first_rule-found d e c.dir c.header e.groups)
 
 asks-rule : (d : Description) (label : Label) (conns : List Connection) (own : Option Connection) (by : By) → AsksGroups d label conns own by → has_rule d by ≡ true
 asks-rule d label conns None by asks = subst (λ b. has_rule d b ≡ true) (sym asks) refl

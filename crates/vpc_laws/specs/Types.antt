@@ -19,6 +19,8 @@ pub use Rattle.vpc_model.specs.declared.rows.PrefixList.{PrefixList}
 pub use Rattle.vpc_model.specs.declared.rows.Acl.{Acl}
 pub use Rattle.vpc_model.specs.declared.rows.AclRow.{AclRow}
 pub use Rattle.vpc_model.specs.declared.rows.Group.{Group}
+pub use Rattle.vpc_model.specs.declared.rows.GroupVpc.{GroupVpc}
+pub use Rattle.vpc_model.specs.declared.rows.GroupScope.{GroupScope}
 pub use Rattle.vpc_model.specs.declared.rows.Permission.{Permission}
 pub use Rattle.vpc_model.specs.declared.rows.InternetGateway.{InternetGateway}
 pub use Rattle.vpc_model.specs.declared.rows.NatGateway.{NatGateway}

@@ -3,7 +3,7 @@
 -- described; elsewhere the row is an empty one, and the number is the list's length.
 use Rattle.std.specs.List.{flat_map, list_any, position_or_len}
 use Rattle.std.specs.Prelude.{◌==◌, ◌&&◌, ◌∷◌, [], Bool, List, None, Option, Some, bytes_eq, false, find, length, option_map, position, slice_index_or, true, unwrap_or, ℕ}
-use Rattle.vpc_model.specs.Types.{Acl, AclNo, AttNo, Attachment, Block, Description, EniNo, Group, GroupNo, IgwNo, Interface, InternetGateway, NatGateway, NatNo, PeerNo, Peering, RouteTable, Subnet, SubnetNo, TableNo, TgwTable, TgwTableNo, Vpc, VpcNo}
+use Rattle.vpc_model.specs.Types.{Acl, AclNo, AttNo, Attachment, Block, Description, EniNo, Group, GroupNo, GroupScope, IgwNo, Interface, InternetGateway, NatGateway, NatNo, PeerNo, Peering, RouteTable, Subnet, SubnetNo, TableNo, TgwTable, TgwTableNo, Vpc, VpcNo}
 use Rattle.vpc_model.specs.declared.rows.InterfaceKind.TheVariants as kinds
 use Rattle.vpc_model.specs.declared.rows.NatLife.TheVariants as lives
 use Rattle.vpc_model.specs.Choice.{or_else}
@@ -61,6 +61,10 @@ no_group = record { id = []; vpc = []; inward = []; outward = [] }
 -- a row of DescribeSecurityGroups (EC2 API, DescribeSecurityGroups)
 abbrev pub group_at : Description → GroupNo → Group
 group_at d g = slice_index_or d.groups g.0 no_group
+
+-- groups that count in their own VPCs alone
+abbrev pub no_scope : GroupScope
+no_scope = record { gateways = []; attachments = []; vpcs = [] }
 
 -- an internet gateway that is attached to nothing
 abbrev pub no_igw : InternetGateway

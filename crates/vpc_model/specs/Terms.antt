@@ -7,10 +7,10 @@ pub use Rattle.vpc_model.specs.Choice.{is_unbeaten, or_else}
 pub use Rattle.vpc_model.specs.Connections.{Connection, Passing, added, answer_passing, is_header, is_tracked, label_passing, open_passing, passing_groups, passing_of, same_connection, same_header}
 pub use Rattle.vpc_model.specs.Cuts.{address_cuts, all_cuts, all_permissions, asked_at, block_cuts, blocks_of_permission, blocks_of_reach, cuts_at, cuts_at_interface, cuts_at_tgw_table, cuts_of, cuts_of_acl_row, cuts_of_blocks, cuts_of_box, cuts_of_group, cuts_of_group_id, cuts_of_interface, cuts_of_permission, cuts_of_route, cuts_of_rule, cuts_of_table, cuts_of_tgw_table, cuts_of_vpc, fixed_cuts, on_sides, pair_cuts, standing_cuts}
 pub use Rattle.vpc_model.specs.Filter.{far_address, is_between, matches_proto}
-pub use Rattle.vpc_model.specs.Groups.{are_peers, first_rule, first_rule_of, is_member, names_address, no_permission, permission_allows, permissions_of, reference_counts, rule_of_group}
+pub use Rattle.vpc_model.specs.Groups.{are_on_one, are_over_transit, are_peers, first_rule, first_rule_of, is_inward, is_member, lets_name, may_name, names_address, no_permission, permission_allows, permissions_of, reference_counts, rule_of_group, vpc_of_rules, vpcs_of_group}
 pub use Rattle.vpc_model.specs.Id.{is_id}
 pub use Rattle.vpc_model.specs.Internet.{is_unroutable, owned_by, owner_of, pair_of, pairs_in, pairs_of, private_of, public_of}
-pub use Rattle.vpc_model.specs.Lookup.{acl_at, acl_of, addresses_in, attached_gateway, attachment_at, attachment_of_id, both_addresses, eni_no, entries_of, gateway_of, group_at, group_of_id, has_address, has_interface, has_subnet, has_vpc, host_of, igw_at, igw_no, interface_at, is_in_vpc, is_listed, nat_at, nat_no, no_acl, no_attachment, no_group, no_igw, no_interface, no_nat, no_peering, no_subnet, no_table, no_tgw_table, no_vpc, peer_no, peering_at, subnet_at, subnet_no, subnet_of, table_at, table_of, tgw_table_at, tgw_table_of_id, vpc_at, vpc_no, vpc_of_interface, vpc_of_subnet}
+pub use Rattle.vpc_model.specs.Lookup.{acl_at, acl_of, addresses_in, attached_gateway, attachment_at, attachment_of_id, both_addresses, eni_no, entries_of, gateway_of, group_at, group_of_id, has_address, has_interface, has_subnet, has_vpc, host_of, igw_at, igw_no, interface_at, is_in_vpc, is_listed, nat_at, nat_no, no_acl, no_attachment, no_group, no_igw, no_interface, no_nat, no_peering, no_scope, no_subnet, no_table, no_tgw_table, no_vpc, peer_no, peering_at, subnet_at, subnet_no, subnet_of, table_at, table_of, tgw_table_at, tgw_table_of_id, vpc_at, vpc_no, vpc_of_interface, vpc_of_subnet}
 pub use Rattle.vpc_model.specs.Names.{name_text}
 pub use Rattle.vpc_model.specs.Nat.{Translation, first_free, first_port, free_port, inward, is_full, is_taken, is_translatable, new_translation, shares, translation_of}
 pub use Rattle.vpc_model.specs.Near.{cuts_of_hops, near_cuts}

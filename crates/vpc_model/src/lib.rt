@@ -25,8 +25,8 @@ pub use places::{Came, End, EnterBy, Place, start_place};
 pub use refusals::{ListName, Refusal};
 pub use rows::{
     Access, Acl, AclRow, Appliance, ApplianceKind, Association, Attachment, Description, Group,
-    Interface, InterfaceKind, InternetGateway, NatGateway, NatLife, Peering, Permission,
-    PrefixList, Reach, Route, RouteTable, Subnet, Target, TgwRoute, TgwTable, Vpc,
+    GroupScope, GroupVpc, Interface, InterfaceKind, InternetGateway, NatGateway, NatLife, Peering,
+    Permission, PrefixList, Reach, Route, RouteTable, Subnet, Target, TgwRoute, TgwTable, Vpc,
 };
 pub use same::{same_stop, same_verdict};
 pub use stop_texts::StopText;

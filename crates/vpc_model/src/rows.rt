@@ -249,6 +249,36 @@ pub struct Appliance {
     pub kind: ApplianceKind,
 }
 
+/// A VPC to which a security group of another VPC belongs as well (DescribeSecurityGroupVpcAssociations).
+#[derive(Drop)]
+pub struct GroupVpc {
+    pub group: Id,
+    pub vpc: Id,
+}
+
+/// Where security groups count beside their own VPC.
+pub struct GroupScope {
+    /// The transit gateways over which rules may name groups (DescribeTransitGateways).
+    pub gateways: OwnList<Id>,
+    /// The attachments that let them do so (DescribeTransitGatewayVpcAttachments).
+    pub attachments: OwnList<Id>,
+    /// The further VPCs of groups.
+    pub vpcs: OwnList<GroupVpc>,
+}
+
+impl Drop for GroupScope {
+    fn drop(self) {
+        let GroupScope {
+            gateways,
+            attachments,
+            vpcs,
+        } = self;
+        drop(gateways);
+        drop(attachments);
+        drop(vpcs);
+    }
+}
+
 /// A whole described network.
 pub struct Description {
     pub vpcs: OwnList<Vpc>,
@@ -265,6 +295,7 @@ pub struct Description {
     pub associations: OwnList<Association>,
     pub tgw_tables: OwnList<TgwTable>,
     pub appliances: OwnList<Appliance>,
+    pub scope: GroupScope,
 }
 
 impl Drop for Description {
@@ -284,6 +315,7 @@ impl Drop for Description {
             associations,
             tgw_tables,
             appliances,
+            scope,
         } = self;
         drop(vpcs);
         drop(subnets);
@@ -299,5 +331,6 @@ impl Drop for Description {
         drop(associations);
         drop(tgw_tables);
         drop(appliances);
+        drop(scope);
     }
 }
