@@ -9,13 +9,13 @@ use crate::BundleRefusal;
 use crate::instances::read_instances;
 use json_fields::FieldFault;
 use read_filters::{FilterRows, read_filters, read_group_rules};
-use read_gateways::{GatewayRows, read_gateways};
+use read_gateways::{GatewayRows, read_gateways, read_group_scope};
 use read_network::{NetworkRows, read_appliances, read_network};
 use reference_check::Network;
 use serde_json::Value;
 use std::alloc::Global;
 use vpc_base::OwnList;
-use vpc_model::{Acl, Appliance, Description, Group};
+use vpc_model::{Acl, Appliance, Description, Group, GroupScope};
 
 // The rows of all lists, as one description.
 fn with_rows(
@@ -24,8 +24,9 @@ fn with_rows(
     groups: Vec<Group>,
     gateways: GatewayRows,
     appliances: Vec<Appliance>,
+    scope: GroupScope,
 ) -> Description
-    ensures { result ≡ with_rows network acls groups.items gateways appliances.items }
+    ensures { result ≡ with_rows network acls groups.items gateways appliances.items scope }
 {
     Description {
         vpcs: network.vpcs,
@@ -42,6 +43,7 @@ fn with_rows(
         associations: gateways.associations,
         tgw_tables: gateways.tgw_tables,
         appliances: OwnList::of(appliances),
+        scope,
     }
 }
 
@@ -59,11 +61,12 @@ fn with_later_lists(
 {
     let groups = read_group_rules(alloc, bundle, filters.groups.into_vec())?;
     let interfaces = read_instances(alloc, bundle, network.interfaces.into_vec())?;
+    let scope = read_group_scope(alloc, bundle)?;
     let network = NetworkRows {
         interfaces: OwnList::of(interfaces),
         ..network
     };
-    Ok(with_rows(network, filters.acls, groups, gateways, appliances))
+    Ok(with_rows(network, filters.acls, groups, gateways, appliances, scope))
 }
 
 // The rows of a bundle, or its first fault.

@@ -21,4 +21,5 @@ with_filters d acls groups = record {
   associations = d.associations;
   tgw_tables = d.tgw_tables;
   appliances = d.appliances;
+  scope = d.scope;
 }

@@ -2,10 +2,29 @@
 ghost use Rattle.std.specs.Prelude.{◌≡◌, IfOk};
 ghost use Rattle.copied_rows.specs.Filters.{with_filters};
 
-use crate::lists::copied_list;
+use crate::lists::{CopiedRow, copied_list};
 use std::alloc::Global;
 use vpc_base::{NoMemory, OwnList};
-use vpc_model::{Acl, Description, Group};
+use vpc_model::{Acl, Description, Group, GroupScope, GroupVpc};
+
+impl CopiedRow for GroupVpc {
+    fn copied(&self, alloc: Global) -> Result<GroupVpc, NoMemory> {
+        Ok(GroupVpc {
+            group: self.group.copied(alloc)?,
+            vpc: self.vpc.copied(alloc)?,
+        })
+    }
+}
+
+fn copied_scope(alloc: Global, scope: &GroupScope) -> Result<GroupScope, NoMemory>
+    ensures { IfOk result (λ s. s ≡ scope.now) }
+{
+    Ok(GroupScope {
+        gateways: copied_list(alloc, &scope.gateways)?,
+        attachments: copied_list(alloc, &scope.attachments)?,
+        vpcs: copied_list(alloc, &scope.vpcs)?,
+    })
+}
 
 /// The description once more, with these network ACLs and security groups in place of its own.
 pub fn copied_with(
@@ -31,5 +50,6 @@ pub fn copied_with(
         associations: copied_list(alloc, &d.associations)?,
         tgw_tables: copied_list(alloc, &d.tgw_tables)?,
         appliances: copied_list(alloc, &d.appliances)?,
+        scope: copied_scope(alloc, &d.scope)?,
     })
 }

@@ -9,6 +9,7 @@ use Rattle.json_fields.specs.declared.fault.FieldFault.{FieldFault}
 use Rattle.read_filters.specs.Acls.{acl_of}
 use Rattle.read_filters.specs.Filters.{filters_of}
 use Rattle.read_filters.specs.GroupRules.{group_rules_of}
+use Rattle.read_gateways.specs.Scope.{scope_of}
 use Rattle.read_filters.specs.Groups.{group_of}
 use Rattle.read_gateways.specs.Terms.{associations_of, attachment_of, attachments_of, gateways_of, igws_of, internet_gateway_of, nat_gateway_of, nats_of, peering_of, peerings_of, tgw_table_of, tgw_tables_of, transit_of}
 use Rattle.read_network.specs.Terms.{appliances_of, interface_of, interfaces_of, network_of, prefix_lists_of, subnet_of, subnets_of, table_of, tables_of, vpc_of, vpcs_of}
@@ -97,7 +98,8 @@ description_read bundle =
     read_then (gateways_of bundle) _ AreTypedGatewayRows HasTypedRows (gateways_read bundle) (λ gateways c.
     any_then (appliances_of bundle) _ HasTypedRows (λ appliances.
     any_then (group_rules_of bundle filters.groups) _ HasTypedRows (λ groups.
-    read_then (instances_of bundle network.interfaces) _ (All IsTyped) HasTypedRows (instances_read bundle network.interfaces a.interfaces) (λ interfaces i. record {
+    read_then (instances_of bundle network.interfaces) _ (All IsTyped) HasTypedRows (instances_read bundle network.interfaces a.interfaces) (λ interfaces i.
+    any_then (scope_of bundle) _ HasTypedRows (λ scope. record {
       vpcs = a.vpcs;
       subnets = a.subnets;
       interfaces = i;
@@ -108,7 +110,7 @@ description_read bundle =
       peerings = c.peerings;
       attachments = c.attachments;
       tgw_tables = c.tgw_tables;
-    }))))))
+    })))))))
 
 -- ---- a network
 

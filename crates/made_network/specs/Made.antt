@@ -9,7 +9,7 @@ use Rattle.made_network.specs.Types.{Acl, AclRow, Association, Attachment, Descr
 use Rattle.vpc_model.specs.declared.rows.InterfaceKind.TheVariants as kinds
 use Rattle.vpc_model.specs.declared.rows.Reach.TheVariants as reaches
 use Rattle.vpc_model.specs.declared.rows.Target.TheVariants as targets
-use Rattle.vpc_model.specs.Lookup.{no_subnet, no_vpc}
+use Rattle.vpc_model.specs.Lookup.{no_scope, no_subnet, no_vpc}
 
 -- ---- ids, addresses and blocks
 
@@ -146,6 +146,7 @@ made n = record {
   associations = for_each made_association n;
   tgw_tables = made_gateway_table n ∷ [];
   appliances = [];
+  scope = no_scope;
 }
 
 -- each of them is a network

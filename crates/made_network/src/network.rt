@@ -1,5 +1,6 @@
 // The generated network.
 ghost use Rattle.std.specs.Prelude.{◌≡◌, ◌≤◌, IfOk, None};
+ghost use Rattle.vpc_model.specs.Lookup.{no_scope};
 ghost use Rattle.reference_check.specs.Told.{IsTold};
 ghost use Rattle.made_network.specs.Made.{for_each, made, made_gateway_table};
 
@@ -9,7 +10,7 @@ use crate::rows::MadeRow;
 use reference_check::Network;
 use std::alloc::Global;
 use vpc_base::{NoMemory, OwnList};
-use vpc_model::{Description, Refusal, TgwTable};
+use vpc_model::{Description, GroupScope, Refusal, TgwTable};
 
 // The rows for each number from 1 to n.
 fn rows<R: MadeRow + Drop>(alloc: Global, n: u8) -> Result<OwnList<R>, NoMemory>
@@ -31,6 +32,16 @@ fn gateway_table(alloc: Global, n: u8) -> Result<TgwTable, NoMemory>
     })
 }
 
+fn no_scope(alloc: Global) -> GroupScope
+    ensures { result ≡ no_scope }
+{
+    GroupScope {
+        gateways: no_rows(alloc),
+        attachments: no_rows(alloc),
+        vpcs: no_rows(alloc),
+    }
+}
+
 fn description(alloc: Global, n: u8) -> Result<Description, NoMemory>
     ensures { IfOk result (λ d. d ≡ made n) }
 {
@@ -49,6 +60,7 @@ fn description(alloc: Global, n: u8) -> Result<Description, NoMemory>
         associations: rows(alloc, n)?,
         tgw_tables: only_row(alloc, gateway_table(alloc, n)?)?,
         appliances: no_rows(alloc),
+        scope: no_scope(alloc),
     })
 }
 

@@ -4,4 +4,5 @@ pub mod Nat
 pub mod Peerings
 pub mod Transit
 pub mod Gateways
+pub mod Scope
 pub mod Terms

@@ -1,5 +1,5 @@
 //! Readers of what leads packets out of a VPC in a bundle: internet gateways, NAT gateways, peerings and
-//! transit gateways.
+//! transit gateways; and of where security groups count beside their own VPC.
 //!
 //! Each row's meaning depends on that row and its path alone. The first fault in reading order is the
 //! answer: lists, rows and fields in the order in which they are read.
@@ -9,7 +9,9 @@ mod internet;
 mod nat;
 mod peerings;
 mod reader;
+mod scope;
 mod texts;
 mod transit;
 
 pub use reader::{GatewayRows, read_gateways};
+pub use scope::read_group_scope;

@@ -20,7 +20,8 @@ fn is_usable(state: &str) -> bool
     state == "available" || state == "modifying"
 }
 
-fn is_usable_at(alloc: Global, row: &Value, path: &Path) -> Result<bool, FieldFault>
+/// Whether the attachment carries packets.
+pub fn is_usable_at(alloc: Global, row: &Value, path: &Path) -> Result<bool, FieldFault>
     ensures { Reads (λ x. x) (is_usable_of (view row.now) path.now) result }
 {
     match str_at(alloc, row, path, "State") {

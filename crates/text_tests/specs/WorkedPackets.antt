@@ -8,7 +8,7 @@ use Rattle.vpc_base.specs.declared.headers.Label.TheVariants as labels
 use Rattle.vpc_model.specs.declared.places.End.TheVariants as ends
 use Rattle.vpc_model.specs.declared.rows.InterfaceKind.{InterfaceKind}
 use Rattle.vpc_model.specs.declared.rows.InterfaceKind.TheVariants as kinds
-use Rattle.vpc_model.specs.Lookup.{no_interface}
+use Rattle.vpc_model.specs.Lookup.{no_interface, no_scope}
 use Rattle.query_words.specs.declared.refusal.QueryRefusal.{QueryRefusal}
 use Rattle.query_words.specs.declared.refusal.QueryRefusal.TheVariants as refusals
 use Rattle.query_words.specs.Packet.{packet_of}
@@ -37,6 +37,7 @@ network = record {
   associations = [];
   tgw_tables = [];
   appliances = [];
+  scope = no_scope;
 }
 
 -- what the words of `trace` mean, the last eight as one text with a blank between each two
