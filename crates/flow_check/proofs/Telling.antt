@@ -82,7 +82,7 @@ by-told d [] o found = refl
 by-told d (g ∷ gs) o found = rule-told d o found
 
 pass-told : (d : Description) (i : EniNo) (dir : Dir) (h : Header) → HasRule d (groups_pass d i dir h)
-pass-told d i dir h = let e = interface_at d i in by-told d e.groups (first_rule d e dir h) (first_rule-found d dir h e.groups)
+pass-told d i dir h = let e = interface_at d i in by-told d e.groups (first_rule d e dir h) (first_rule-found d e dir h e.groups)
 
 refused-told : (d : Description) (o : Option By) → HasRule d o → CanBeTold d (refused_by o)
 refused-told d None rule = tt

@@ -115,6 +115,49 @@ const RUNS: [(Asked, Told); 7] = [
     ((0, (100, 1295)), (false, 299, 65535)),
 ];
 
+// A group of the third VPC belongs to the first one as well, and its rule names a group of the first. A rule of a group of the first
+// VPC names one of the second, to which a transit gateway joins it.
+const SCOPE: &str = r#"{
+"Vpcs":[{"VpcId":"vpc-0","CidrBlock":"0.0.0.0/16"},{"VpcId":"vpc-1","CidrBlock":"0.0.0.0/16"},{"VpcId":"vpc-2","CidrBlock":"0.0.0.0/16"}],
+"Subnets":[
+{"SubnetId":"subnet-0","VpcId":"vpc-0","AvailabilityZone":"zone-0"},
+{"SubnetId":"subnet-1","VpcId":"vpc-1","AvailabilityZone":"zone-0"},
+{"SubnetId":"subnet-2","VpcId":"vpc-2","AvailabilityZone":"zone-0"}],
+"NetworkInterfaces":[
+{"NetworkInterfaceId":"eni-0","SubnetId":"subnet-0","Groups":[{"GroupId":"sg-0"}]},
+{"NetworkInterfaceId":"eni-1","SubnetId":"subnet-0","Groups":[{"GroupId":"sg-1"}]},
+{"NetworkInterfaceId":"eni-2","SubnetId":"subnet-2","Groups":[{"GroupId":"sg-0"}]},
+{"NetworkInterfaceId":"eni-3","SubnetId":"subnet-0","PrivateIpAddress":"0.0.0.140","Groups":[{"GroupId":"sg-2"}]},
+{"NetworkInterfaceId":"eni-4","SubnetId":"subnet-1","PrivateIpAddress":"0.0.0.135","Groups":[{"GroupId":"sg-3"}]}],
+"RouteTables":[
+{"RouteTableId":"rtb-0","VpcId":"vpc-0","Associations":[{"Main":true}]},
+{"RouteTableId":"rtb-1","VpcId":"vpc-1","Associations":[{"Main":true}]},
+{"RouteTableId":"rtb-2","VpcId":"vpc-2","Associations":[{"Main":true}]}],
+"NetworkAcls":[{"NetworkAclId":"acl-0","Associations":[{"SubnetId":"subnet-0"},{"SubnetId":"subnet-1"},{"SubnetId":"subnet-2"}]}],
+"TransitGateways":[{"TransitGatewayId":"tgw-0","Options":{"SecurityGroupReferencingSupport":"enable"}}],
+"TransitGatewayVpcAttachments":[
+{"TransitGatewayAttachmentId":"tgw-attach-0","TransitGatewayId":"tgw-0","VpcId":"vpc-0","State":"available",
+"SubnetIds":["subnet-0"],"Options":{"SecurityGroupReferencingSupport":"enable"}},
+{"TransitGatewayAttachmentId":"tgw-attach-1","TransitGatewayId":"tgw-0","VpcId":"vpc-1","State":"available",
+"SubnetIds":["subnet-1"],"Options":{"SecurityGroupReferencingSupport":"enable"}}],
+"SecurityGroupVpcAssociations":[{"GroupId":"sg-0","VpcId":"vpc-0","State":"associated"}],
+"SecurityGroups":[
+{"GroupId":"sg-0","VpcId":"vpc-2","IpPermissions":[{"IpProtocol":"-1","UserIdGroupPairs":[{"GroupId":"sg-2"}]}]},
+{"GroupId":"sg-1","VpcId":"vpc-0","IpPermissions":[{"IpProtocol":"-1","UserIdGroupPairs":[{"GroupId":"sg-3"}]}]},
+{"GroupId":"sg-2","VpcId":"vpc-0"},
+{"GroupId":"sg-3","VpcId":"vpc-1"}]}"#;
+
+const SCOPED: [(Asked, Told); 5] = [
+    // an associated group's rule counts in the interface's VPC
+    ((0, (100, 300)), (false, 139, 65535)),
+    ((0, (140, 300)), (true, 140, 65535)),
+    // and in the group's own VPC for an interface there
+    ((2, (140, 300)), (false, 299, 65535)),
+    // a group of a VPC that a transit gateway joins
+    ((1, (100, 300)), (false, 134, 65535)),
+    ((1, (135, 300)), (true, 135, 65535)),
+];
+
 const FIRST_RULE: &str =
     r#"{"IpProtocol":"tcp","FromPort":200,"ToPort":210,"IpRanges":[{"CidrIp":"0.0.0.0/0"}]}"#;
 
@@ -148,6 +191,7 @@ fn asks(rt: &impl Abort, alloc: Global, bundle: &str, cases: &[(Asked, Told)]) -
 #[test]
 fn asks_rules(rt: HostRuntime) -> Result<(), Fail> {
     asks(&rt, rt.alloc(), BUNDLE, &RULES)?;
+    asks(&rt, rt.alloc(), SCOPE, &SCOPED)?;
     let many = with_many_rules(rt.alloc())?;
     asks(&rt, rt.alloc(), many.as_str(), &RUNS)
 }

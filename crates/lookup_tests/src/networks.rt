@@ -6,7 +6,7 @@ use reference_check::Network;
 use std::alloc::{AllocError, Global};
 use std::test::Fail;
 use vpc_base::OwnList;
-use vpc_model::{Acl, AclRow, Appliance, Description, Id};
+use vpc_model::{Acl, AclRow, Appliance, Description, GroupScope, Id};
 
 pub fn network_of(alloc: Global, text: &str) -> Result<Network, Fail> {
     match read_bundle(alloc, text.as_bytes()) {
@@ -70,5 +70,10 @@ pub fn description_of(
         associations: none(alloc),
         tgw_tables: none(alloc),
         appliances,
+        scope: GroupScope {
+            gateways: none(alloc),
+            attachments: none(alloc),
+            vpcs: none(alloc),
+        },
     }
 }

@@ -1,15 +1,13 @@
 -- Which groups count, and rows whose ids differ.
-use Rattle.std.proofs.Common.{◌≡◌, ◌∙◌, ◌&&◌, ◌++◌, ◌+◌, ◌<◌, ◌||◌, ◌∷◌, [], ℕ, Bool, List, None, Option, Some, ap, arith, bytes_eq, cond, false, get_or, inl, inr, length, map, not, option_and_then, option_map, position, refl, subst, suc, sym, take, true, zero}
+use Rattle.std.proofs.Common.{◌≡◌, ◌∙◌, ◌&&◌, ◌++◌, ◌+◌, ◌<◌, ◌∷◌, [], ℕ, Bool, List, None, Option, Some, ap, arith, bytes_eq, cond, false, get_or, inl, inr, length, map, option_and_then, option_map, position, refl, subst, suc, sym, take, zero}
 use Rattle.std.specs.List.{AllByRecursion, IsDistinct, list_any}
-use Rattle.vpc_base.proofs.Lemmas.{AllByRecursion-at, Contains-get_or, IsDistinct-head, IsDistinct-tail, bytes_eq-comm, bytes_self, cases_Bool, get_or-map, member-list_any, or-false, or_from, position-at, row-member, same_bytes, take-map}
-use Rattle.vpc_laws.specs.Types.{Description, Group, GroupNo, PrefixList, Vpc, VpcNo}
-use Rattle.vpc_model.specs.Terms.{IsAccepted, are_peers, group_at, group_of_id, has_vpc, is_vpc, no_group, reference_counts, vpc_at, vpc_no}
-use Rattle.vpc_laws.proofs.Lemmas.{accepted_has_all_named, accepted_has_nothing_twice, accepted_numbers_are_own}
-use Rattle.security_groups.specs.Terms.{ArePeers, are_joined, counted}
+use Rattle.vpc_base.proofs.Lemmas.{AllByRecursion-at, Contains-get_or, IsDistinct-head, IsDistinct-tail, bytes_eq-comm, cases_Bool, get_or-map, ltb-true, or-false, or_from, position-at, same_bytes, take-map}
+use Rattle.vpc_laws.specs.Types.{Description, Dir, Group, GroupNo, PrefixList}
+use Rattle.vpc_model.specs.Terms.{IsAccepted, group_at, group_of_id, may_name, no_group, reference_counts, vpcs_of_group}
+use Rattle.vpc_laws.proofs.Lemmas.{accepted_has_nothing_twice}
+use Rattle.security_groups.specs.Terms.{counted}
 use Rattle.security_groups.proofs.Numbered.{position-cons}
-use Rattle.security_groups.proofs.PeerPairs.{joined-is}
 use Rattle.security_groups.proofs.Steps.{map-next}
-use Rattle.vpc_model.specs.Lookup.{no_vpc}
 
 -- ---- ids that differ
 
@@ -36,15 +34,14 @@ list-is_new d i l accepted within is =
     mapped f (x ∷ xs) = ap (λ n. suc n) (mapped f xs)
 
 -- so it is added at the end
-pub lists-next : (d : Description) (i : ℕ) (l : PrefixList) (bytes : List ℕ) (now next : List (List ℕ)) (fresh : Bool) → IsAccepted d → i < length d.lists → l ≡ get_or d.lists i l → bytes ≡ l.id
+pub lists-next : (d : Description) (i : ℕ) (l : PrefixList) (now next : List (List ℕ)) → IsAccepted d → i < length d.lists → l ≡ get_or d.lists i l
     → now ≡ map (λ (x : PrefixList). x.id) (take i d.lists)
-    → fresh ≡ not (list_any (bytes_eq bytes) now) → next ≡ cond fresh (now ++ bytes ∷ []) now
+    → next ≡ cond (list_any (bytes_eq l.id) now) now (now ++ l.id ∷ [])
     → next ≡ map (λ (x : PrefixList). x.id) (take (i + 1) d.lists)
-lists-next d i l bytes now next fresh accepted within is same so_far tells added =
+lists-next d i l now next accepted within is so_far added =
     let id_of : (PrefixList → List ℕ) = λ x. x.id in
-    let new : list_any (bytes_eq bytes) now ≡ false = ap (λ (b : List ℕ). list_any (bytes_eq b) now) same ∙ ap (list_any (bytes_eq l.id)) so_far ∙ list-is_new d i l accepted within is in
-    let kept : fresh ≡ true = tells ∙ ap not new in
-    map-next id_of d.lists i l now next within is so_far (added ∙ ap (λ (b : Bool). cond b (now ++ bytes ∷ []) now) kept ∙ ap (λ (b : List ℕ). now ++ b ∷ []) same)
+    let new : list_any (bytes_eq l.id) now ≡ false = ap (list_any (bytes_eq l.id)) so_far ∙ list-is_new d i l accepted within is in
+    map-next id_of d.lists i l now next within is so_far (added ∙ ap (λ (b : Bool). cond b now (now ++ l.id ∷ [])) new)
 
 -- ---- the group that is named
 
@@ -85,32 +82,29 @@ numbered : (o : Option ℕ) (g : GroupNo) → option_map (λ k. record { 0 = k }
 numbered None g e = absurd cc
 numbered (Some k) g e = ap (option_map (λ (x : GroupNo). x.0)) e
 
--- what the code asks of the group that a rule names
-pub counted-found : (d : Description) (peers : List ℕ) (v : VpcNo) (id : List ℕ) (g : GroupNo) → IsAccepted d → is_vpc d v ≡ true → ArePeers d peers → group_of_id d id ≡ Some g
-    → counted d (vpc_at d v).id id ≡ cond (are_joined peers (vpc_no d (group_at d g).vpc) v) (Some g.0) None
-counted-found d peers v id g accepted lies are found =
-    let vpc = (vpc_at d v).id in
-    let theirs = (group_at d g).vpc in
+-- the group that a rule names counts where the rule may name it
+counted-found : (d : Description) (dir : Dir) (v id : List ℕ) (g : GroupNo) → IsAccepted d → group_of_id d id ≡ Some g
+    → counted d dir v id ≡ cond (list_any (may_name d dir v) (vpcs_of_group d (group_at d g))) (Some g.0) None
+counted-found d dir v id g accepted found =
     let place = numbered (position (λ (x : Group). bytes_eq x.id id) d.groups) g found in
-    let within = (position-at (λ (x : Group). bytes_eq x.id id) d.groups g.0 no_group place).0 in
-    let has_theirs : has_vpc d theirs ≡ true = (accepted_has_all_named d accepted).vpc_of_group (group_at d g) (row-member d.groups g.0 no_group within) in
-    let has_own : has_vpc d vpc ≡ true = member-list_any (λ (x : Vpc). bytes_eq x.id vpc) d.vpcs (vpc_at d v) (row-member d.vpcs v.0 no_vpc lies) (bytes_self vpc) in
-    let own : vpc_no d vpc ≡ v = (accepted_numbers_are_own d accepted).vpc v lies in
     let ids = (accepted_has_nothing_twice d accepted).ids in
-    let counts : reference_counts d vpc id ≡ (bytes_eq theirs vpc || are_peers d theirs vpc) = only-found (λ (x : Group). bytes_eq x.vpc vpc || are_peers d x.vpc vpc) id d.groups g.0 (((((((ids.1).1).1).1).1).1).0) place in
-    let joins : reference_counts d vpc id ≡ are_joined peers (vpc_no d theirs) v = counts ∙ sym (joined-is d peers theirs vpc accepted are has_theirs has_own) ∙ ap (are_joined peers (vpc_no d theirs)) own in
-    ap (option_and_then (λ (x : GroupNo). cond (reference_counts d vpc id) (Some x.0) None)) found ∙ ap (λ (b : Bool). cond b (Some g.0) None) joins
+    let counts : reference_counts d dir v id ≡ list_any (may_name d dir v) (vpcs_of_group d (group_at d g)) =
+    only-found (λ (x : Group). list_any (may_name d dir v) (vpcs_of_group d x)) id d.groups g.0 (((((((ids.1).1).1).1).1).1).0) place in
+    ap (option_and_then (λ (x : GroupNo). cond (reference_counts d dir v id) (Some x.0) None)) found ∙ ap (λ (b : Bool). cond b (Some g.0) None) counts
+
+-- a group that is found is described
+pub found-within : (d : Description) (id : List ℕ) (g : GroupNo) → group_of_id d id ≡ Some g → g.0 < length d.groups
+found-within d id g found =
+    let place = numbered (position (λ (x : Group). bytes_eq x.id id) d.groups) g found in
+    ltb-true g.0 (length d.groups) (position-at (λ (x : Group). bytes_eq x.id id) d.groups g.0 no_group place).0
 
 -- a group that isn't described doesn't count
-pub counted-missing : (d : Description) (vpc id : List ℕ) → group_of_id d id ≡ None → counted d vpc id ≡ None
-counted-missing d vpc id missing = ap (option_and_then (λ (x : GroupNo). cond (reference_counts d vpc id) (Some x.0) None)) missing
+pub counted-missing : (d : Description) (dir : Dir) (vpc id : List ℕ) → group_of_id d id ≡ None → counted d dir vpc id ≡ None
+counted-missing d dir vpc id missing = ap (option_and_then (λ (x : GroupNo). cond (reference_counts d dir vpc id) (Some x.0) None)) missing
 
 -- told by what was found on the way
-pub counted-by : (d : Description) (peers : List ℕ) (v : VpcNo) (id bytes : List ℕ) (g : GroupNo) (w : VpcNo) (joined told : Bool) → IsAccepted d → is_vpc d v ≡ true → ArePeers d peers → bytes ≡ id → Some g ≡ group_of_id d bytes
-    → w ≡ vpc_no d (group_at d g).vpc → joined ≡ are_joined peers w v → joined ≡ told
-    → cond told (Some g.0) None ≡ counted d (vpc_at d v).id id
-counted-by d peers v id bytes g w joined told accepted lies are same found theirs tells is =
-    sym
-    (counted-found d peers v id g accepted lies are (ap (group_of_id d) (sym same) ∙ sym found)
-    ∙ ap (λ (x : VpcNo). cond (are_joined peers x v) (Some g.0) None) (sym theirs)
-    ∙ ap (λ (b : Bool). cond b (Some g.0) None) (sym tells ∙ is))
+pub counted-by : (d : Description) (dir : Dir) (v id bytes : List ℕ) (g : GroupNo) (asked told : Bool) → IsAccepted d → bytes ≡ id → Some g ≡ group_of_id d bytes
+    → asked ≡ list_any (may_name d dir v) (vpcs_of_group d (group_at d g)) → asked ≡ told
+    → cond told (Some g.0) None ≡ counted d dir v id
+counted-by d dir v id bytes g asked told accepted same found tells is =
+    sym (counted-found d dir v id g accepted (ap (group_of_id d) (sym same) ∙ sym found) ∙ ap (λ (b : Bool). cond b (Some g.0) None) (sym tells ∙ is))

@@ -1,5 +1,5 @@
 -- The number of a rule that allows a packet.
-use Rattle.std.proofs.Common.{◌<◌, ◌≤◌, suc, zero, ◌≡◌, ◌∙◌, ◌*◌, ◌+◌, ◌||◌, [], ℕ, Bool, List, None, Option, Some, ap, arith, drop, false, get_or, length, refl, subst, sym}
+use Rattle.std.proofs.Common.{◌≤◌, suc, zero, ◌≡◌, ◌∙◌, ◌*◌, ◌+◌, ◌||◌, [], ℕ, Bool, List, None, Option, Some, ap, arith, drop, false, get_or, length, refl, subst, sym}
 use Rattle.std.specs.List.{list_any}
 use Rattle.std.proofs.lemmas.List.{get_or-drop, get_or-take, length-drop, length-take}
 use Rattle.address_sets.specs.declared.sets.Run.{Run}

@@ -90,7 +90,7 @@ is_some-first_of lists members groups dir h [] = refl
 is_some-first_of lists members groups dir h (n ∷ ns) =
     is_some-or_else (first_in_group lists members groups dir h n) (first_of lists members groups dir h ns)
     ∙ ap (λ b. b || is_some (first_of lists members groups dir h ns))
-    (is_some-option_map (λ k. record { group = record { 0 = n }; dir = dir; number = k }) (least (allows lists members dir h) (rules_in groups dir n))
+    (is_some-option_map (λ k. record { group = (slice_index_or groups n no_rules).group; dir = dir; number = k }) (least (allows lists members dir h) (rules_in groups dir n))
     ∙ is_some-least (allows lists members dir h) (rules_in groups dir n))
     ∙ ap (λ b. any_allows lists members dir (rules_in groups dir n) h || b) (is_some-first_of lists members groups dir h ns)
 

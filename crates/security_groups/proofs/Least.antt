@@ -6,6 +6,7 @@ use Rattle.std.proofs.lemmas.List.Elements.{All-head, All-tail}
 use Rattle.std.proofs.lemmas.List.Folds.{list_any-append}
 use Rattle.std.proofs.lemmas.List.Sorted.{list_any-IsPermutation}
 use Rattle.std.proofs.Math.Bool.{or-false}
+use Rattle.vpc_base.specs.declared.headers.Dir.{Dir}
 use Rattle.vpc_model.specs.declared.rows.Description.{Description}
 use Rattle.vpc_model.specs.declared.rows.Permission.{Permission}
 use Rattle.security_groups.specs.declared.rules.Rule.{Rule}
@@ -94,14 +95,14 @@ least-none p (r ∷ rs) none = rw (All-head (λ x. p x ≡ false) r rs none) (le
 -- ---- rules in their order
 
 -- no number is below the first
-numbers-from : (d : Description) (vpc : List ℕ) (p : Rule → Bool) (n k : ℕ) (ps : List Permission) (rs : List Rule) → AreRulesOf d vpc n ps rs → k < n → list_any (λ r. p r && nat_le r.number k) rs ≡ false
-numbers-from d vpc p n k [] [] are below = refl
-numbers-from d vpc p n k [] (r ∷ rs) are below = absurd are
-numbers-from d vpc p n k (q ∷ qs) [] are below = absurd are
-numbers-from d vpc p n k (q ∷ qs) (r ∷ rs) are below =
+numbers-from : (d : Description) (dir : Dir) (vpc : List ℕ) (p : Rule → Bool) (n k : ℕ) (ps : List Permission) (rs : List Rule) → AreRulesOf d dir vpc n ps rs → k < n → list_any (λ r. p r && nat_le r.number k) rs ≡ false
+numbers-from d dir vpc p n k [] [] are below = refl
+numbers-from d dir vpc p n k [] (r ∷ rs) are below = absurd are
+numbers-from d dir vpc p n k (q ∷ qs) [] are below = absurd are
+numbers-from d dir vpc p n k (q ∷ qs) (r ∷ rs) are below =
     let number = are.0.number in
     let above : nat_le r.number k ≡ false = lt-leb r.number k (omega arith) in
-    let rest = numbers-from d vpc p (n + 1) k qs rs are.1 (omega arith) in
+    let rest = numbers-from d dir vpc p (n + 1) k qs rs are.1 (omega arith) in
     rw (above, rest) (and_false (p r))
   where
     and_false : (b : Bool) → ((b && false) || false) ≡ false
@@ -109,14 +110,14 @@ numbers-from d vpc p n k (q ∷ qs) (r ∷ rs) are below =
     and_false false = refl
 
 -- so the first that passes has the least number
-pub least-find : (d : Description) (vpc : List ℕ) (p : Rule → Bool) (n : ℕ) (ps : List Permission) (rs : List Rule) → AreRulesOf d vpc n ps rs → least p rs ≡ option_map (λ r. r.number) (find p rs)
-least-find d vpc p n [] [] are = refl
-least-find d vpc p n [] (r ∷ rs) are = absurd are
-least-find d vpc p n (q ∷ qs) [] are = absurd are
-least-find d vpc p n (q ∷ qs) (r ∷ rs) are =
+pub least-find : (d : Description) (dir : Dir) (vpc : List ℕ) (p : Rule → Bool) (n : ℕ) (ps : List Permission) (rs : List Rule) → AreRulesOf d dir vpc n ps rs → least p rs ≡ option_map (λ r. r.number) (find p rs)
+least-find d dir vpc p n [] [] are = refl
+least-find d dir vpc p n [] (r ∷ rs) are = absurd are
+least-find d dir vpc p n (q ∷ qs) [] are = absurd are
+least-find d dir vpc p n (q ∷ qs) (r ∷ rs) are =
     elim (cases_Bool (p r)) [
       | inl passes ↦ rw passes (first (least p rs) refl)
-      | inr fails ↦ rw fails (least-find d vpc p (n + 1) qs rs are.1)
+      | inr fails ↦ rw fails (least-find d dir vpc p (n + 1) qs rs are.1)
     ]
   where
     first : (o : Option ℕ) → least p rs ≡ o → lesser (Some r.number) o ≡ Some r.number
@@ -125,7 +126,7 @@ least-find d vpc p n (q ∷ qs) (r ∷ rs) are =
         elim (cases_lt m r.number) [
           | inl less ↦
               let number = are.0.number in
-              let none = numbers-from d vpc p (n + 1) m qs rs are.1 (omega arith) in
+              let none = numbers-from d dir vpc p (n + 1) m qs rs are.1 (omega arith) in
               let reached : reaches (least p rs) m ≡ true = ap (λ (o : Option ℕ). reaches o m) e ∙ le-leb m m (omega arith) in
               absurd (both_ways (reaches (least p rs) m) (reaches-least p m rs ∙ none) reached)
           | inr more ↦ rw (le-ltb m r.number more) refl

@@ -1,8 +1,11 @@
 pub mod Steps
+pub mod CommonKeys
 pub mod OnceEach
 pub mod MemberSteps
 pub mod Numbered
-pub mod PeerPairs
+pub mod IdPlaces
+pub mod VpcKeys
+pub mod NamingLemmas
 pub mod Counting
 pub mod RuleRows
 pub mod Least
@@ -15,6 +18,7 @@ pub mod GroupsOn
 pub mod MemberCuts
 pub mod RuleCuts
 pub mod GroupCuts
+pub mod SetLemmas
 pub mod Joining
 pub mod Stretching
 pub mod AlikeLemmas

@@ -44,8 +44,8 @@ same-address h v g a n fits_v fits_a is key =
     let both : ((h == g) && (v == a)) ≡ true = sym (key_of-same h g v a fits_v fits_a) ∙ keys in
     eqb-true v a (and_parts (h == g) (v == a) both).1
 
-member-is-private : (d : Description) (interfaces : List (List ℕ)) (members : List ℕ) (g a : ℕ) → HasMembersOf d interfaces members → a < 2 ^ 32 → has_member members a g ≡ true → HasPrivate d a
-member-is-private d interfaces members g a resolved fits some =
+member-is-private : (d : Description) (members : List ℕ) (g a : ℕ) → HasMembersOf d members → a < 2 ^ 32 → has_member members a g ≡ true → HasPrivate d a
+member-is-private d members g a resolved fits some =
     let key = list_any-member (λ n. n == key_of g a) (all_members d) (sym (resolved.keys (key_of g a)) ∙ some) in
     let row = flat_map-member (λ (e : Interface). keys_with (groups_with d e) e.addresses) d.interfaces key.0 key.1 in
     let pair = flat_map-member (λ (x : ℕ × Option ℕ). map (key_with x.0) (groups_with d row.0)) row.0.addresses key.0 row.2 in
@@ -55,7 +55,7 @@ member-is-private d interfaces members g a resolved fits some =
     record { row = row.0; pair = pair.0; described = row.1; has = pair.1; same = same-address group.0 pair.0.0 g a key.0 fit fits group.2 key.2 }
 
 -- so the standing cuts cut out each member of a group
-pub members-are-cut-out : (d : Description) (interfaces : List (List ℕ)) (members : List ℕ) (g : ℕ) → HasMembersOf d interfaces members → CutOut (λ a. has_member members a g) (standing_cuts d)
-members-are-cut-out d interfaces members g resolved a fits some =
-    let at = member-is-private d interfaces members g a resolved (omega arith) some in
+pub members-are-cut-out : (d : Description) (members : List ℕ) (g : ℕ) → HasMembersOf d members → CutOut (λ a. has_member members a g) (standing_cuts d)
+members-are-cut-out d members g resolved a fits some =
+    let at = member-is-private d members g a resolved (omega arith) some in
     subst (λ n. Divide (cuts_of_blocks (address_cuts n)) (standing_cuts d)) at.same (private-cut-out d at.row at.pair at.described at.has)

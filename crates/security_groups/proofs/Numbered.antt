@@ -4,8 +4,8 @@ use Rattle.std.specs.List.{AllByRecursion, AllZip, list_any, position_or_len}
 use Rattle.vpc_base.proofs.Lemmas.{All-head, All-tail, and_right, both_ways, bytes_self, cases_Bool, cases_lt, eq-eqb, false_from_ne_true, find-nowhere, get_or_default, le-ltb, list_any-agree, list_any-append, lt-ltb, missing_number, ne_eqb, position-at, recursion_from_All, same_bytes, zip_at}
 use Rattle.address_sets.specs.declared.sets.Run.{Run}
 use Rattle.prefix_text.specs.Block.{Block, holds}
-use Rattle.vpc_laws.specs.Types.{Description, Group, GroupNo, Interface, PrefixList}
-use Rattle.vpc_model.specs.Terms.{are_peers, entries_of, has_address, is_listed, is_member, no_group, reference_counts}
+use Rattle.vpc_laws.specs.Types.{Description, Dir, Group, GroupNo, Interface, PrefixList}
+use Rattle.vpc_model.specs.Terms.{entries_of, has_address, is_listed, is_member, may_name, no_group, reference_counts, vpcs_of_group}
 use Rattle.reference_check.proofs.Maps.{found_number, read_row}
 use Rattle.number_tables.specs.Keys.{key_of}
 use Rattle.number_tables.proofs.KeyLemmas.{key_of-same}
@@ -77,7 +77,7 @@ group-id : (d : Description) (id : List ℕ) (k : ℕ) → position (λ (g : Gro
 group-id d id k found = same_bytes (get_or d.groups k no_group).id id (position-at (λ (g : Group). bytes_eq g.id id) d.groups k no_group found).1
 
 -- a group's number is this one where its id is
-number-is : (d : Description) (group : List ℕ) (k : ℕ) → position (λ (g : Group). bytes_eq g.id group) d.groups ≡ Some k → (i : List ℕ) → any_if (λ n. n == k) (number_of d i) ≡ bytes_eq i group
+pub number-is : (d : Description) (group : List ℕ) (k : ℕ) → position (λ (g : Group). bytes_eq g.id group) d.groups ≡ Some k → (i : List ℕ) → any_if (λ n. n == k) (number_of d i) ≡ bytes_eq i group
 number-is d group k found i = by (position (λ (g : Group). bytes_eq g.id i) d.groups) refl
   where
     numbered : Option ℕ → Option ℕ
@@ -160,12 +160,12 @@ all_members-is d group k a (e ∷ es) found fits fits_a =
 -- ---- references
 
 -- a member by a group's number is one by its id
-pub any_member-is : (d : Description) (members : List ℕ) (vpc : List ℕ) (a : ℕ) (group : List ℕ) → ((k : ℕ) → list_any (λ n. n == k) members ≡ list_any (λ n. n == k) (all_members d))
+pub any_member-is : (d : Description) (members : List ℕ) (dir : Dir) (vpc : List ℕ) (a : ℕ) (group : List ℕ) → ((k : ℕ) → list_any (λ n. n == k) members ≡ list_any (λ n. n == k) (all_members d))
     → All (λ (e : Interface). AreFit e.addresses) d.interfaces → a < 2 ^ 32
-    → any_if (has_member members a) (counted d vpc group) ≡ (reference_counts d vpc group && is_member d group a)
-any_member-is d members vpc a group keys fits fits_a = by (position (λ (g : Group). bytes_eq g.id group) d.groups) refl
+    → any_if (has_member members a) (counted d dir vpc group) ≡ (reference_counts d dir vpc group && is_member d group a)
+any_member-is d members dir vpc a group keys fits fits_a = by (position (λ (g : Group). bytes_eq g.id group) d.groups) refl
   where
-    without : (gs : List Group) → list_any (λ (g : Group). bytes_eq g.id group) gs ≡ false → list_any (λ (g : Group). bytes_eq g.id group && (bytes_eq g.vpc vpc || are_peers d g.vpc vpc)) gs ≡ false
+    without : (gs : List Group) → list_any (λ (g : Group). bytes_eq g.id group) gs ≡ false → list_any (λ (g : Group). bytes_eq g.id group && list_any (may_name d dir vpc) (vpcs_of_group d g)) gs ≡ false
     without [] none = refl
     without (g ∷ gs) none =
         elim (cases_Bool (bytes_eq g.id group)) [
@@ -173,13 +173,13 @@ any_member-is d members vpc a group keys fits fits_a = by (position (λ (g : Gro
           | inr other ↦ let rest : list_any (λ (x : Group). bytes_eq x.id group) gs ≡ false = rw other at none in rw other (without gs rest)
         ]
 
-    by : (o : Option ℕ) → position (λ (g : Group). bytes_eq g.id group) d.groups ≡ o → any_if (has_member members a) (counted d vpc group) ≡ (reference_counts d vpc group && is_member d group a)
+    by : (o : Option ℕ) → position (λ (g : Group). bytes_eq g.id group) d.groups ≡ o → any_if (has_member members a) (counted d dir vpc group) ≡ (reference_counts d dir vpc group && is_member d group a)
     by None none =
-        let uncounted : reference_counts d vpc group ≡ false = without d.groups (missing_number (λ (g : Group). bytes_eq g.id group) d.groups none) in
+        let uncounted : reference_counts d dir vpc group ≡ false = without d.groups (missing_number (λ (g : Group). bytes_eq g.id group) d.groups none) in
         rw (none, uncounted) refl
     by (Some k) some =
         rw some
-        (elim (cases_Bool (reference_counts d vpc group)) [
+        (elim (cases_Bool (reference_counts d dir vpc group)) [
           | inl counts ↦ rw counts (keys (key_of k a) ∙ all_members-is d group k a d.interfaces some fits fits_a)
           | inr ignored ↦ rw ignored refl
         ])

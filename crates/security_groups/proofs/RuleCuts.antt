@@ -8,7 +8,7 @@ use Rattle.cut_laws.proofs.Lemmas.{among_through, blocks-divide, none_within, on
 use Rattle.cut_laws.specs.Dividing.{Divide, DivideTurns}
 use Rattle.vpc_base.specs.Cuts.{AreAmong, CutLists}
 use Rattle.vpc_model.specs.Terms.{block_cuts, blocks_of_permission, cuts_of_blocks, cuts_of_permission, cuts_of_rule, entries_of, on_sides, standing_cuts}
-use Rattle.vpc_laws.specs.Types.{Description, Permission}
+use Rattle.vpc_laws.specs.Types.{Description, Dir, Permission}
 use Rattle.security_groups.specs.Terms.{DivideRule, GroupLists, IsResolved, IsRuleOf, Rule, has_entry, list_no, once}
 use Rattle.security_groups.proofs.MemberCuts.{members-are-cut-out}
 use Rattle.security_groups.proofs.Numbered.{any_entry-is, any_if}
@@ -54,17 +54,17 @@ pub turns-alike : (test other : ℕ → Bool) (cuts : CutLists) → ((a : ℕ) �
 turns-alike test other cuts same divide a fits turn = divide a fits (sym (same (a + 1)) ∙ turn ∙ ap not (same a))
 
 -- the rule's protocol and ports
-rule-edges : (d : Description) (vpc : List ℕ) (n : ℕ) (p : Permission) (r : Rule) (cuts : CutLists) → IsRuleOf d vpc n p r → Divide (cuts_of_permission d p) cuts → Divide (cuts_of_rule r.proto r.q_from r.q_to []) cuts
-rule-edges d vpc n p r cuts rule divide =
+rule-edges : (d : Description) (dir : Dir) (vpc : List ℕ) (n : ℕ) (p : Permission) (r : Rule) (cuts : CutLists) → IsRuleOf d dir vpc n p r → Divide (cuts_of_permission d p) cuts → Divide (cuts_of_rule r.proto r.q_from r.q_to []) cuts
+rule-edges d dir vpc n p r cuts rule divide =
     let few : CutLists = cuts_of_rule p.proto p.q_from p.q_to [] in
     let all : CutLists = cuts_of_permission d p in
     let edges : Divide few cuts = among_through (on_sides few) (on_sides all) cuts (on_sides_among few all (record { proto = λ c k. k; addr = none_within all.addr; p = λ c k. k; q = λ c k. k })) divide in
     rw (rule.proto, rule.from, rule.to) edges
 
 -- the entries of a list that it names
-list-divides : (d : Description) (i : GroupLists) (vpc : List ℕ) (n : ℕ) (p : Permission) (r : Rule) (cuts : CutLists) → IsResolved d i → IsRuleOf d vpc n p r → Divide (cuts_of_permission d p) cuts
+list-divides : (d : Description) (i : GroupLists) (dir : Dir) (vpc : List ℕ) (n : ℕ) (p : Permission) (r : Rule) (cuts : CutLists) → IsResolved d i → IsRuleOf d dir vpc n p r → Divide (cuts_of_permission d p) cuts
     → (l : ℕ) → Contains r.lists l → DivideTurns (λ a. has_entry i.lists a l) cuts
-list-divides d i vpc n p r cuts resolved rule divide l has =
+list-divides d i dir vpc n p r cuts resolved rule divide l has =
     let named = filter_map-member (list_no d) p.lists l (once-member (filter_map (list_no d) p.lists) l (subst (λ ls. Contains ls l) rule.lists has)) in
     let id : List ℕ = named.0 in
     turns-alike (λ a. has_entry i.lists a l) (λ a. list_any (holds a) (entries_of d id)) cuts
@@ -72,14 +72,14 @@ list-divides d i vpc n p r cuts resolved rule divide l has =
     (turns-divide d p cuts (entries_of d id) (λ b at. Contains-append_right p.blocks (flat_map (entries_of d) p.lists) b (Contains-flat_map (entries_of d) p.lists id b named.1 at)) divide)
 
 -- all that it asks
-pub rule-divides : (d : Description) (i : GroupLists) (vpc : List ℕ) (n : ℕ) (p : Permission) (r : Rule) (cuts : CutLists) → IsResolved d i → IsRuleOf d vpc n p r → AreAmong (standing_cuts d) cuts → Divide (cuts_of_permission d p) cuts
+pub rule-divides : (d : Description) (i : GroupLists) (dir : Dir) (vpc : List ℕ) (n : ℕ) (p : Permission) (r : Rule) (cuts : CutLists) → IsResolved d i → IsRuleOf d dir vpc n p r → AreAmong (standing_cuts d) cuts → Divide (cuts_of_permission d p) cuts
     → DivideRule i.lists i.members r cuts
-rule-divides d i vpc n p r cuts resolved rule standing divide = record {
-  rule = rule-edges d vpc n p r cuts rule divide;
+rule-divides d i dir vpc n p r cuts resolved rule standing divide = record {
+  rule = rule-edges d dir vpc n p r cuts rule divide;
   blocks = turns-alike (λ a. is_in a r.blocks) (λ a. list_any (holds a) p.blocks) cuts rule.blocks
       (turns-divide d p cuts p.blocks (λ b at. Contains-append_left p.blocks (flat_map (entries_of d) p.lists) b at) divide);
-  entries = all-members (λ l. DivideTurns (λ a. has_entry i.lists a l) cuts) r.lists (list-divides d i vpc n p r cuts resolved rule divide);
+  entries = all-members (λ l. DivideTurns (λ a. has_entry i.lists a l) cuts) r.lists (list-divides d i dir vpc n p r cuts resolved rule divide);
   groups = λ k none within a fits some.
       let g = get_or r.groups k none in
-      among_through _ (standing_cuts d) cuts (members-are-cut-out d i.interfaces i.members g resolved.membership a fits some) standing;
+      among_through _ (standing_cuts d) cuts (members-are-cut-out d i.members g resolved.members a fits some) standing;
 }

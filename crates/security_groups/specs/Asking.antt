@@ -16,7 +16,7 @@ rules_of dirs.Inward g = g.inward
 rules_of dirs.Outward g = g.outward
 
 abbrev pub no_rules : GroupRules
-no_rules = record { inward = []; outward = [] }
+no_rules = record { group = record { 0 = 0 }; inward = []; outward = [] }
 
 -- the lesser of two numbers, where there are
 abbrev pub lesser : Option ℕ → Option ℕ → Option ℕ
@@ -29,10 +29,11 @@ abbrev pub least : (Rule → Bool) → List Rule → Option ℕ
 least p [] = None
 least p (r ∷ rs) = lesser (if p r then Some r.number else None) (least p rs)
 
--- the rule of a group with the least number that allows the packet
+-- the rule of a set with the least number that allows the packet, as a rule of its group
 abbrev pub first_in_group : List (List Run) → List ℕ → List GroupRules → Dir → Header → ℕ → Option RuleRef
 first_in_group lists members groups dir h n =
-    option_map (λ k. record { group = record { 0 = n }; dir = dir; number = k }) (least (allows lists members dir h) (rules_of dir (slice_index_or groups n no_rules)))
+    let set = slice_index_or groups n no_rules in
+    option_map (λ k. record { group = set.group; dir = dir; number = k }) (least (allows lists members dir h) (rules_of dir set))
 
 -- the first rule of some groups that does, in their order
 abbrev pub first_of : List (List Run) → List ℕ → List GroupRules → Dir → Header → List ℕ → Option RuleRef

@@ -4,7 +4,10 @@ pub mod Asking
 pub mod Tables
 pub mod Lists
 pub mod Members
-pub mod Peers
+pub mod Ids
+pub mod NumberKeys
+pub mod Naming
+pub mod Sets
 pub mod Index
 pub mod Resolved
 pub mod Dividing

@@ -31,8 +31,11 @@ all_members d = flat_map (λ e. keys_with (groups_with d e) e.addresses) d.inter
 abbrev pub AreFit : List (ℕ × Option ℕ) → Type 0
 AreFit addresses = All (λ x. x.0 < 2 ^ 32) addresses
 
--- the groups of all interfaces, and the set of their members
-pub record HasMembersOf (d : Description) (interfaces : List (List ℕ)) (members : List ℕ) : Type 0 where
-  pub named : interfaces ≡ map (groups_with d) d.interfaces
+-- the groups of all interfaces
+abbrev pub HasGroupsOf : Description → List (List ℕ) → Type 0
+HasGroupsOf d interfaces = interfaces ≡ map (groups_with d) d.interfaces
+
+-- the set of the members of all groups
+pub record HasMembersOf (d : Description) (members : List ℕ) : Type 0 where
   pub keys : (k : ℕ) → list_any (λ n. n == k) members ≡ list_any (λ n. n == k) (all_members d)
   pub fit : All (λ e. AreFit e.addresses) d.interfaces

@@ -5,10 +5,12 @@ pub use Rattle.security_groups.specs.Dividing.{AllowsNone, DivideAt, DivideGroup
 pub use Rattle.security_groups.specs.Index.{GroupLists, HasRulesOf, allowed}
 pub use Rattle.security_groups.specs.Joined.{AreAlike, IsJoint, SayTheSame}
 pub use Rattle.security_groups.specs.Lists.{HasEntriesOf}
-pub use Rattle.security_groups.specs.Members.{AreFit, all_members, groups_with, key_with, keys_with, number_of}
+pub use Rattle.security_groups.specs.Members.{AreFit, HasGroupsOf, HasMembersOf, all_members, groups_with, key_with, keys_with, number_of}
 pub use Rattle.security_groups.specs.Once.{once}
-pub use Rattle.security_groups.specs.Peers.{ArePeers, are_joined}
-pub use Rattle.security_groups.specs.Resolved.{AreRulesOf, HasRulesIn, IsGroupOf, IsResolved, IsRuleOf, counted, list_no}
+pub use Rattle.security_groups.specs.Ids.{HasIds, KeepsNumbers, is_number, place_of}
+pub use Rattle.security_groups.specs.Naming.{AnyShares, ArePeers, AreAttached, HasOwn, HasPlace, HasVpcsOf, IsNaming, IsVpcNumber, Shares, TellsOfGroup, TellsOfVpcs, further_of, has_pair, over_transit}
+pub use Rattle.security_groups.specs.Sets.{AreSetKeys, AreSetsFor, IsFurther, IsSetFor, IsSetKey, IsSetNumber, KeepsSets}
+pub use Rattle.security_groups.specs.Resolved.{AreAsked, AreRulesOf, AreSets, HasListsOf, HasRulesFor, HasRulesIn, IsResolved, IsRuleOf, IsSetOf, counted, list_no}
 pub use Rattle.security_groups.specs.Rules.{DivideRule, DivideRules, allows, any_allows, has_entry, has_member, names}
 pub use Rattle.security_groups.specs.Tables.{AreBegun, AreEnded, AreLasts, BeginAfter, EndBy, run_of}
 pub use Rattle.security_groups.specs.declared.groups.GroupRules.{GroupRules}

@@ -9,7 +9,7 @@ use crate::building::list_no;
 use crate::groups::{GroupRules, rules_of};
 use crate::index::GroupIndex;
 use crate::joined_rules::are_alike;
-use crate::lists::ListNumbers;
+use crate::lists::numbers_of_lists;
 use crate::rules::Rule;
 use number_tables::key_of;
 use reference_check::Network;
@@ -86,7 +86,7 @@ fn twins_of_lists(
 ) -> Result<Vec<Option<u32>>, AllocError>
     ensures { IfOk result (λ v. AreTwins (IsSameList one.now other.now) v.items) }
 {
-    let numbers = ListNumbers::of(alloc, after)?;
+    let numbers = numbers_of_lists(alloc, after)?;
     let mut twins = Vec::new(alloc);
     for list in before.description().lists.as_slice() {
         let with_id = list_no(after, &numbers, &list.id);

@@ -14,15 +14,20 @@ use number_tables::NumberSet;
 use vpc_base::{Dir, Header};
 use vpc_model::{GroupNo, RuleRef};
 
-/// The rules of a security group.
+/// The rules of a security group, as they count in one VPC.
 pub struct GroupRules {
+    pub group: GroupNo,
     pub inward: RuleTable,
     pub outward: RuleTable,
 }
 
 impl Drop for GroupRules {
     fn drop(self) {
-        let GroupRules { inward, outward } = self;
+        let GroupRules {
+            group: _,
+            inward,
+            outward,
+        } = self;
         drop(inward);
         drop(outward);
     }
@@ -52,10 +57,11 @@ fn first_in_group(
     if group as usize >= groups.len() {
         return None;
     }
-    let rules = rules_of(&groups[group as usize], dir);
+    let set = &groups[group as usize];
+    let rules = rules_of(set, dir);
     match rules.least_allowing(lists, members, dir, h) {
         Some(number) => Some(RuleRef {
-            group: GroupNo(group),
+            group: set.group,
             dir,
             number,
         }),

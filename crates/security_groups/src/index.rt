@@ -1,12 +1,13 @@
 // The index of a network's security groups.
 ghost use Rattle.std.specs.Prelude.{◌≡◌, IfOk};
-ghost use Rattle.std.specs.List.{AllZip};
-ghost use Rattle.security_groups.specs.Resolved.{HasListsOf, IsGroupOf};
+ghost use Rattle.security_groups.specs.Members.{HasGroupsOf};
+ghost use Rattle.security_groups.specs.Resolved.{AreAsked, HasListsOf};
 
-use crate::building::{Named, group_rules};
+use crate::building::{Named, rule_sets};
 use crate::groups::{GroupRules, any_of_on, first_of};
 use crate::lists::entries_of;
 use crate::members::Membership;
+use crate::sets::{FurtherSets, place_all};
 use address_sets::AddressSet;
 use box_images::{Image, Part};
 use number_tables::NumberSet;
@@ -16,11 +17,20 @@ use std::marker::Model;
 use vpc_base::{Dir, Header, NoMemory, OwnList};
 use vpc_model::{EniNo, RuleRef};
 
-fn resolved_rules(alloc: Global, n: &Network) -> Result<Vec<GroupRules>, AllocError>
-    ensures { IfOk result (λ v. AllZip (IsGroupOf n.now) n.now.groups v.items) }
+// The rules of groups, with the number of their set in place of each group of an interface.
+fn resolved_rules(
+    alloc: Global,
+    n: &Network,
+    interfaces: &mut Vec<OwnList<u32>>,
+) -> Result<Vec<GroupRules>, AllocError>
+    requires { HasGroupsOf n.now interfaces.old.items }
+    ensures { IfOk result (λ v. AreAsked n.now interfaces.new.items v.items) }
 {
     let named = Named::of(alloc, n)?;
-    group_rules(alloc, n, &named, n.description().groups.as_slice())
+    let mut further = FurtherSets::none(alloc);
+    place_all(alloc, n, &named.naming.vpcs, &mut further, interfaces)?;
+    let sets = rule_sets(alloc, n, &named, &further)?;
+    Ok(sets)
 }
 
 // The entries of each prefix list, and the rules of each group.
@@ -38,16 +48,22 @@ impl Drop for RuleLists {
 }
 
 impl RuleLists {
-    fn of(alloc: Global, n: &Network) -> Result<RuleLists, AllocError>
-        ensures { IfOk result (λ r. HasListsOf n.now r.lists.items r.groups.items) }
+    fn of(
+        alloc: Global,
+        n: &Network,
+        interfaces: &mut Vec<OwnList<u32>>,
+    ) -> Result<RuleLists, AllocError>
+        requires { HasGroupsOf n.now interfaces.old.items }
+        ensures { IfOk result (λ r. HasListsOf n.now r.lists.items interfaces.new.items r.groups.items) }
     {
         let lists = entries_of(alloc, n.description().lists.as_slice())?;
-        let groups = resolved_rules(alloc, n)?;
+        let groups = resolved_rules(alloc, n, interfaces)?;
         Ok(RuleLists { lists, groups })
     }
 }
 
-/// The rules of a network's security groups, with what they name resolved, and each interface's groups.
+/// The rules of a network's security groups, with what they name resolved, and each interface's groups: a set of rules for each
+/// group in its own VPC, with the group's number, and one for each further VPC in which interfaces have a group.
 /// Prefix lists and members of groups are shared by all rules that name them. Contracts see these lists, and
 /// `of` says what the description has in their place.
 pub struct GroupIndex {
@@ -89,8 +105,8 @@ impl GroupIndex {
         ensures rules { IfOk result (HasRulesOf n.now) }
         ensures cuts { IfOk result (HasRuleCuts n.now) }
     {
-        let rules = RuleLists::of(alloc, n)?;
-        let membership = Membership::of(alloc, n)?;
+        let mut membership = Membership::of(alloc, n)?;
+        let rules = RuleLists::of(alloc, n, &mut membership.interfaces)?;
         Ok(GroupIndex { rules, membership })
     }
 
@@ -149,7 +165,7 @@ impl GroupIndex {
         self.rules.groups.as_slice()
     }
 
-    // The numbers of an interface's groups.
+    // The numbers of the sets of rules of an interface's groups.
     pub(crate) fn groups_of(&self, e: EniNo) -> &[u32]
         ensures { result.now ≡ slice_index_or self.now.interfaces e.0 [] }
     {

@@ -1,7 +1,7 @@
 // The groups of interfaces, and the members of groups.
 ghost use Rattle.std.specs.Prelude.{◌≡◌, ◌<◌, ◌^◌, ◌++◌, ◌∷◌, [], IfOk, OnOk, map, option_to_list};
 ghost use Rattle.std.specs.List.{filter_map};
-ghost use Rattle.security_groups.specs.Members.{AreFit, HasMembersOf, groups_with, key_with, keys_with, number_of};
+ghost use Rattle.security_groups.specs.Members.{AreFit, HasGroupsOf, HasMembersOf, groups_with, key_with, keys_with, number_of};
 
 use crate::once::once;
 use number_tables::{NumberSet, key_of};
@@ -23,7 +23,8 @@ pub fn push_some(numbers: &mut Vec<u32>, number: Option<u32>) -> Result<(), Allo
     }
 }
 
-fn number_of(n: &Network, id: &Id) -> Option<u32>
+/// The number of a described group.
+pub fn number_of(n: &Network, id: &Id) -> Option<u32>
     ensures { result ≡ number_of n.now id.now }
 {
     match n.group(id.bytes()) {
@@ -124,7 +125,8 @@ impl Drop for Membership {
 
 impl Membership {
     pub fn of(alloc: Global, n: &Network) -> Result<Membership, AllocError>
-        ensures { IfOk result (λ m. HasMembersOf n.now m.interfaces.items m.members) }
+        ensures groups { IfOk result (λ m. HasGroupsOf n.now m.interfaces.items) }
+        ensures members { IfOk result (λ m. HasMembersOf n.now m.members) }
     {
         let mut interfaces = Vec::new(alloc);
         let mut keys = Vec::new(alloc);

@@ -2,7 +2,7 @@
 use Rattle.std.proofs.Common.{◌≡◌, ◌==◌, ◌∙◌, ◌∷◌, [], Bool, List, None, Option, Some, ap, ap₂, cond, refl, slice_index_or, sym, ℕ}
 use Rattle.copied_rows.specs.Filters.{with_filters}
 use Rattle.vpc_base.specs.declared.headers.Dir.TheVariants as dirs
-use Rattle.vpc_laws.specs.Types.{Acl, AclNo, AttNo, Description, Dir, EniNo, Header, IgwNo, Label, NatLife, NatNo, PeerNo, Place, RuleRef, Stop, SubnetNo, TableNo, Target, VpcNo}
+use Rattle.vpc_laws.specs.Types.{Acl, AclNo, AttNo, Description, Dir, EniNo, Header, IgwNo, Interface, Label, NatLife, NatNo, PeerNo, Place, RuleRef, Stop, SubnetNo, TableNo, Target, VpcNo}
 use Rattle.vpc_model.specs.Terms.{Appliances, Moment, Next, acl_at, acl_of, acl_verdict, attachment_for, by_route, chosen_route, crossing, deliver, eni_no, enter_host, entering, first_rule_of, gateway_of, go, group_of_id, has_vpc, host_of, igw_no, interface_at, is_attached, is_gateway, is_listed, leaving, nat_at, nat_no, no_route, or_else, other_side, peer_no, peering_at, rule_of_group, step_at, stop, subnet_at, subnet_no, subnet_of, table_at, table_of, to_host, to_interface, to_internet, to_nat, to_peer, to_target, to_transit, to_zone, unless_stopped, vpc_at, vpc_of_subnet, zone_subnet}
 use Rattle.vpc_model.specs.declared.places.Place.TheVariants as places
 use Rattle.vpc_model.specs.declared.rows.NatLife.TheVariants as lives
@@ -118,12 +118,12 @@ module _ (d : Description) (acls : List Acl) (h : Header) (alike : Alike (JudgeT
 
   -- ---- groups
 
-  rules-same : (dir : Dir) (ids : List (List ℕ)) → first_rule_of e dir h ids ≡ first_rule_of d dir h ids
-  rules-same dir [] = refl
-  rules-same dir (id ∷ ids) = ap (λ (o : Option RuleRef). or_else (option_and_then (rule_of_group d dir h) (group_of_id d id)) o) (rules-same dir ids)
+  rules-same : (i : Interface) (dir : Dir) (ids : List (List ℕ)) → first_rule_of e i dir h ids ≡ first_rule_of d i dir h ids
+  rules-same i dir [] = refl
+  rules-same i dir (id ∷ ids) = ap (λ (o : Option RuleRef). or_else (option_and_then (rule_of_group d i dir h) (group_of_id d id)) o) (rules-same i dir ids)
 
   pass-same : LetPassTheSame d e h
-  pass-same = record { first = λ i dir none. rules-same dir i.groups ∙ none; second = λ i dir none. sym (rules-same dir i.groups) ∙ none }
+  pass-same = record { first = λ i dir none. rules-same i dir i.groups ∙ none; second = λ i dir none. sym (rules-same i dir i.groups) ∙ none }
 
 -- ---- steps
 

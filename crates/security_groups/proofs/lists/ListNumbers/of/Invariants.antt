@@ -1,5 +1,0 @@
-use Rattle.std.proofs.Common.{◌≡◌, map, take}
-use Rattle.security_groups.proofs.lists.ListNumbers.of.Given as goal
-
-abbrev pub invariant-loop-list : goal.invariant-loop-list
-invariant-loop-list l = l.numbers ≡ map (λ r. r.id) (take l.list-index l.n.lists)

@@ -1,0 +1,9 @@
+use Rattle.std.proofs.Common.{◌-◌}
+use Rattle.security_groups.proofs.CommonKeys.{NoSharesBelow}
+use Rattle.security_groups.proofs.sharing.any_shares.Given as goal
+
+abbrev pub invariant-loop-one : goal.invariant-loop-one
+invariant-loop-one l = NoSharesBelow l.keys l.x l.others l.y l.low
+
+abbrev pub decreases-loop-one : goal.decreases-loop-one
+decreases-loop-one l = 4294967296 - l.low
