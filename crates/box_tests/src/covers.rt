@@ -81,7 +81,7 @@ fn at(p: u16, q: u16) -> Header {
     }
 }
 
-// The rows of the screen, in the order of their low corners.
+// The rows of the screen, in the order of their low corners. The last two have one word, and stay apart: they differ in p and in q.
 const LOW_PORTS: Row<Why> = Row {
     part: Box5 {
         p: (0, 1023),
@@ -158,14 +158,16 @@ fn covers_of_all_headers(rt: HostRuntime) -> Result<(), Fail> {
     Ok(())
 }
 
-// The low ports in one row: rows of one word that differ in p stay apart.
-const EVERY_LOW: Row<Why> = Row {
-    part: Box5 {
-        p: (0, 1023),
-        ..EVERY_HEADER
-    },
-    word: Why::Target,
-};
+// The ports asked for where all headers are stopped for one reason: all of them are one row.
+const JOINED: [((u16, u16), (u16, u16)); 4] = [
+    // By q, and then by p what was joined by q.
+    ((0, 65535), (0, 65535)),
+    // By q alone.
+    ((1000, 1023), (400, 65535)),
+    // By p alone.
+    ((0, 65535), (0, 442)),
+    ((1000, 1100), (443, 443)),
+];
 
 #[test]
 fn joins_rows_of_one_word(rt: HostRuntime) -> Result<(), Fail> {
@@ -173,7 +175,18 @@ fn joins_rows_of_one_word(rt: HostRuntime) -> Result<(), Fail> {
         low: Why::Target,
         ..screen_with(Some(Why::Target))
     };
-    let found = cover(rt.alloc(), &shut, EVERY_HEADER, 2)?;
-    assert!(rt; is_blocked(found, &[EVERY_LOW, OTHERS], None));
+    for (p, q) in JOINED {
+        let part = Box5 {
+            p,
+            q,
+            ..EVERY_HEADER
+        };
+        let word = Why::Target;
+        let found = cover(rt.alloc(), &shut, part, 2)?;
+        assert!(rt;
+            is_blocked(found, &[Row { part, word }], None),
+            "{p:?} {q:?}"
+        );
+    }
     Ok(())
 }

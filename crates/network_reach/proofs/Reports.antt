@@ -1,7 +1,8 @@
 -- What a search answers about the stops of requests is a report about their verdicts.
-use Rattle.std.proofs.Common.{[], Err, IfOk, List, None, Ok, Option, Result, Some, ap, arith, length, option_map, refl, slice_index_or, subst, sym, ℕ, ◌+◌, ◌<◌, ◌≤◌, ◌∙◌, ◌∷◌, ◌≡◌}
+use Rattle.std.proofs.Common.{[], Bool, Err, IfOk, List, None, Ok, Option, Result, Some, ap, arith, false, length, nat_le, option_map, refl, slice_index_or, subst, sym, true, ℕ, ◌+◌, ◌<◌, ◌≤◌, ◌∙◌, ◌∷◌, ◌≡◌}
 use Rattle.std.specs.Global.{Vec}
 use Rattle.std.specs.List.{All}
+use Rattle.std.proofs.lemmas.Bool.Decides.{nat_tests}
 use Rattle.std.proofs.lemmas.List.{get_or-map, length-map}
 use Rattle.std.proofs.lemmas.List.Elements.{All-map}
 use Rattle.header_boxes.proofs.Held.{holds_low, valid_if_within}
@@ -15,7 +16,7 @@ use Rattle.box_walk.proofs.Texts.{ending_of-stop, stop_told}
 use Rattle.box_walk.specs.Asking.{Asking, asked, stop_of, stopped_of, whether, word_of}
 use Rattle.ordered_cover.specs.Cover.{IsBlocked, IsMore, IsSearched}
 use Rattle.ordered_cover.specs.Grown.{IsGrownTree}
-use Rattle.ordered_cover.specs.Joined.{AreJoined, CanJoin, GoesOn}
+use Rattle.ordered_cover.specs.Joined.{AreJoined, CanJoin, GoesOn, GoesOnEitherWay}
 use Rattle.ordered_cover.specs.Trees.{leaf_count, leaves_of}
 use Rattle.ordered_cover.specs.declared.rows.Searched.{Searched}
 use Rattle.ordered_cover.specs.declared.rows.Searched.TheVariants as searches
@@ -27,7 +28,7 @@ use Rattle.vpc_laws.specs.Types.{Box5, Description, Header, Phase, Row, Stop, St
 use Rattle.vpc_model.specs.Terms.{IsAccepted, IsCellCount, appliances_of, cuts_of, told_stop, verdict_of}
 use Rattle.network_reach.proofs.Told.{Tells, begun_told, first_told, none_through_told, ordered_told, outside_told, true_told, whole_told}
 use Rattle.network_reach.proofs.ToldTrees.{leaves_over-told, nodes_have_text, stand_for-told}
-use Rattle.network_reach.specs.Reached.{AreJoinedIn, GoesOnAlike, IsPartReportIn, IsQueryIn, IsReached, IsReportIn, IsTreeIn, meaning_in, most_rows}
+use Rattle.network_reach.specs.Reached.{AreJoinedIn, GoesOnAlike, IsPartReportIn, IsQueryIn, IsReached, IsReportIn, IsTreeIn, either_way_if, goes_on_in, meaning_in, most_rows}
 use Rattle.network_reach.specs.declared.reach.Reached.TheVariants as answers
 
 -- ---- the stops of a query's headers, and what is told of each
@@ -101,9 +102,25 @@ untold d o e = ap (option_map (tell d)) e
 pub none_unstopped : (d : Description) (query : Query) → NoneThrough (meaning_in d query) query.sides → NoneThrough (stops_of d query) query.sides
 none_unstopped d query none h held e = none h held (tells d query h held ∙ untold d (stops_of d query h) e)
 
+-- ---- how the rows of a query go on from each other
+
+most_true : (n : ℕ) → n ≤ most_rows → nat_le n most_rows ≡ true
+most_true n few = grind (arith, nat_tests)
+
+most_false : (n : ℕ) → most_rows < n → nat_le n most_rows ≡ false
+most_false n many = grind (arith, nat_tests)
+
+-- rows of a report that is a list
+pub of_rows : (query : Query) (P : (Box5 → Box5 → Type 0) → Type 0) → query.max ≤ most_rows → P GoesOnEitherWay → P (goes_on_in query)
+of_rows query P few h = subst (λ (b : Bool). P (either_way_if b)) (sym (most_true query.max few)) h
+
+-- rows of one that is a tree
+pub of_a_tree : (query : Query) (P : (Box5 → Box5 → Type 0) → Type 0) → most_rows < query.max → P GoesOn → P (goes_on_in query)
+of_a_tree query P many h = subst (λ (b : Bool). P (either_way_if b)) (sym (most_false query.max many)) h
+
 -- ---- rows that could be one
 
-module _ (d : Description) (query : Query) (rows : List (Row (Phase × Stop))) (some : Row (Phase × Stop)) (are : AreTrueRows (stops_of d query) query.sides rows) where
+module _ (On : Box5 → Box5 → Type 0) (d : Description) (query : Query) (rows : List (Row (Phase × Stop))) (some : Row (Phase × Stop)) (are : AreTrueRows (stops_of d query) query.sides rows) where
   row_told : (k : ℕ) (none : Row StopText) → k < length rows → slice_index_or (told_rows d rows) k none ≡ told_row d (slice_index_or rows k some)
   row_told k none lt = get_or-map (told_row d) rows k some none lt
 
@@ -114,31 +131,32 @@ module _ (d : Description) (query : Query) (rows : List (Row (Phase × Stop))) (
       are.word k some lt (low_of row.part) (holds_low row.part (valid_if_within row.part query.sides (are.within k some lt)))
 
   -- rows of which the first headers have one verdict have the same word
-  joined_alike : AreJoined GoesOn rows → AreJoinedIn d query (told_rows d rows)
+  joined_alike : AreJoined On rows → AreJoinedIn On d query (told_rows d rows)
   joined_alike joined k none below can =
       let lt : k + 1 < length rows = subst (λ (n : ℕ). k + 1 < n) (length-map rows (told_row d)) below in
       let before : k < length rows = omega (arith, lt) in
       let first = slice_index_or rows k some in
       let other = slice_index_or rows (k + 1) some in
-      let one = subst (λ (r : Row StopText). CanJoin (GoesOnAlike d query) r (slice_index_or (told_rows d rows) (k + 1) none)) (row_told k none before) can in
-      let both = subst (λ (r : Row StopText). CanJoin (GoesOnAlike d query) (told_row d first) r) (row_told (k + 1) none lt) one in
+      let one = subst (λ (r : Row StopText). CanJoin (GoesOnAlike On d query) r (slice_index_or (told_rows d rows) (k + 1) none)) (row_told k none before) can in
+      let both = subst (λ (r : Row StopText). CanJoin (GoesOnAlike On d query) (told_row d first) r) (row_told (k + 1) none lt) one in
       let same : Some first.word ≡ Some other.word = sym (stops_first k before) ∙ (ap stop_of both.0.alike ∙ stops_first (k + 1) lt) in
       joined k some lt (both.0.on, cc)
 
 -- no row of stops goes on from one with the same stop, so none that is told does
-told_are_joined : (d : Description) (query : Query) (rows : List (Row (Phase × Stop))) → AreTrueRows (stops_of d query) query.sides rows → AreJoined GoesOn rows → AreJoinedIn d query (told_rows d rows)
-told_are_joined d query [] are joined = λ k none below can. absurd (omega (arith, below))
-told_are_joined d query (row ∷ rows) are joined = joined_alike d query (row ∷ rows) row are joined
+told_are_joined : (On : Box5 → Box5 → Type 0) (d : Description) (query : Query) (rows : List (Row (Phase × Stop))) → AreTrueRows (stops_of d query) query.sides rows → AreJoined On rows
+    → AreJoinedIn On d query (told_rows d rows)
+told_are_joined On d query [] are joined = λ k none below can. absurd (omega (arith, below))
+told_are_joined On d query (row ∷ rows) are joined = joined_alike On d query (row ∷ rows) row are joined
 
 -- of the same network, in a slice
 pub told_as : (d n : Description) (rows given : List (Row (Phase × Stop))) → n ≡ d → given ≡ rows → HaveText d rows → HaveText n given
 told_as d n rows given same are told = subst (λ (x : Description). HaveText x given) (sym same) (subst (HaveText d) (sym are) told)
 
-pub joined_as : (d n : Description) (query : Query) (rows given : List (Row (Phase × Stop))) → n ≡ d → given ≡ rows → AreJoinedIn d query (told_rows d rows)
-    → AreJoinedIn n query (told_rows n given)
-joined_as d n query rows given same are joined =
-    subst (λ (x : Description). AreJoinedIn x query (told_rows x given)) (sym same)
-    (subst (λ (l : List (Row (Phase × Stop))). AreJoinedIn d query (told_rows d l)) (sym are) joined)
+pub joined_as : (On : Box5 → Box5 → Type 0) (d n : Description) (query : Query) (rows given : List (Row (Phase × Stop))) → n ≡ d → given ≡ rows → AreJoinedIn On d query (told_rows d rows)
+    → AreJoinedIn On n query (told_rows n given)
+joined_as On d n query rows given same are joined =
+    subst (λ (x : Description). AreJoinedIn On x query (told_rows x given)) (sym same)
+    (subst (λ (l : List (Row (Phase × Stop))). AreJoinedIn On d query (told_rows d l)) (sym are) joined)
 
 -- ---- reports
 
@@ -154,10 +172,10 @@ report d query rows is = record {
 pub blocked_is : (d : Description) (query : Query) (rows : Vec (Row (Phase × Stop))) → IsAccepted d → IsQueryIn d query
     → query.max ≤ most_rows → IsBlocked (stops_of d query) (cuts_of d) query.sides query.max rows.items → IsReached d query (answers.Blocked rows)
 blocked_is d query rows accepted asked listed is =
-    (listed, (have-text d query rows.items accepted asked is.are_true, (report d query rows.items is, (is.few, (is.joined, told_are_joined d query rows.items is.are_true is.joined)))))
+    (listed, (have-text d query rows.items accepted asked is.are_true, (report d query rows.items is, (is.few, (is.joined, told_are_joined GoesOnEitherWay d query rows.items is.are_true is.joined)))))
 
 part-report : (d : Description) (query : Query) (rows : List (Row (Phase × Stop))) (next : Header) (n : ℕ)
-    → IsCellCount d query.sides n → IsMore (stops_of d query) (cuts_of d) query.sides query.max rows next → NoneThrough (stops_of d query) query.sides
+    → IsCellCount d query.sides n → IsMore (goes_on_in query) (stops_of d query) (cuts_of d) query.sides query.max rows next → NoneThrough (stops_of d query) query.sides
     → IsPartReportIn d query (told_rows d rows) next n
 part-report d query rows next n cells is none = record {
   are_true = true_told (tell d) (stops_of d query) (meaning_in d query) query.sides rows (tells d query) is.are_true;
@@ -171,10 +189,10 @@ part-report d query rows next n cells is none = record {
 }
 
 pub more_is : (d : Description) (query : Query) (rows : Vec (Row (Phase × Stop))) (next : Header) (n : ℕ) → IsAccepted d → IsQueryIn d query
-    → IsCellCount d query.sides n → IsMore (stops_of d query) (cuts_of d) query.sides query.max rows.items next → NoneThrough (stops_of d query) query.sides
+    → IsCellCount d query.sides n → IsMore (goes_on_in query) (stops_of d query) (cuts_of d) query.sides query.max rows.items next → NoneThrough (stops_of d query) query.sides
     → IsReached d query (answers.More rows next n)
 more_is d query rows next n accepted asked cells is none =
-    (have-text d query rows.items accepted asked is.are_true, (part-report d query rows.items next n cells is none, (is.joined, told_are_joined d query rows.items is.are_true is.joined)))
+    (have-text d query rows.items accepted asked is.are_true, (part-report d query rows.items next n cells is none, (is.joined, told_are_joined (goes_on_in query) d query rows.items is.are_true is.joined)))
 
 -- ---- trees
 

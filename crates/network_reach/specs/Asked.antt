@@ -4,9 +4,10 @@ use Rattle.header_boxes.specs.Boxes.{holds}
 use Rattle.header_boxes.specs.Rows.{IsFirstThrough, NoneThrough}
 use Rattle.block_report.specs.Reports.{more_text, reachable_text, report_text}
 use Rattle.block_report.specs.Trees.{tree_text}
+use Rattle.ordered_cover.specs.Joined.{GoesOnEitherWay}
 use Rattle.ordered_cover.specs.Trees.{leaf_count}
 use Rattle.ordered_cover.specs.declared.trees.Node.{Node}
-use Rattle.network_reach.specs.Reached.{AreJoinedIn, IsPartReportIn, IsQueryIn, IsReportIn, IsTreeIn, meaning_in, most_rows}
+use Rattle.network_reach.specs.Reached.{AreJoinedIn, IsPartReportIn, IsQueryIn, IsReportIn, IsTreeIn, goes_on_in, meaning_in, most_rows}
 use Rattle.query_words.specs.Query.{query_of}
 use Rattle.query_words.specs.declared.queries.Query.{Query}
 use Rattle.query_words.specs.declared.refusal.QueryRefusal.{QueryRefusal}
@@ -45,12 +46,12 @@ report_about query rows = record { start = query.start; goal = query.goal; sides
 abbrev pub tree_about : Query → List (Node StopText) → Report
 tree_about query nodes = record { start = query.start; goal = query.goal; sides = query.sides; shape = shapes.Tree nodes }
 
--- an ordered true report of at most max rows, of which none could be one with the next; its text reads as that report, and is short enough for a file
+-- an ordered true report of at most max rows, of which none could be one with the next, by p or by q; its text reads as that report, and is short enough for a file
 pub record IsReported (d : Description) (query : Query) (text : List ℕ) : Type 0 where
   pub listed : query.max ≤ most_rows
   pub rows : List (Row StopText)
   pub report : IsReportIn d query rows
-  pub joined : AreJoinedIn d query rows
+  pub joined : AreJoinedIn GoesOnEitherWay d query rows
   pub few : length rows ≤ query.max
   pub text_is : text ≡ report_text d query.start query.goal query.sides rows
   pub reads : report_of_text d text ≡ Ok (report_about query rows)
@@ -66,13 +67,13 @@ pub record IsReportedAsTree (d : Description) (query : Query) (text : List ℕ) 
   pub reads : report_of_text d text ≡ Ok (tree_about query nodes)
   pub short : length text ≤ file_limit
 
--- exactly max true rows, of which none could be one with the next, the first header that they leave out, and the number of cells, which is greater; no header gets through
+-- exactly max true rows, of which none could be one with the next, by p or by q (by q alone where max is more than a report of rows may have), the first header that they leave out, and the number of cells, which is greater; no header gets through
 pub record IsReportedInPart (d : Description) (query : Query) (text : List ℕ) : Type 0 where
   pub rows : List (Row StopText)
   pub next : Header
   pub cells : ℕ
   pub report : IsPartReportIn d query rows next cells
-  pub joined : AreJoinedIn d query rows
+  pub joined : AreJoinedIn (goes_on_in query) d query rows
   pub text_is : text ≡ more_text d query.start query.goal query.sides rows next cells
 
 -- ---- answers

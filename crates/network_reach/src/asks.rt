@@ -2,9 +2,10 @@
 ghost use Rattle.std.specs.Prelude.{◌≡◌, ◌≤◌, ◌<◌, IfOk, length, map, string_bytes};
 ghost use Rattle.block_report.specs.Reports.{HaveText, told_rows};
 ghost use Rattle.block_report.specs.Trees.{NodesHaveText, told_nodes};
+ghost use Rattle.ordered_cover.specs.Joined.{GoesOnEitherWay};
 ghost use Rattle.ordered_cover.specs.Trees.{leaf_count};
 ghost use Rattle.header_boxes.specs.Rows.{IsFirstThrough};
-ghost use Rattle.network_reach.specs.Reached.{AreJoinedIn, IsPartReportIn, IsQueryIn, IsReportIn, IsTreeIn, meaning_in, most_rows};
+ghost use Rattle.network_reach.specs.Reached.{AreJoinedIn, IsPartReportIn, IsQueryIn, IsReportIn, IsTreeIn, goes_on_in, meaning_in, most_rows};
 ghost use Rattle.network_reach.specs.Asked.{IsAnswerTo, IsAsked, IsPut, IsReachable, IsReported, IsReportedAsTree, IsReportedInPart};
 ghost use Rattle.vpc_model.specs.Appliances.{appliances_of};
 
@@ -59,7 +60,7 @@ fn answer_blocked(
     requires told { HaveText n.now rows.now }
     requires listed { query.now.max ≤ most_rows }
     requires report { IsReportIn n.now query.now (told_rows n.now rows.now) }
-    requires joined { AreJoinedIn n.now query.now (told_rows n.now rows.now) }
+    requires joined { AreJoinedIn GoesOnEitherWay n.now query.now (told_rows n.now rows.now) }
     requires few { length rows.now ≤ query.now.max }
     ensures { IfOk result (λ a.
         (a.status ≡ Status.No) × IsReported n.now query.now a.text.items) }
@@ -105,7 +106,7 @@ fn answer_more(
     requires query { IsQueryIn n.now query.now }
     requires told { HaveText n.now rows.now }
     requires report { IsPartReportIn n.now query.now (told_rows n.now rows.now) next.now cells }
-    requires joined { AreJoinedIn n.now query.now (told_rows n.now rows.now) }
+    requires joined { AreJoinedIn (goes_on_in query.now) n.now query.now (told_rows n.now rows.now) }
     ensures { IfOk result (λ a.
         (a.status ≡ Status.More) × IsReportedInPart n.now query.now a.text.items) }
 {

@@ -5,7 +5,7 @@ ghost use Rattle.header_boxes.specs.Rows.{IsFirst, NoneThrough};
 ghost use Rattle.ordered_cover.specs.Cover.{IsMore, IsSearched};
 ghost use Rattle.vpc_model.specs.Appliances.{appliances_of};
 ghost use Rattle.vpc_model.specs.Cuts.{cuts_of};
-ghost use Rattle.network_reach.specs.Reached.{IsQueryIn, IsReached, meaning_in, most_rows};
+ghost use Rattle.network_reach.specs.Reached.{IsQueryIn, IsReached, goes_on_in, meaning_in, most_rows};
 
 use appliances::Deciders;
 use box_walk::{RoundProbe, ThroughProbe};
@@ -98,7 +98,8 @@ fn beyond(
     requires query { IsQueryIn f.now query.now }
     requires round { asked round.now.fabric.now round.now.start round.now.goal
         ≡ asked f.now query.now.start query.now.goal }
-    requires more { IsMore (word_of (asked f.now query.now.start query.now.goal)) (cuts_of f.now)
+    requires more { IsMore (goes_on_in query.now)
+        (word_of (asked f.now query.now.start query.now.goal)) (cuts_of f.now)
         query.now.sides query.now.max rows.items next }
     ensures { IfOk result (IsReached f.now query.now) }
 {

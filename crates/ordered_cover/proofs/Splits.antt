@@ -6,7 +6,7 @@ use Rattle.vpc_base.specs.declared.headers.Header.{Header}
 use Rattle.header_boxes.specs.Terms.{AreDisjoint, HasWord, IsAligned, IsFirstThrough, IsValid, IsWithin, NoneThrough, cells_of, holds, is_covered, low_of, volume_of}
 use Rattle.header_boxes.specs.declared.boxes.Box5.{Box5}
 use Rattle.header_boxes.proofs.Lemmas.{aligned_grows, aligned_through, aligned_to_itself, holds_low, holds_whole, low_is_least, valid_if_within, volume_is_positive, within_itself, within_trans}
-use Rattle.ordered_cover.specs.Terms.{AreJoined, AreSplit, AreSplitBySome, GoesOn, GoesOnEitherWay, HoldAllTold, IsAsked, IsBlocked, IsLeast, IsMore, LeaveSomeOut, every, holders, one_if, row_holders, told}
+use Rattle.ordered_cover.specs.Terms.{AreJoined, AreSplit, AreSplitBySome, GoesOnEitherWay, HoldAllTold, IsAsked, IsBlocked, IsLeast, IsMore, LeaveSomeOut, every, holders, one_if, row_holders, told}
 use Rattle.header_boxes.specs.declared.rows.Row.{Row}
 use Rattle.ordered_cover.specs.Grown.{IsGrownTree}
 use Rattle.ordered_cover.specs.Growing.{IsTreeOf}
@@ -302,7 +302,7 @@ module _ {W : Type 0} {meaning : Header → Option W} {cuts : CutLists} {sides :
 
 -- ---- a search that keeps rows
 module _ {W : Type 0} {meaning : Header → Option W} {cuts : CutLists} {sides : Box5} where
-  pub blocked_from_split : {open_boxes : List Box5} {rows : List (Row W)} (max : ℕ) → AreSplit meaning cuts every sides open_boxes rows → open_boxes ≡ [] → length rows ≤ max → AreJoined GoesOn rows
+  pub blocked_from_split : {open_boxes : List Box5} {rows : List (Row W)} (max : ℕ) → AreSplit meaning cuts every sides open_boxes rows → open_boxes ≡ [] → length rows ≤ max → AreJoined GoesOnEitherWay rows
       → IsBlocked meaning cuts sides max rows
   blocked_from_split {open_boxes = open_boxes} {rows = rows} max s none few joined = record {
     are_true = s.are_true;
@@ -313,8 +313,8 @@ module _ {W : Type 0} {meaning : Header → Option W} {cuts : CutLists} {sides :
   }
 
   -- the first open box begins at the first header outside the rows
-  pub more_from_split : {open_boxes others : List Box5} {rows : List (Row W)} (max : ℕ) (b : Box5) → AreSplit meaning cuts every sides open_boxes rows
-      → IsPermutation open_boxes (b ∷ others) → IsLeast b open_boxes → length rows ≡ max → AreJoined GoesOn rows → IsMore meaning cuts sides max rows (low_of b)
+  pub more_from_split : {On : Box5 → Box5 → Type 0} {open_boxes others : List Box5} {rows : List (Row W)} (max : ℕ) (b : Box5) → AreSplit meaning cuts every sides open_boxes rows
+      → IsPermutation open_boxes (b ∷ others) → IsLeast b open_boxes → length rows ≡ max → AreJoined On rows → IsMore On meaning cuts sides max rows (low_of b)
   more_from_split {open_boxes = open_boxes} {rows = rows} max b s taken least count joined =
       let covered : (k : Header) → holds k sides ≡ true → IsBefore k (low_of b) → is_covered rows k ≡ true = (λ k inside. before_open open_boxes rows s b least k inside refl) in
       record {

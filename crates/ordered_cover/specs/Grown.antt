@@ -6,6 +6,7 @@ use Rattle.header_boxes.specs.Cells.{IsAligned}
 use Rattle.header_boxes.specs.Rows.{HasWord, IsFirstThrough}
 use Rattle.header_boxes.specs.declared.boxes.Box5.{Box5}
 use Rattle.ordered_cover.specs.Cover.{IsMore}
+use Rattle.ordered_cover.specs.Joined.{GoesOn}
 use Rattle.ordered_cover.specs.Trees.{IsCutTree, leaves_of}
 use Rattle.ordered_cover.specs.declared.rows.Grown.{Grown}
 use Rattle.ordered_cover.specs.declared.rows.Grown.TheVariants as grown
@@ -22,4 +23,4 @@ pub record IsGrownTree {W : Type 0} (meaning : Header → Option W) (cuts : CutL
 abbrev pub IsGrown : {W : Type 0} → (Header → Option W) → CutLists → Box5 → ℕ → Grown W → Type 0
 IsGrown meaning cuts sides max (grown.Found h) = IsFirstThrough meaning sides h
 IsGrown meaning cuts sides max (grown.Blocked nodes) = IsGrownTree meaning cuts sides max nodes.items
-IsGrown meaning cuts sides max (grown.More rows next) = IsMore meaning cuts sides max rows.items next
+IsGrown meaning cuts sides max (grown.More rows next) = IsMore GoesOn meaning cuts sides max rows.items next

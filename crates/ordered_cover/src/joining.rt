@@ -1,6 +1,6 @@
 // Rows that follow each other are joined.
 ghost use Rattle.std.specs.Prelude.{◌≡◌, ◌↔◌, ◌<◌, ◌⊎◌, ◌∷◌, ◌++◌, [], IsTrue, IfNone, IfSome, length};
-ghost use Rattle.ordered_cover.specs.Joined.{AreJoined, CanJoin, GoesOn, GoesOnInP};
+ghost use Rattle.ordered_cover.specs.Joined.{AreJoined, CanJoin, GoesOn, GoesOnEitherWay, GoesOnInP};
 ghost use Rattle.ordered_cover.specs.Kept.{GoesOnBy, IsOneWithLast, KeepsSplit, span};
 
 use crate::Probe;
@@ -82,20 +82,16 @@ pub(crate) fn one_with_last<P: Probe>(
     })
 }
 
-/// A row together with the last rows that it can be one with, which are taken out. Once a row is joined, the one before
-/// may go on to both.
-pub fn join_last<P: Probe>(
-    along: Along,
-    rows: &mut Vec<Row<P::Word>>,
-    row: Row<P::Word>,
-) -> Row<P::Word>
+/// A row together with the last rows that it can be one with, by p or by q, which are taken out. Once a row is joined, the
+/// one before may go on to both.
+pub fn join_last<P: Probe>(rows: &mut Vec<Row<P::Word>>, row: Row<P::Word>) -> Row<P::Word>
     ensures kept { KeepsSplit (rows.old.items ++ row ∷ []) (rows.new.items ++ result ∷ []) }
-    ensures joined { AreJoined (GoesOnBy along) rows.old.items
-        → AreJoined (GoesOnBy along) (rows.new.items ++ result ∷ []) }
+    ensures joined { AreJoined GoesOnEitherWay rows.old.items
+        → AreJoined GoesOnEitherWay (rows.new.items ++ result ∷ []) }
     ensures same { (rows.new.items ≡ rows.old.items) ⊎ (length rows.new.items < length rows.old.items) }
 {
     let mut row = row;
-    'joined: while let Some(wider) = one_with_last::<P>(along, rows.as_slice(), &row) {
+    'joined: while let Some(wider) = one_with_last::<P>(Along::PAndQ, rows.as_slice(), &row) {
         rows.pop();
         row = wider;
     }

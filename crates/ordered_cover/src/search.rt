@@ -9,7 +9,7 @@ ghost use Rattle.ordered_cover.specs.Gathered.{IsGathered};
 ghost use Rattle.ordered_cover.specs.Open.{IsAsked};
 
 use crate::beside::beside;
-use crate::joining::{Along, join_last};
+use crate::joining::join_last;
 use crate::open::OpenBoxes;
 use crate::{Cover, Gathered, Probe, Searched};
 use header_boxes::{Box5, Row};
@@ -74,7 +74,7 @@ pub fn first_within<P: Probe>(
 
 /// What the probe says of all headers of the sides, in at most `max` rows: the first header that gets through,
 /// or rows that hold all headers, or as many rows as are allowed and the first header outside them. Parts that
-/// follow each other with one word, and differ in q alone, are one row.
+/// follow each other with one word, and differ in p or in q alone, are one row.
 pub fn cover<P: Probe>(
     alloc: Global,
     p: &P,
@@ -94,7 +94,7 @@ pub fn cover<P: Probe>(
         match word {
             None => return Ok(Cover::Found(part.low())),
             Some(word) => {
-                let row = join_last::<P>(Along::Q, &mut rows, Row { part, word });
+                let row = join_last::<P>(&mut rows, Row { part, word });
                 rows.push(row)?;
             }
         }
@@ -123,11 +123,11 @@ pub fn gather<P: Probe>(
         let Some(word) = word else {
             continue;
         };
-        let row = join_last::<P>(Along::PAndQ, &mut rows, Row { part, word });
+        let joined = join_last::<P>(&mut rows, Row { part, word });
         if rows.len() == room as usize {
             return Ok(Gathered::More(rows, part.low()));
         }
-        rows.push(row)?;
+        rows.push(joined)?;
     }
     Ok(Gathered::All(rows))
 }

@@ -3,11 +3,12 @@ use Rattle.std.proofs.Common.{◌∙◌, subst}
 use Rattle.header_boxes.specs.Rows.{IsFirstThrough}
 use Rattle.box_walk.specs.Asking.{Asking, asked, word_of}
 use Rattle.ordered_cover.specs.Cover.{IsBlocked, IsCover, IsMore}
-use Rattle.vpc_laws.specs.Types.{Description}
+use Rattle.ordered_cover.specs.Joined.{GoesOnEitherWay}
+use Rattle.vpc_laws.specs.Types.{Box5, Description}
 use Rattle.vpc_model.specs.Accepted.{IsAccepted}
 use Rattle.vpc_model.specs.Cuts.{cuts_of}
 use Rattle.vpc_model.specs.Report.{IsCellCount}
-use Rattle.network_reach.proofs.Reports.{blocked_is, more_is, none_unstopped}
+use Rattle.network_reach.proofs.Reports.{blocked_is, more_is, none_unstopped, of_rows}
 use Rattle.network_reach.proofs.reach.blocked_by_rows.Goals as goal
 
 pub unreachable-requires : goal.unreachable-requires
@@ -30,5 +31,8 @@ returns-in_ok-cells-in-More g c =
     let more = subst (IsCover (word_of (asked p.fabric.now p.start p.goal)) (cuts_of p.fabric.now) c.args.query.now.sides c.args.query.now.max) c.in-More.is c.in_ok-cover.ensures in
     more_is c.args.f.now c.args.query.now c.in-More.rows c.in-More.next _ (subst IsAccepted c.network.ensures c.description-d.ensures.accepted) c.requires.query
     (subst (λ (d : Description). IsCellCount d c.args.query.now.sides c.in_ok-cells-in-More.cells) (c.description-d.ensures.value ∙ c.network.ensures) c.in_ok-cells-in-More.ensures)
-    (subst (λ (a : Asking). IsMore (word_of a) (cuts_of a.network) c.args.query.now.sides c.args.query.now.max c.in-More.rows.items c.in-More.next) c.requires.round more)
+    (of_rows c.args.query.now
+    (λ (On : Box5 → Box5 → Type 0). IsMore On (word_of (asked c.args.f.now c.args.query.now.start c.args.query.now.goal)) (cuts_of c.args.f.now) c.args.query.now.sides c.args.query.now.max c.in-More.rows.items c.in-More.next)
+    c.requires.few
+    (subst (λ (a : Asking). IsMore GoesOnEitherWay (word_of a) (cuts_of a.network) c.args.query.now.sides c.args.query.now.max c.in-More.rows.items c.in-More.next) c.requires.round more))
     (none_unstopped c.args.f.now c.args.query.now c.requires.none)

@@ -4,11 +4,12 @@ use Rattle.header_boxes.specs.Rows.{IsFirstThrough}
 use Rattle.box_walk.specs.Asking.{Asking, asked, word_of}
 use Rattle.ordered_cover.specs.Cover.{IsMore}
 use Rattle.ordered_cover.specs.Grown.{IsGrown, IsGrownTree}
-use Rattle.vpc_laws.specs.Types.{Description}
+use Rattle.ordered_cover.specs.Joined.{GoesOn}
+use Rattle.vpc_laws.specs.Types.{Box5, Description}
 use Rattle.vpc_model.specs.Accepted.{IsAccepted}
 use Rattle.vpc_model.specs.Cuts.{cuts_of}
 use Rattle.vpc_model.specs.Report.{IsCellCount}
-use Rattle.network_reach.proofs.Reports.{more_is, none_unstopped, tree_is}
+use Rattle.network_reach.proofs.Reports.{more_is, none_unstopped, of_a_tree, tree_is}
 use Rattle.network_reach.proofs.reach.blocked_by_tree.Goals as goal
 
 pub unreachable-requires : goal.unreachable-requires
@@ -31,5 +32,8 @@ returns-in_ok-cells-in-More g c =
     let more = subst (IsGrown (word_of (asked p.fabric.now p.start p.goal)) (cuts_of p.fabric.now) c.args.query.now.sides c.args.query.now.max) c.in-More.is c.in_ok-grow.ensures in
     more_is c.args.f.now c.args.query.now c.in-More.rows c.in-More.next _ (subst IsAccepted c.network.ensures c.description-d.ensures.accepted) c.requires.query
     (subst (λ (d : Description). IsCellCount d c.args.query.now.sides c.in_ok-cells-in-More.cells) (c.description-d.ensures.value ∙ c.network.ensures) c.in_ok-cells-in-More.ensures)
-    (subst (λ (a : Asking). IsMore (word_of a) (cuts_of a.network) c.args.query.now.sides c.args.query.now.max c.in-More.rows.items c.in-More.next) c.requires.round more)
+    (of_a_tree c.args.query.now
+    (λ (On : Box5 → Box5 → Type 0). IsMore On (word_of (asked c.args.f.now c.args.query.now.start c.args.query.now.goal)) (cuts_of c.args.f.now) c.args.query.now.sides c.args.query.now.max c.in-More.rows.items c.in-More.next)
+    c.requires.many
+    (subst (λ (a : Asking). IsMore GoesOn (word_of a) (cuts_of a.network) c.args.query.now.sides c.args.query.now.max c.in-More.rows.items c.in-More.next) c.requires.round more))
     (none_unstopped c.args.f.now c.args.query.now c.requires.none)

@@ -3,9 +3,11 @@ use Rattle.std.proofs.Common.{subst}
 use Rattle.box_walk.specs.Asking.{Asking, asked, word_of}
 use Rattle.ordered_cover.specs.Cover.{IsMore}
 use Rattle.ordered_cover.specs.Grown.{IsGrown, IsGrownTree}
+use Rattle.ordered_cover.specs.Joined.{GoesOn}
+use Rattle.vpc_laws.specs.Types.{Box5}
 use Rattle.vpc_model.specs.Accepted.{IsAccepted}
 use Rattle.vpc_model.specs.Cuts.{cuts_of}
-use Rattle.network_reach.proofs.Reports.{through_is, tree_is}
+use Rattle.network_reach.proofs.Reports.{of_a_tree, through_is, tree_is}
 use Rattle.network_reach.proofs.reach.by_tree.Goals as goal
 
 pub returns-in-Found : goal.returns-in-Found
@@ -25,4 +27,7 @@ pub beyond-requires-clause-more : goal.beyond-requires-clause-more
 beyond-requires-clause-more g c =
     let p = c.args.round.now in
     let more = subst (IsGrown (word_of (asked p.fabric.now p.start p.goal)) (cuts_of p.fabric.now) c.args.query.now.sides c.args.query.now.max) c.in-More.is c.in_ok-h.ensures in
-    subst (λ (a : Asking). IsMore (word_of a) (cuts_of a.network) c.args.query.now.sides c.args.query.now.max c.in-More.rows.items c.in-More.next) c.requires.round more
+    of_a_tree c.args.query.now
+    (λ (On : Box5 → Box5 → Type 0). IsMore On (word_of (asked c.args.f.now c.args.query.now.start c.args.query.now.goal)) (cuts_of c.args.f.now) c.args.query.now.sides c.args.query.now.max c.in-More.rows.items c.in-More.next)
+    c.requires.many
+    (subst (λ (a : Asking). IsMore GoesOn (word_of a) (cuts_of a.network) c.args.query.now.sides c.args.query.now.max c.in-More.rows.items c.in-More.next) c.requires.round more)

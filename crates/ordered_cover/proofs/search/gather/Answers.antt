@@ -45,8 +45,8 @@ pub returns-then-len-room : goal.returns-then-len-room
 returns-then-len-room g c =
     let asked = rw c.in-Some.is at c.in_ok-part.ensures.asked in
     let asked_word = rw c.in-Some-word.is at asked in
-    let count : length c.join_last-row.new.rows.items ≡ c.args.room = omega (arith, c.len.ensures, c.if-len-room.true) in
-    let same = still c.asked.rows.items c.join_last-row.new.rows.items c.args.room c.join_last-row.ensures.same count c.asked.invariant.few in
+    let count : length c.join_last-joined.new.rows.items ≡ c.args.room = omega (arith, c.len.ensures, c.if-len-room.true) in
+    let same = still c.asked.rows.items c.join_last-joined.new.rows.items c.args.room c.join_last-joined.ensures.same count c.asked.invariant.few in
     rw (c.low.ensures.value, same)
     (left_out_from_asked c.args.room c.in-Some-word.word c.asked.invariant.split asked_word (ap length (sym same) ∙ count) c.asked.invariant.joined)
 
@@ -57,11 +57,11 @@ pub asked-preserved : goal.asked-preserved
 asked-preserved g c =
     let asked = rw c.in-Some.is at c.in_ok-part.ensures.asked in
     let after = split_after c.in-Some-word.word c.asked.invariant.split (rw c.in-Some-word.is at asked) in
-    let other : ¬ (length c.join_last-row.new.rows.items ≡ c.args.room) = (λ e. c.if-len-room.false (omega (arith, c.len.ensures, e))) in
+    let other : ¬ (length c.join_last-joined.new.rows.items ≡ c.args.room) = (λ e. c.if-len-room.false (omega (arith, c.len.ensures, e))) in
     rw c.in_ok-push.ensures.items (record {
-      split = c.join_last-row.ensures.kept _ _ _ _ _ after;
-      few = room_left c.asked.rows.items c.join_last-row.new.rows.items c.join_last-row.result c.args.room c.join_last-row.ensures.same other c.asked.invariant.few;
-      joined = c.join_last-row.ensures.joined c.asked.invariant.joined;
+      split = c.join_last-joined.ensures.kept _ _ _ _ _ after;
+      few = room_left c.asked.rows.items c.join_last-joined.new.rows.items c.join_last-joined.result c.args.room c.join_last-joined.ensures.same other c.asked.invariant.few;
+      joined = c.join_last-joined.ensures.joined c.asked.invariant.joined;
     })
 
 pub returns : goal.returns
