@@ -9,6 +9,8 @@
                    group per 50, each of 20 rules with references, blocks and a prefix list; a NAT gateway (whose interface
                    is one of the N), a peering to the next VPC and an attachment to the transit gateway a VPC; a transit
                    table. Accepted
+    joined N       the same, where rules name groups of another VPC over the transit gateway, and the first group of each VPC
+                   belongs to the next one too, where some interfaces have it
     fit            an account as large as fits a file (64 MiB); with --indent it is indented as `aws` prints it
 
 --lean leaves out the members that aren't read. A full row is a kilobyte without blanks, so that 100,000 interfaces fit a
@@ -29,6 +31,9 @@ Hostile bundles, each of which a linear reader takes as easily as an account of 
     named-by-rule N      one permission that names a group N times: accepted
     rules N              N rule rows of one group: accepted
     groups-of-rules N    N rule rows of N groups, in the reverse order of the groups: accepted
+    equal-gateways N     N transit gateways with one id: all but the first are dropped, accepted
+    associated N         two groups, each of N VPCs that aren't described, all of them at one transit gateway over which rules
+                         may name groups, and a rule of the one that names the other: accepted (50000)
     routes N             a table with N routes to one internet gateway: accepted
     long-ids N           N interfaces with ids of 256 characters that differ in the last ones: accepted
     last-missing N       an account of one-vpc whose last interface is in a group that isn't described: MissingReference
@@ -36,8 +41,8 @@ Hostile bundles, each of which a linear reader takes as easily as an account of 
     deep                 64 MiB of arrays, each nested 120 deep, in such a member: accepted
     escapes              64 MiB of escapes in a text that is read over: accepted
 
-The bundles of `all`: account-1000, account-10000, account-40000, account-100000 (lean), fit-indented, and each hostile
-kind with 100,000 rows (subnets with 30,000)."""
+The bundles of `all`: account-1000, account-10000, account-40000, account-100000 (lean), joined-10000, fit-indented, and
+each hostile kind with 100,000 rows (subnets with 30,000, associated with 50,000)."""
 import json
 import os
 import sys
@@ -235,6 +240,31 @@ def account(n, lean=False):
     return d
 
 
+def gateway(option, name='tgw-00000000000000001'):
+    return {'TransitGatewayId': name, 'State': 'available', 'OwnerId': OWNER, 'Options': {'DnsSupport': 'enable', 'SecurityGroupReferencingSupport': option}, 'Tags': []}
+
+
+def joined(n, lean=False):
+    """An account whose groups count in other VPCs too. (The first group of a VPC lets in the one of the next but one, which no peering joins.)"""
+    d = account(n, lean)
+    vpcs, groups_a_vpc = len(d['Vpcs']), PER_VPC // PER_GROUP
+    d['TransitGateways'] = [gateway('enable')]
+    for it in d['TransitGatewayVpcAttachments']:
+        it['Options']['SecurityGroupReferencingSupport'] = 'enable'
+    first = [hexed('sg', v * groups_a_vpc) for v in range(vpcs)]
+    for it in d['SecurityGroups']:
+        if it['GroupId'] in first:
+            named = first[(first.index(it['GroupId']) + 2) % vpcs]
+            it['IpPermissions'].append(permission('tcp', 8443, 8443, lean, groups=[named]))
+    d['SecurityGroupVpcAssociations'] = [
+        {'GroupId': first[v], 'VpcId': hexed('vpc', (v + 1) % vpcs), 'VpcOwnerId': OWNER, 'State': 'associated', 'GroupOwnerId': OWNER} for v in range(vpcs) if vpcs > 1]
+    homes = {row['SubnetId']: k // SUBNETS for k, row in enumerate(d['Subnets'])}
+    for k, it in enumerate(d['NetworkInterfaces']):
+        if k % PER_GROUP == 7 and it['Groups'] and vpcs > 1:
+            it['Groups'].append(dict(it['Groups'][0], GroupId=first[homes[it['SubnetId']] - 1]))
+    return d
+
+
 # ---- hostile bundles
 
 def plain(subnets=1):
@@ -300,6 +330,20 @@ def groups_of_rules(n):
     return d
 
 
+def associated(n):
+    d = one_vpc(2)
+    d['Vpcs'].append({'VpcId': 'vpc-2', 'CidrBlock': '11.0.0.0/8'})
+    d['SecurityGroups'][0]['IpPermissions'].append({'IpProtocol': 'tcp', 'FromPort': 443, 'ToPort': 443, 'UserIdGroupPairs': [{'GroupId': 'sg-2'}]})
+    d['SecurityGroups'].append({'GroupId': 'sg-2', 'VpcId': 'vpc-2', 'IpPermissions': [], 'IpPermissionsEgress': []})
+    far = [f'vpc-far-{k}' for k in range(2 * n)]
+    d['SecurityGroupVpcAssociations'] = [{'GroupId': f'sg-{1 + k % 2}', 'VpcId': it, 'State': 'associated'} for k, it in enumerate(far)]
+    d['TransitGateways'] = [gateway('enable', 'tgw-1')]
+    d['TransitGatewayVpcAttachments'] = [
+        {'TransitGatewayAttachmentId': f'att-{k}', 'TransitGatewayId': 'tgw-1', 'VpcId': it, 'SubnetIds': [], 'State': 'available', 'Options': {'SecurityGroupReferencingSupport': 'enable'}}
+        for k, it in enumerate(far)]
+    return d
+
+
 def routes(n):
     d = one_vpc(2)
     d['InternetGateways'] = [{'InternetGatewayId': 'igw-1', 'Attachments': [{'State': 'available', 'VpcId': 'vpc-1'}]}]
@@ -330,7 +374,8 @@ HOSTILE = {
     'equal-peerings': lambda n: {'VpcPeeringConnections': [{'VpcPeeringConnectionId': 'pcx-1', 'Status': {'Code': 'deleted'}}] * n},
     'equal-lists': equal_lists, 'one-vpc': one_vpc,
     'one-vpc-twice': lambda n: one_vpc(n, {'PrivateIpAddress': '10.0.0.0'}), 'one-interface': one_interface, 'subnets': many_subnets, 'one-table': plain,
-    'named-by-one': named_by_one, 'named-by-all': one_vpc, 'named-by-rule': named_by_rule, 'rules': rules, 'groups-of-rules': groups_of_rules, 'routes': routes,
+    'named-by-one': named_by_one, 'named-by-all': one_vpc, 'named-by-rule': named_by_rule, 'rules': rules, 'groups-of-rules': groups_of_rules,
+    'equal-gateways': lambda n: {'TransitGateways': [gateway('enable', 'tgw-1')] * n}, 'associated': associated, 'routes': routes,
     'long-ids': long_ids, 'last-missing': lambda n: one_vpc(n, {'Groups': [{'GroupId': 'sg-x'}]})}
 TEXTS = {
     'tiny': lambda: filled('{"Note":[', '{}', ']}'),
@@ -356,13 +401,13 @@ def fit(indent, lean):
 
 
 def make(kind, n=None, indent=False, lean=False):
-    if kind == 'account':
-        return text_of(account(n or 1000, lean), indent)
+    if kind in ('account', 'joined'):
+        return text_of((account if kind == 'account' else joined)(n or 1000, lean), indent)
     if kind == 'fit':
         return fit(indent, lean)
     if kind in TEXTS:
         return TEXTS[kind]()
-    return text_of(HOSTILE[kind](n or (30_000 if kind == 'subnets' else 100_000)), indent)
+    return text_of(HOSTILE[kind](n or {'subnets': 30_000, 'associated': 50_000}.get(kind, 100_000)), indent)
 
 
 def write(path, text):
@@ -376,6 +421,7 @@ def make_all(folder):
     for n in (1000, 10_000, 40_000):
         write(os.path.join(folder, f'account-{n}.json'), make('account', n))
     write(os.path.join(folder, 'account-100000.json'), make('account', 100_000, lean=True))
+    write(os.path.join(folder, 'joined-10000.json'), make('joined', 10_000))
     write(os.path.join(folder, 'fit-indented.json'), make('fit', indent=True))
     for kind in (*HOSTILE, *TEXTS):
         write(os.path.join(folder, f'{kind}.json'), make(kind))
@@ -389,7 +435,7 @@ def main(words):
         make_all(words[1])
         return 0
     if words[0] == 'kinds':
-        for kind in ('account', 'fit', *HOSTILE, *TEXTS):
+        for kind in ('account', 'joined', 'fit', *HOSTILE, *TEXTS):
             print(f'{kind}\t{DUE.get(kind, "accepted")}')
         return 0
     out = words[words.index('-o') + 1] if '-o' in words else None

@@ -118,6 +118,8 @@ CASES = [
     ("an account, to the internet", accounts.account, 10_000, f"from {of_account(1)} to internet dst 198.51.100.0/24", 0),
     ("routes of a table", routes, 99_990, BETWEEN, 0),
     ("rules that name 95,000 members", references, 1_000, "from eni-0 to eni-9", 1),
+    # (which older programs stop)
+    ("an account, by a group that is named over a transit gateway", accounts.joined, 10_000, f"from {of_account(1, 2)} to {of_account(2)} port 8443-8443", 0),
 ]
 
 

@@ -380,6 +380,7 @@ def groups():
     bundle("the same, asked", opened(accounts.named_by_rule), MANY, "ask from eni-0 to eni-1", 0)
     bundle("an interface with one group so often", opened(accounts.named_by_one), MANY, f"trace {WALK}", 1)
     bundle("interfaces with one group", opened(accounts.one_vpc), MANY, "ask from eni-0 to eni-1", 0)
+    bundle("two groups of so many VPCs each, all at one transit gateway", opened(accounts.associated), MANY // 2, f"trace {WALK}", 0)
 
 
 def addresses():

@@ -34,11 +34,19 @@ def used(words):
 
 def account(count):
     """An account whose groups have 20 rules each."""
-    d = accounts.account(count, True)
-    for group in d["SecurityGroups"]:
+    return with_rules(accounts.account(count, True))
+
+
+def joined(count):
+    """The same, whose groups belong to several VPCs and are named over its transit gateway."""
+    return with_rules(accounts.joined(count, True))
+
+
+def with_rules(whole):
+    for group in whole["SecurityGroups"]:
         rules = group["IpPermissions"]
         group["IpPermissions"] = (rules * (20 // max(1, len(rules)) + 1))[:20]
-    return d
+    return whole
 
 
 def bare(path):
@@ -56,8 +64,8 @@ def packet(path):
     return ["open", "from", first["NetworkInterfaceId"], "tcp", first["PrivateIpAddress"], last["PrivateIpAddress"], "5000", "443"]
 
 
-def row(count):
-    path = written(f"account-{count}.json", account, count, separators=(",", ":"))
+def row(count, made=account):
+    path = written(f"{made.__name__}-{count}.json", made, count, separators=(",", ":"))
     words = packet(path)
     nowhere = [*words[:2], "eni-nowhere", *words[3:]]
     alone = used([program(), "trace", bare(path), *nowhere])
@@ -66,7 +74,7 @@ def row(count):
     theirs = used([sys.executable, "-c", f"import json; json.load(open({path!r}))"]) - used([sys.executable, "-c", "import json"])
     _, peak = measured([program(), "trace", path, *words], code=answered(path, words))
     size = os.path.getsize(path) / 2**20
-    print(f"| {count:,} | {size:.1f} MiB | {whole * 1e3:.0f} ms | {whole / theirs:.2f} | {alone * 1e3:.0f} ms | {(rows - alone) * 1e3:.0f} ms"
+    print(f"| {count:,}{', joined' * (made is joined)} | {size:.1f} MiB | {whole * 1e3:.0f} ms | {whole / theirs:.2f} | {alone * 1e3:.0f} ms | {(rows - alone) * 1e3:.0f} ms"
           f" | {(whole - rows) * 1e3:.0f} ms | {(whole - alone) / alone:.2f} | {peak:.0f} MiB |", flush=True)
 
 
@@ -86,6 +94,7 @@ def main():
     os.makedirs(OUT, exist_ok=True)
     for count in (1_000, 10_000, 100_000):
         row(count)
+    row(10_000, joined)
 
 
 if __name__ == "__main__":

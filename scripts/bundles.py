@@ -25,9 +25,11 @@ LISTS = {
     "InternetGateways": "InternetGatewayId",
     "NatGateways": "NatGatewayId",
     "VpcPeeringConnections": "VpcPeeringConnectionId",
+    "TransitGateways": "TransitGatewayId",
     "TransitGatewayVpcAttachments": "TransitGatewayAttachmentId",
     "TransitGatewayAttachments": "TransitGatewayAttachmentId",
     "TransitGatewayRoutes": "TransitGatewayRouteTableId",
+    "SecurityGroupVpcAssociations": "GroupId",
     "Appliances": "NetworkInterfaceId",
 }
 # The members of a route that may name its target: the first that is there does.
@@ -123,7 +125,9 @@ def rows(value: Any, *names: Any) -> list[Row]:
 # ---- names
 
 # The lists whose rows have a name.
-NAMELESS = ("PrefixListEntries", "TransitGatewayRoutes", "Appliances")
+NAMELESS = (
+    "PrefixListEntries", "TransitGatewayRoutes", "SecurityGroupVpcAssociations", "Appliances",
+)
 NAMED = [it for it in LISTS if it not in NAMELESS]
 
 

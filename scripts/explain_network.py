@@ -4,6 +4,7 @@ rows say of a header. Packets are not followed here."""
 from __future__ import annotations
 
 import collections
+import itertools
 from collections.abc import Iterator
 from typing import Any, NamedTuple, Optional
 
@@ -88,10 +89,19 @@ class Rule(NamedTuple):
 
 
 class Group(NamedTuple):
+    """`vpcs` are those to which it belongs, its own first."""
+
     id: str
-    vpc: str
+    vpcs: list[str]
     inward: list[Rule]
     outward: list[Rule]
+
+
+class Side(NamedTuple):
+    """Where rules of a group count at an interface: the VPC, and the direction."""
+
+    vpc: str
+    outward: bool
 
 
 class Nat(NamedTuple):
@@ -109,10 +119,13 @@ class Peering(NamedTuple):
 
 
 class Attachment(NamedTuple):
+    """`naming` tells whether rules may name groups over it."""
+
     id: str
     gateway: str
     vpc: str
     subnets: list[str]
+    naming: Any
 
 
 class TransitRoute(NamedTuple):
@@ -262,6 +275,11 @@ def nat_of(row: Row) -> Nat:
     return Nat(row["NatGatewayId"], state, subnet, first["NetworkInterfaceId"], own)
 
 
+def naming_of(row: Row) -> Any:
+    """What a transit gateway or an attachment tells of whether rules may name groups over it."""
+    return member(row, "Options", "SecurityGroupReferencingSupport")
+
+
 def transit_route_of(row: Row) -> TransitRoute:
     found = items(row, "TransitGatewayAttachments")
     attachment = found[0]["TransitGatewayAttachmentId"] if found else None
@@ -312,6 +330,7 @@ class Network:
         self.read_lists(lists["PrefixLists"], lists["PrefixListEntries"])
         self.read_acls(lists["NetworkAcls"])
         self.read_groups(lists["SecurityGroups"], lists["SecurityGroupRules"])
+        self.read_homes(lists["SecurityGroupVpcAssociations"])
         self.read_gateways(lists["InternetGateways"], lists["NatGateways"])
         self.read_peerings(lists["VpcPeeringConnections"])
         self.read_transit(lists)
@@ -372,7 +391,14 @@ class Network:
             else:
                 inward = permissions(row, "IpPermissions")
                 outward = permissions(row, "IpPermissionsEgress")
-            self.groups[group] = Group(group, row["VpcId"], inward, outward)
+            self.groups[group] = Group(group, [row["VpcId"]], inward, outward)
+
+    def read_homes(self, found: list[Row]) -> None:
+        """The further VPCs of groups."""
+        for it in found:
+            group, vpc = self.groups.get(it["GroupId"]), it["VpcId"]
+            if group and it.get("State") == "associated" and vpc not in group.vpcs:
+                group.vpcs.append(vpc)
 
     def listed_rules(
         self, known: set[str], listed: list[Row]
@@ -425,8 +451,12 @@ class Network:
         for row in lists["TransitGatewayVpcAttachments"]:
             if row["State"] in USABLE:
                 name, gateway = row["TransitGatewayAttachmentId"], row["TransitGatewayId"]
-                found = Attachment(name, gateway, row["VpcId"], list(items(row, "SubnetIds")))
+                subnets = list(items(row, "SubnetIds"))
+                found = Attachment(name, gateway, row["VpcId"], subnets, naming_of(row))
                 self.attachments.setdefault(name, found)
+        self.naming: dict[str, Any] = {}
+        for row in lists["TransitGateways"]:
+            self.naming.setdefault(row["TransitGatewayId"], naming_of(row))
         for row in lists["TransitGatewayAttachments"]:
             table = member(row.get("Association"), "TransitGatewayRouteTableId")
             if table is not None:
@@ -483,13 +513,33 @@ class Network:
         ]
         return min(found, key=lambda it: it.number) if found else None
 
-    def counts(self, group: str, reference: str) -> bool:
-        """Whether a group's rule may name another group."""
-        if reference not in self.groups:
-            return False
-        one, other = self.groups[group].vpc, self.groups[reference].vpc
-        pairs = (it.pair for it in self.peerings.values())
-        return one == other or any(it is not None and set(it) == {one, other} for it in pairs)
+    def side(self, interface: Interface, outward: bool, group: str) -> Side:
+        """Where a group's rules count: in the VPC of the interface, if the group belongs to it."""
+        here, vpcs = self.subnets[interface.subnet].vpc, self.groups[group].vpcs
+        return Side(here if here in vpcs else vpcs[0], outward)
+
+    def counts(self, side: Side, reference: str) -> bool:
+        """Whether a rule that counts there may name a group."""
+        found = self.groups.get(reference)
+        return bool(found) and any(self.is_joined(side, it) for it in found.vpcs)
+
+    def is_joined(self, side: Side, vpc: str) -> bool:
+        """Whether rules that count there may name groups of a VPC."""
+        pairs = [it.pair for it in self.peerings.values() if it.pair]
+        if vpc == side.vpc or any(set(it) == {vpc, side.vpc} for it in pairs):
+            return True
+        return not side.outward and any(not it for _, it in self.over_transit(side.vpc, vpc))
+
+    def over_transit(self, one: str, other: str) -> Iterator[tuple[str, dict[str, Any]]]:
+        """The transit gateways to which two VPCs are attached, each with what keeps rules from
+        naming groups over it: it or an attachment, with what is told of the option."""
+        found = self.attachments.values()
+        theirs = [it for it in found if it.vpc == other]
+        for here, there in itertools.product((it for it in found if it.vpc == one), theirs):
+            if here.gateway == there.gateway:
+                told = {here.gateway: self.naming.get(here.gateway)}
+                told.update({here.id: here.naming, there.id: there.naming})
+                yield here.gateway, {it: word for it, word in told.items() if word != "enable"}
 
     def allows_flow(self, rule: Rule, h: Header) -> bool:
         return rule.proto in (None, h.proto) and rule.first <= h.q <= rule.last
@@ -497,28 +547,29 @@ class Network:
     def list_holds(self, name: str, number: int) -> bool:
         return any(it.holds(number) for it in self.lists.get(name, []))
 
-    def group_holds(self, group: str, reference: str, far: int) -> bool:
-        """Whether a group that a group's rule names has an address, and may be named."""
-        return far in self.members.get(reference, {}) and self.counts(group, reference)
+    def group_holds(self, side: Side, reference: str, far: int) -> bool:
+        """Whether a group that a rule names has an address, and may be named there."""
+        return far in self.members.get(reference, {}) and self.counts(side, reference)
 
-    def allows_far(self, group: str, rule: Rule, far: int) -> bool:
+    def allows_far(self, side: Side, rule: Rule, far: int) -> bool:
         return (
             any(it.holds(far) for it in rule.blocks)
             or any(self.list_holds(it, far) for it in rule.lists)
-            or any(self.group_holds(group, it, far) for it in rule.groups)
+            or any(self.group_holds(side, it, far) for it in rule.groups)
         )
 
-    def rules_of(self, interface: Interface, outward: bool) -> Iterator[tuple[str, Rule]]:
+    def rules_of(self, interface: Interface, outward: bool) -> Iterator[tuple[str, Side, Rule]]:
+        """The rules of an interface's groups, each with its group, and where it counts."""
         for name in interface.groups:
-            group = self.groups[name]
-            yield from ((name, it) for it in (group.outward if outward else group.inward))
+            group, side = self.groups[name], self.side(interface, outward, name)
+            yield from ((name, side, it) for it in (group.outward if outward else group.inward))
 
     def is_allowed(self, interface: Interface, outward: bool, h: Header) -> bool:
         """Whether some rule of an interface's groups allows a header."""
         far = h.dst if outward else h.src
         return any(
-            self.allows_flow(it, h) and self.allows_far(group, it, far)
-            for group, it in self.rules_of(interface, outward)
+            self.allows_flow(it, h) and self.allows_far(side, it, far)
+            for _, side, it in self.rules_of(interface, outward)
         )
 
     # -- what lines name

@@ -6,7 +6,7 @@ from collections.abc import Iterator
 from typing import Optional
 
 from scripts.bundles import harmless
-from scripts.explain_network import Interface, Route, Rule, is_unroutable
+from scripts.explain_network import Interface, Route, Rule, Side, is_unroutable
 from scripts.explain_told import Stop
 from scripts.explain_words import (
     Teller, appliance_words, direction, flow_words, icmp_words, list_words, packet_words,
@@ -359,33 +359,53 @@ class Why:
         they = "they allow" if len(self.interface.groups) > 1 else "it allows"
         if not rules:
             return f"There is no {direction(outward)} rule at all."
-        same_flow = [it for _, it in rules if network.allows_flow(it, h)]
-        same_far = [it for group, it in rules if network.allows_far(group, it, far)]
+        same_flow = [it for _, _, it in rules if network.allows_flow(it, h)]
+        same_far = [it for _, side, it in rules if network.allows_far(side, it, far)]
         if same_flow:
             found = f"For {flow_words(h)} {they} {some(map(teller.far_words, same_flow))} alone."
         elif same_far:
             ports = some(ports_words(it.proto, it.first, it.last) for it in same_far)
             found = f"{'To' if outward else 'From'} {dotted(far)} {they} {ports} alone."
         else:
-            words = some(teller.rule_words(it, outward) for _, it in rules)
+            words = some(teller.rule_words(it, outward) for _, _, it in rules)
             found = f"{they.capitalize()} {words} alone."
         return " ".join([found, *self.lost_references(rules, h, far)])
 
-    def lost_references(self, rules: list[tuple[str, Rule]], h: Header, far: int) -> Iterator[str]:
+    def lost_references(
+        self, rules: list[tuple[str, Side, Rule]], h: Header, far: int
+    ) -> Iterator[str]:
         """Groups that hold the address, and whose naming doesn't count."""
         network, named = self.network, self.teller.named
         found = [
-            (group, it) for group, rule in rules for it in rule.groups
+            (side, it) for _, side, rule in rules for it in rule.groups
             if network.allows_flow(rule, h) and far in network.members.get(it, {})
         ]
-        for group, it in found:
-            if network.counts(group, it):
-                continue
-            why = "isn't described"
-            if it in network.groups:
-                vpcs = [named(network.groups[that].vpc) for that in (it, group)]
-                why = f"is in {vpcs[0]}, which no active peering joins to {vpcs[1]}"
-            yield f"{named(it)}, which {dotted(far)} belongs to, doesn't count here: it {why}."
+        for side, it in dict.fromkeys(found):
+            if not network.counts(side, it):
+                why = self.why_lost(side, it)
+                yield f"{named(it)}, which {dotted(far)} belongs to, doesn't count here: it {why}."
+
+    def why_lost(self, side: Side, reference: str) -> str:
+        """Why a rule may not name a group."""
+        network, teller = self.network, self.teller
+        if reference not in network.groups:
+            return "isn't described"
+        vpcs = network.groups[reference].vpcs
+        several = bool(vpcs[1:])
+        which = f"{'none of ' * several}which {'an' if several else 'no'} active peering joins"
+        why = f"is in {teller.all_named(vpcs)}, {which} to {teller.named(side.vpc)}"
+        over = [found for it in vpcs for found in network.over_transit(side.vpc, it)]
+        if not over:
+            return why
+        gateway, lacking = over[0]
+        if side.outward:
+            return f"{why}; outbound rules name no group over a transit gateway"
+        words = list_words([
+            f"{teller.named(it)} ({'not told' if word is None else harmless(word)})"
+            for it, word in lacking.items()
+        ])
+        option = f"SecurityGroupReferencingSupport of {words} were enable"
+        return f"{why}; over {teller.named(gateway)} it would count if {option}"
 
     # -- other stops whose sentences differ by what is known
 

@@ -6,7 +6,9 @@ from collections.abc import Callable, Iterable, Iterator
 from typing import Any, Optional
 
 from scripts.bundles import harmless
-from scripts.explain_network import AclRow, Appliance, Network, Route, Rule, is_unroutable
+from scripts.explain_network import (
+    AclRow, Appliance, Network, Route, Rule, Side, is_unroutable,
+)
 from scripts.explain_told import Decisions, chosen_at, entered_at, route_at
 from scripts.headers import Block, Box, Header, dotted
 from scripts.texts import AclVerdict, ChosenRoute, Decision, Fare, Hop, NoText, Walk
@@ -177,7 +179,7 @@ class Teller:
         ports = ports_words(rule.proto, rule.first, rule.last)
         return f"{ports} {'to' if outward else 'from'} {self.far_words(rule)}"
 
-    def why_far(self, group: str, rule: Rule, far: int) -> str:
+    def why_far(self, side: Side, rule: Rule, far: int) -> str:
         """Which group or list it is that holds the far address, where the rule's words don't show
         it."""
         network = self.network
@@ -186,9 +188,9 @@ class Teller:
         for it in rule.lists:
             if network.list_holds(it, far):
                 return f"; {self.named(it)} holds {dotted(far)}"
-        found = next((it for it in rule.groups if network.group_holds(group, it, far)), None)
+        found = next((it for it in rule.groups if network.group_holds(side, it, far)), None)
         if found is None:
-            raise NoText(f"rule {harmless(rule.name)} of {group} doesn't allow {dotted(far)}")
+            raise NoText(f"rule {harmless(rule.name)} doesn't allow {dotted(far)}")
         return f"; {dotted(far)} is that of {self.named(network.members[found][far])}"
 
     def row_words(self, row: AclRow) -> str:
@@ -233,7 +235,8 @@ class Teller:
         rule = self.network.rule_named(group, outward, rule_name)
         if not rule:
             raise NoText(f"{name} isn't in the bundle")
-        far = self.why_far(group, rule, h.dst if outward else h.src)
+        side = self.network.side(self.network.interfaces[hop.id], outward, group)
+        far = self.why_far(side, rule, h.dst if outward else h.src)
         return f"{name} allows {self.rule_words(rule, outward)}{far}"
 
     # -- what was decided, as far as it let the packet pass

@@ -9,10 +9,11 @@ has no id yet gets its address as its id:
     ./plan-bundle plan.json bundle.json > planned.json
     ./vpc diff bundle.json planned.json
 
-It applies VPCs, subnets, security groups and their rules, network ACLs and their rows, route
-tables, their routes and associations, network interfaces with their groups and addresses, and the
-interfaces of instances. What it can't apply, or not without a guess, is told on standard error, one
-line each, and at last how many changes that is about:
+It applies VPCs, subnets, security groups, their rules and the VPCs that they are associated with,
+network ACLs and their rows, route tables, their routes and associations, network interfaces with
+their groups and addresses, and the interfaces of instances; of transit gateways and their
+attachments to VPCs whether rules may name groups over them. What it can't apply, or not without a
+guess, is told on standard error, one line each, and at last how many changes that is about:
 
     not applied: aws_lb.a: it makes, changes or takes away interfaces that a plan doesn't tell
     not applied: aws_instance.a: private_ip isn't known before the apply: 10.0.1.4 is taken for it
@@ -42,6 +43,7 @@ from scripts.bundles import harmless
 from scripts.commands import ODD, Refused
 from scripts.plan_changes import Change, Plan, has_true, shown
 from scripts.plan_interfaces import InstanceChanges
+from scripts.plan_naming import NAMING, NAMING_LISTS
 from scripts.plan_rows import Bundle
 from scripts.plan_types import PLACED, SILENT, UNAPPLIED, is_quiet, placing
 from scripts.plan_vpcs import VpcChanges
@@ -55,6 +57,7 @@ class Apply(VpcChanges, InstanceChanges):
         self.stage(TAKEN, [], "delete")
         not_made = self.stage(MADE, [], "create")
         self.stage(FILLED, not_made, "create", "update")
+        self.stage(PARTLY_FILLED, [], "update")
         self.stage(DROPPED, [], "delete")
         known = {**TAKEN, **MADE, **FILLED, **DROPPED}
         for change in self.plan.changes:
@@ -104,6 +107,7 @@ class Apply(VpcChanges, InstanceChanges):
                 return any((before, after, unknown))
             return before != after or has_true(unknown)
         names = {*change.before, *change.after, *change.unknown} - SILENT
+        names -= {NAMING} if change.type in NAMING_LISTS else set()
         return whole or any(map(change.differs, names))
 
     def nothing(self, change: Change) -> None:
@@ -124,11 +128,13 @@ TAKEN: Acts = {
     "aws_network_acl_association": Apply.take_acl_association,
     "aws_network_interface_sg_attachment": Apply.take_group_attachment,
     "aws_network_interface_attachment": Apply.take_attachment,
+    "aws_vpc_security_group_vpc_association": Apply.take_association,
 }
 MADE: Acts = {
     "aws_vpc": Apply.make_vpc,
     "aws_subnet": Apply.make_subnet,
     "aws_security_group": Apply.make_group,
+    "aws_vpc_security_group_vpc_association": Apply.make_association,
     "aws_network_acl": Apply.make_acl,
     "aws_route_table": Apply.make_table,
     # (after the groups, whose rows it names)
@@ -157,6 +163,8 @@ FILLED: Acts = {
     "aws_main_route_table_association": Apply.fill_main_table,
     "aws_instance": Apply.fill_instance,
 }
+# (of what else they change is told)
+PARTLY_FILLED: Acts = {it: Apply.fill_naming for it in NAMING_LISTS}
 DROPPED: Acts = {
     "aws_network_interface": Apply.drop_interface,
     "aws_instance": Apply.drop_instance,

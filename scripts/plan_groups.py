@@ -5,8 +5,8 @@ from __future__ import annotations
 from typing import Any, NamedTuple, Optional
 
 from scripts.bundles import Row, member, rows
-from scripts.plan_applying import Applying
 from scripts.plan_changes import UNKNOWN, Change, NewId, Untold, has_true, items, shown
+from scripts.plan_naming import NamingChanges
 from scripts.plan_rows import block_of, has_group, inner, owner, ports_in, protocol_of, tags_of
 from scripts.plan_rules import PERMISSIONS, Rule, told_target, traffic_of
 
@@ -42,7 +42,7 @@ class Block(NamedTuple):
     unknown: Any
 
 
-class GroupChanges(Applying):
+class GroupChanges(NamingChanges):
     def add_group(self, part: Row, row: Row) -> None:
         empty: Row = {it: [] for it in PERMISSIONS}
         self.bundle.add(part, "SecurityGroups", {**row, **empty})
@@ -192,6 +192,7 @@ class GroupChanges(Applying):
                 used.append(it.get("GroupId"))
         self.refuse_used(used)
         self.rules.clear(row)
+        self.dissociate(GroupId=row["GroupId"])
         self.bundle.remove("SecurityGroups", row["GroupId"])
 
     def names_group(self, row: Row, group: Any) -> bool:

@@ -93,6 +93,7 @@ class VpcChanges(GroupChanges, AclChanges, TableChanges):
                 if name == "SecurityGroups":
                     self.rules.clear(it)
                 self.bundle.remove(name, it[LISTS[name]])
+        self.dissociate(VpcId=row["VpcId"])
         self.bundle.remove("Vpcs", row["VpcId"])
 
     # -- subnets

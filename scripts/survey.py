@@ -8,10 +8,10 @@ its ids.
     not followed: 12 route tables with routes of IPv6, as rtb-2: every answer is about IPv4 alone
     not told: block public access of subnet-1
 
-Block public access that isn't told, as older command lines don't, counts as off. docs/LIMITS.md
-says more of each, and what AWS does that no bundle tells. A bundle without interfaces, as of a
-region that nobody uses, is told by a line that begins with `no interfaces`. Whether vpc takes the
-bundle is not asked here.
+Block public access that isn't told, as older command lines don't, counts as off, and so does what
+lets rules name groups over a transit gateway. docs/LIMITS.md says more of each, and what AWS does
+that no bundle tells. A bundle without interfaces, as of a region that nobody uses, is told by a
+line that begins with `no interfaces`. Whether vpc takes the bundle is not asked here.
 
 Status 0: there is nothing; 1: there is something; 2: BUNDLE can't be read or is no bundle, as a
 line on standard error says. It needs Python 3.9 or later alone.
@@ -19,6 +19,7 @@ line on standard error says. It needs Python 3.9 or later alone.
 
 from __future__ import annotations
 
+import itertools
 import sys
 from collections.abc import Iterable, Iterator, Sequence
 from typing import Any, NamedTuple, Optional
@@ -94,6 +95,13 @@ class Bundle(dict[str, list[Row]]):
         attached = self["TransitGatewayVpcAttachments"]
         usable = [it for it in attached if it.get("State") in USABLE]
         self.attachments = by_id(usable, "TransitGatewayAttachmentId")
+        self.gateways = by_id(self["TransitGateways"], "TransitGatewayId")
+        # (the VPCs to which each belongs)
+        self.homes = {it: {harmless(row.get("VpcId"))} for it, row in self.groups.items()}
+        for row in self["SecurityGroupVpcAssociations"]:
+            group = harmless(row.get("GroupId"))
+            if row.get("State") == "associated" and group in self.homes:
+                self.homes[group].add(harmless(row.get("VpcId")))
         # the groups whose rules are rows of their own, and those of them of which a row is about
         # IPv4: their own members don't count
         listed = self["SecurityGroupRules"]
@@ -413,9 +421,10 @@ APPLIANCE_MODE = Kind(
     "attachments in appliance mode", "packets leave in the zone where they entered"
 )
 DOUBLED = Kind("attachments with another row, with other subnets", "the first row counts")
-OVER_TRANSIT = Kind(
-    "references over transit gateways",
-    "what they alone allow stops as GroupsIn or GroupsOut",
+UNTOLD_NAMING = Kind(
+    "rules may name groups over transit gateways",
+    "what they alone allow stops as GroupsIn",
+    "not told: whether ",
 )
 ZONES = Kind(
     "zones at transit gateways that accounts may name otherwise",
@@ -509,28 +518,47 @@ def references(bundle: Bundle) -> Iterator[tuple[str, str, bool, str]]:
             yield group, rule, rule.startswith("out "), harmless(it.get("GroupId"))
 
 
-def gateways_of(bundle: Bundle, vpc: str) -> set[str]:
-    """The transit gateways to which a VPC is attached so that groups may be named over them."""
-    return {
-        harmless(it.get("TransitGatewayId")) for it in bundle.attachments.values()
-        if harmless(it.get("VpcId")) == vpc
-        and member(it, "Options", "SecurityGroupReferencingSupport") != "disable"
-    }
+def untold_gateways(bundle: Bundle, vpc: str, others: frozenset[str]) -> list[str]:
+    """The transit gateways over which inward rules in a VPC would name groups of other ones if what
+    isn't told of them were on; none where they do so over one."""
+    attached: dict[bool, list[Row]] = {True: [], False: []}
+    for it in bundle.attachments.values():
+        if harmless(it.get("VpcId")) in {vpc, *others}:
+            attached[harmless(it.get("VpcId")) == vpc].append(it)
+    found = set()
+    for here, there in itertools.product(attached[True], attached[False]):
+        gateway = harmless(here.get("TransitGatewayId"))
+        if gateway == harmless(there.get("TransitGatewayId")):
+            support = ("Options", "SecurityGroupReferencingSupport")
+            told = [member(it, *support) for it in (bundle.gateways.get(gateway), here, there)]
+            if all(it == "enable" for it in told):
+                return []
+            if all(it in ("enable", None) for it in told):
+                found.add(gateway)
+    return sorted(found)
 
 
-def transit_references(bundle: Bundle) -> Findings:
-    peered = []
+def untold_naming(bundle: Bundle) -> Findings:
+    """Inward rules that would count if groups may be named over a transit gateway, which isn't
+    told."""
+    peered = set()
     for row in bundle.peerings.values():
         vpc = harmless(member(row, "RequesterVpcInfo", "VpcId"))
-        peered.append({vpc, other_vpc(row, vpc)})
+        peered.add(frozenset((vpc, other_vpc(row, vpc))))
+    found: dict[tuple[str, frozenset[str]], list[str]] = {}
     for group, rule, is_outward, named in references(bundle):
-        vpcs = [harmless(member(bundle.groups.get(it), "VpcId")) for it in (group, named)]
-        if named not in bundle.groups or vpcs[0] == vpcs[1] or set(vpcs) in peered:
-            continue
-        for gateway in sorted(gateways_of(bundle, vpcs[0]) & gateways_of(bundle, vpcs[1])):
-            name = f"{group} {rule} to {named} over {gateway}"
-            means = f"what it alone allows stops as {'GroupsOut' if is_outward else 'GroupsIn'}"
-            yield Finding(OVER_TRANSIT, f"reference {name}", name, means)
+        others = frozenset(bundle.homes.get(named, ()))
+        for vpc in sorted(bundle.homes[group]):
+            is_joined = vpc in others or any(frozenset((vpc, it)) in peered for it in others)
+            if is_outward or is_joined:
+                continue
+            if (vpc, others) not in found:
+                found[vpc, others] = untold_gateways(bundle, vpc, others)
+            for gateway in found[vpc, others]:
+                what = f"{group} {rule} may name {named} over {gateway}"
+                name = f"{group} {rule} to {named} over {gateway}"
+                means = "what it alone allows stops as GroupsIn"
+                yield Finding(UNTOLD_NAMING, what, name, means)
 
 
 def attached_subnets(bundle: Bundle, gateway: str) -> Iterator[Row]:
@@ -574,7 +602,7 @@ FINDERS = (
     unmodelled_routes, networks_behind, route_states, gateway_tables, unlisted_groups, ipv6_routes,
     ipv6_rules, ipv6_acl_rows, ipv6_entries, delegated_prefixes, public_addresses, load_balancers,
     secondary_addresses, untold_access, other_attachments, missing_tables, transit_routes,
-    attachment_options, doubled_attachments, transit_references, zone_names,
+    attachment_options, doubled_attachments, untold_naming, zone_names,
 )
 
 

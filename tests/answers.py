@@ -221,6 +221,13 @@ def first_overlap(rows):
     return None
 
 
+def could_be_one(row, other, along):
+    """Whether the other row has the words and the sides of the first, but that it begins one past the end of one of these sides."""
+    (what, box), (its, own) = row, other
+    ways = [side for side in along if box[side][1] + 1 == own[side][0]]
+    return what == its and any(replaced(box, side, own[side]) == own for side in ways)
+
+
 def leaves_out(report):
     """How many packets of the box are in no row, where no two rows share one."""
     return volume(report.box) - sum(volume(box) for _, box in report.rows)

@@ -20,7 +20,8 @@ CALLS = {
     'describe-internet-gateways': 'InternetGateways', 'describe-nat-gateways': 'NatGateways',
     'describe-vpc-peering-connections': 'VpcPeeringConnections',
     'describe-transit-gateway-vpc-attachments': 'TransitGatewayVpcAttachments',
-    'describe-transit-gateway-attachments': 'TransitGatewayAttachments',
+    'describe-transit-gateway-attachments': 'TransitGatewayAttachments', 'describe-transit-gateways': 'TransitGateways',
+    'describe-security-group-vpc-associations': 'SecurityGroupVpcAssociations', 'describe-instances': 'Reservations',
 }
 WORDS = 'open from internet tcp 198.51.100.7 203.0.113.10 5000 443'.split()
 NAMES = {'NotJson', 'WrongShape', 'BadText', 'DuplicateId', 'MissingReference', 'DuplicateAddress', 'DuplicatePublic', 'NoRouteTable',

@@ -114,6 +114,28 @@ def permitted(bundle, group, outward, block, proto="tcp", port=None):
     row(bundle, group)["IpPermissionsEgress" if outward else "IpPermissions"].append({"IpProtocol": proto, **ports, "IpRanges": [{"CidrIp": block}]})
 
 
+def named(bundle, group, outward, other, port=443):
+    """A rule that names a group, which no peering joins."""
+    row(bundle, group)["IpPermissionsEgress" if outward else "IpPermissions"].append({"IpProtocol": "tcp", "FromPort": port, "ToPort": port, "UserIdGroupPairs": [{"GroupId": other}]})
+    updated(bundle, "pcx-1", Status={"Code": "pending-acceptance"})
+
+
+def naming(bundle, gateway, *attachments):
+    """Whether rules may name groups over the transit gateway, and over its attachments."""
+    if gateway:
+        bundle["TransitGateways"] = [{"TransitGatewayId": "tgw-1", "Options": {"SecurityGroupReferencingSupport": gateway}}]
+    for name, word in zip(("att-a", "att-b"), attachments):
+        updated(bundle, name, Options={"SecurityGroupReferencingSupport": word})
+
+
+def of_two_vpcs(bundle):
+    """eni-b has a group of the other VPC, which lets in what it names there."""
+    bundle["SecurityGroups"].append({"GroupId": "sg-s", "VpcId": "vpc-a", "IpPermissions": [], "IpPermissionsEgress": []})
+    updated(bundle, "eni-b", Groups=[{"GroupId": "sg-s"}])
+    bundle["SecurityGroupVpcAssociations"] = [{"GroupId": "sg-s", "VpcId": "vpc-b", "State": "associated"}]
+    named(bundle, "sg-s", False, "sg-a")
+
+
 def blocked(bundle, name, mode):
     updated(bundle, name, BlockPublicAccessStates={"InternetGatewayBlockMode": mode})
 
@@ -191,6 +213,23 @@ STOPS = [
     ("GroupsIn of a reply, by the way of the request", behind_appliance, "ask", "from eni-a to eni-b port 5432-5432", "reply GroupsIn eni-f -", "it answers no connection that passed eni-f before", "or its request to have passed here before",
      several(act(routed, "rtb-a", "10.2.1.10/32", NetworkInterfaceId="eni-f"), act(permitted, "sg-f", False, "10.2.1.10/32", "udp"), act(permitted, "sg-f", True, ANYWHERE, "-1"), act(permitted, "sg-f", False, "10.1.1.10/32", "-1"),
              lambda bundle: row(bundle, "rtb-n")["Routes"].insert(0, {"DestinationCidrBlock": "10.2.0.0/16", "TransitGatewayId": "tgw-1"}))),
+    ("GroupsIn, by a group that may not be named over a transit gateway", several(act(named, "sg-b", False, "sg-a"), act(naming, "disable", "enable")), "trace", TO_B.format(443), "stopped GroupsIn eni-b -",
+     "sg-a, which 10.1.1.10 belongs to, doesn't count here: it is in vpc-a (shop), which no active peering joins to vpc-b; over tgw-1 it would count if SecurityGroupReferencingSupport of tgw-1 (disable) and att-b (not told) were enable.",
+     "an inbound rule of sg-b (database of the shop) would have to allow tcp 443 from 10.1.1.10", act(naming, "enable", "enable", "enable")),
+    ("GroupsIn, by one of which nothing is told", act(named, "sg-b", False, "sg-a"), "trace", TO_B.format(443), "stopped GroupsIn eni-b -",
+     "over tgw-1 it would count if SecurityGroupReferencingSupport of tgw-1 (not told), att-b (not told) and att-a (not told) were enable.", "would have to allow tcp 443 from 10.1.1.10",
+     act(updated, "pcx-1", Status={"Code": "active"})),
+    ("GroupsIn, by one in another VPC", several(act(named, "sg-b", False, "sg-a"), act(updated, "att-a", TransitGatewayId="tgw-2"), act(routed, "rtb-a", "10.2.1.10/32", TransitGatewayId="tgw-2")), "trace", TO_B.format(443), "stopped GroupsIn eni-b -",
+     "sg-a, which 10.1.1.10 belongs to, doesn't count here: it is in vpc-a (shop), which no active peering joins to vpc-b.", "would have to allow tcp 443 from 10.1.1.10",
+     lambda bundle: bundle.update(SecurityGroupVpcAssociations=[{"GroupId": "sg-a", "VpcId": "vpc-b", "State": "associated"}])),
+    ("GroupsIn, by a rule of a group of two VPCs", of_two_vpcs, "trace", TO_B.format(443), "stopped GroupsIn eni-b -", "it is in vpc-a (shop), which no active peering joins to vpc-b; over tgw-1", "an inbound rule of sg-s would have to allow tcp 443 from 10.1.1.10",
+     lambda bundle: bundle["SecurityGroupVpcAssociations"][0].update(State="disassociating")),
+    ("GroupsIn, by a group of two other VPCs", several(act(named, "sg-b", False, "sg-a"), lambda bundle: bundle.update(SecurityGroupVpcAssociations=[{"GroupId": "sg-a", "VpcId": "vpc-9", "State": "associated"}])), "trace", TO_B.format(443),
+     "stopped GroupsIn eni-b -", "it is in vpc-a (shop) and vpc-9, none of which an active peering joins to vpc-b; over tgw-1", "would have to allow tcp 443 from 10.1.1.10",
+     lambda bundle: bundle["VpcPeeringConnections"].append({"VpcPeeringConnectionId": "pcx-9", "Status": {"Code": "active"}, "RequesterVpcInfo": {"VpcId": "vpc-9"}, "AccepterVpcInfo": {"VpcId": "vpc-b"}})),
+    ("GroupsOut, by a group over a transit gateway", several(act(updated, "sg-a", IpPermissionsEgress=[]), act(named, "sg-a", True, "sg-b", 5432), act(naming, "enable", "enable", "enable")), "trace", TO_B.format(5432), "stopped GroupsOut eni-a -",
+     "sg-b (database of the shop), which 10.2.1.10 belongs to, doesn't count here: it is in vpc-b, which no active peering joins to vpc-a (shop); outbound rules name no group over a transit gateway.",
+     "an outbound rule of sg-a would have to allow tcp 5432 to 10.2.1.10", act(updated, "pcx-1", Status={"Code": "active"})),
     ("NotAHost", act(updated, "nat-1", State="deleted"), "trace", TO_NET.format("10.1.3.5"), "stopped NotAHost eni-n -", "eni-n is the interface of a gateway (its type is nat_gateway), and hosts nothing at 10.1.3.5",
      "go to the address of a host's interface", TO_NET.format("10.1.3.10")),
     ("NotAHost, by a route", act(routed, "rtb-a", "192.0.2.0/24", NetworkInterfaceId="eni-n"), "trace", TO_NET.format("192.0.2.1"), "stopped NotAHost eni-n -", "eni-n is the interface of a gateway (its type is nat_gateway), and hosts nothing",
@@ -552,6 +591,9 @@ def run_random(results, asked, cases):
     results.add("stops that were met", len(told_of) >= 16 or cases < 100, True)
 
 
+GOES_ON = ("appliance", "public", "owner", "private", "translated", "restored", "carried", "left")
+
+
 def try_trace(wrong, told_of, asked, bundle, words, answer, name, out):
     """Turns all that let the packet pass, one after the other, and changes what would have to change."""
     network = Network(bundle if isinstance(bundle, list) else [bundle])
@@ -561,7 +603,8 @@ def try_trace(wrong, told_of, asked, bundle, words, answer, name, out):
         wrong.append((name, out, end))
     for number, hop in enumerate(hops, 1):
         for note in hop.notes:
-            if note_words(network, note) not in lines[number - 1]:
+            # (where it would go on from the last place of a circle isn't told)
+            if note_words(network, note) not in lines[number - 1] and not (number == len(hops) and note[0] in GOES_ON):
                 wrong.append((name, note, lines[number - 1]))
             other = copy.deepcopy(bundle)
             due = turned(other, note)
@@ -744,12 +787,15 @@ NO_STATE, NO_CODE = f"the state of NAT gateway nat-1 is {json.dumps(FORGED)}.", 
 
 
 def with_instance(bundle):
-    """An instance with a name, and tags of all kinds of rows."""
+    """An instance with a name, tags of all kinds of rows, and a group that isn't named over the transit gateway."""
     bundle["Reservations"] = [{"Instances": [{"InstanceId": "i-1", "Tags": [{"Key": "Name", "Value": "one"}], "NetworkInterfaces": [{"NetworkInterfaceId": "eni-b"}]}]}]
     row(bundle, "eni-a")["Attachment"] = {"InstanceId": "i-1", "DeviceIndex": 0}
     row(bundle, "vpc-a")["CidrBlockAssociationSet"] = [{"CidrBlock": "10.1.0.0/16", "CidrBlockState": {"State": "associated"}}]
     bundle["SecurityGroupRules"] = [{"SecurityGroupRuleId": "sgr-1", "GroupId": "sg-c", "IsEgress": False, "IpProtocol": "-1", "CidrIpv4": ANYWHERE, "Tags": []},
                                     {"SecurityGroupRuleId": "sgr-2", "GroupId": "sg-c", "IsEgress": True, "IpProtocol": "-1", "CidrIpv4": ANYWHERE, "ReferencedGroupInfo": {"GroupId": "sg-a"}}]
+    named(bundle, "sg-b", False, "sg-a", 22)
+    naming(bundle, "enable", "enable", "disable")
+    bundle["SecurityGroupVpcAssociations"] = [{"GroupId": "sg-c", "VpcId": "vpc-b", "State": "associated"}]
     return bundle
 
 
@@ -808,14 +854,15 @@ def run_taken(results, asked):
     """What stands in the place of objects and lists that vpc reads over, and whatever anywhere."""
     clean = with_instance(copy.deepcopy(BASE))
     before, ids = asked.answer(clean, "trace", TO_B.format(5432)), ("vpc-a", "nat-1", "sg-b", "rtb-a", "acl-a", "igw-1", "pcx-1", "att-a", "sgr-1")
-    for member, name in [("Association", "att-b"), ("TagSet", "eni-a"), ("Attachment", "eni-a"), ("Associations", "rtb-a"), *(("Tags", it) for it in ids)]:
+    for member, name in [("Association", "att-b"), ("Options", "att-b"), ("Options", "tgw-1"), ("TagSet", "eni-a"), ("Attachment", "eni-a"), ("Associations", "rtb-a"), *(("Tags", it) for it in ids)]:
         for value in (7, "x", [7], [[]], {"Key": "Name"}, True):
             bundle = copy.deepcopy(clean)
             updated(bundle, name, **{member: [value, *row(bundle, name)[member]] if member == "Associations" else value})
             results.add(f"taken: {member} of {name} is {json.dumps(value)}", misfit(asked, bundle, before), None)
     for part, key in ((("NetworkInterfaces", 1, "PrivateIpAddresses", 0), "Association"), (("SecurityGroupRules", 1), "ReferencedGroupInfo"), (("Vpcs", 0, "CidrBlockAssociationSet", 0), "CidrBlockState"),
                       (("Reservations",), 0), (("Reservations", 0), "Instances"), (("Reservations", 0, "Instances"), 0), (("Reservations", 0, "Instances", 0), "NetworkInterfaces"), (("Reservations", 0, "Instances", 0), "InstanceId"),
-                      (("Reservations", 0, "Instances", 0, "NetworkInterfaces"), 0), (("NetworkInterfaces", 0, "TagSet"), 0), (("NetworkInterfaces", 0, "TagSet", 0), "Value")):
+                      (("Reservations", 0, "Instances", 0, "NetworkInterfaces"), 0), (("NetworkInterfaces", 0, "TagSet"), 0), (("NetworkInterfaces", 0, "TagSet", 0), "Value"),
+                      (("TransitGateways",), 0), (("TransitGateways", 0, "Options"), "SecurityGroupReferencingSupport"), (("SecurityGroupVpcAssociations",), 0), (("SecurityGroupVpcAssociations", 0), "State")):
         for value in (7, "x", [7], {"State": 7} if key != "CidrBlockState" else 8, None):
             bundle = copy.deepcopy(clean)
             functools.reduce(lambda value, it: value[it], part, bundle)[key] = value

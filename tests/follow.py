@@ -81,8 +81,8 @@ class Network(explain_network.Network):
 
     def first_rule(self, interface: Interface, outward: bool, h: Header) -> Optional[tuple[str, Rule]]:
         far = h.dst if outward else h.src
-        for group, it in self.rules_of(interface, outward):
-            if self.allows_flow(it, h) and self.allows_far(group, it, far):
+        for group, side, it in self.rules_of(interface, outward):
+            if self.allows_flow(it, h) and self.allows_far(side, it, far):
                 return group, it
         return None
 

@@ -481,6 +481,9 @@ def ask_is_true(machine, case, status, text):
         rows_hold(machine, rng, report, status == 1, 2)
         corners = [answers.corner(box) for _, box in report.rows]
         want(report.nodes or corners == sorted(corners), "rows in another order")
+        # (leaves are joined along q alone)
+        along = (4,) if int(told.get(b"max", 20000)) > 20000 else (3, 4)
+        want(report.nodes or not any(answers.could_be_one(*two, along) for two in zip(report.rows, report.rows[1:])), "two rows that could be one")
         if status == 5:
             h = answers.header_of(text.splitlines()[-2].split(b" ")[1:])
             want(answers.holds(report.box, h) and not any(answers.holds(box, h) for _, box in report.rows), "`next` is in a row")

@@ -1,7 +1,8 @@
 """Small networks, made at random: bundles of every kind of row, changed copies of them, and the ends and addresses that occur in them.
 
-Some have modes of Block Public Access, and some instances that don't run. NETWORKS_MORE in the environment names kinds of rows that all
-have besides, with commas between: access, instances, prefixes, references."""
+Some have modes of Block Public Access, some instances that don't run, and some groups that are named over transit gateways or belong to
+several VPCs. NETWORKS_MORE in the environment names kinds of rows that all have besides, with commas between: access, instances,
+references, prefixes."""
 
 import ipaddress
 import json
@@ -174,19 +175,42 @@ def add_prefixes(rng, whole):
             it["Ipv4Prefixes"] = [{"Ipv4Prefix": f"10.{v}.{s}.{first + 16 * int(k)}/28"} for first in rng.choice(((16,), (144,), (16, 144)))]
 
 
+def open_transit(whole):
+    """All VPCs send to each other over the transit gateway, and nothing but groups stops a packet there."""
+    blocks = {it["VpcId"]: it["CidrBlock"] for it in whole["Vpcs"]}
+    for it in whole["VpcPeeringConnections"]:
+        it["Status"]["Code"] = "pending-acceptance"
+    for it in whole["NetworkAcls"]:
+        it["Entries"] = [{"RuleNumber": 100, "Egress": egress, "Protocol": "-1", "RuleAction": "allow", "CidrBlock": ANYWHERE} for egress in (True, False)]
+    for it in whole["RouteTables"]:
+        others = [told for name, told in blocks.items() if name != it["VpcId"]]
+        it["Routes"] = [row for row in it["Routes"] if row.get("DestinationCidrBlock") not in others] + [{"DestinationCidrBlock": told, "State": "active", "TransitGatewayId": "tgw-1"} for told in others]
+    for it in whole["TransitGatewayVpcAttachments"]:
+        it["SubnetIds"] = [row["SubnetId"] for row in whole["Subnets"] if row["VpcId"] == it["VpcId"]]
+    for it in whole["TransitGatewayRoutes"]:
+        it["Routes"] = [{"DestinationCidrBlock": blocks[row["VpcId"]], "Type": "static", "State": "active", "TransitGatewayAttachments": [{"TransitGatewayAttachmentId": row["TransitGatewayAttachmentId"]}]}
+                        for row in whole["TransitGatewayVpcAttachments"]]
+
+
 def add_references(rng, whole):
-    """Groups that may be named over transit gateways, and such as belong to several VPCs."""
+    """Groups that may be named over transit gateways, and such as belong to several VPCs; and rules that name groups alone."""
     def option(chance):
         return {"Options": {"SecurityGroupReferencingSupport": "enable" if rng.random() < chance else "disable"}}
 
+    if whole["TransitGatewayVpcAttachments"] and rng.random() < 0.7:
+        open_transit(whole)
     for it in whole["TransitGatewayVpcAttachments"]:
-        it.update(option(0.8) if rng.random() < 0.9 else {})
-    if whole["TransitGatewayVpcAttachments"] and rng.random() < 0.8:
-        whole["TransitGateways"] = [{"TransitGatewayId": "tgw-1", **option(0.8)}]
+        it.update(option(0.9) if rng.random() < 0.95 else {})
+    if whole["TransitGatewayVpcAttachments"] and rng.random() < 0.9:
+        whole["TransitGateways"] = [{"TransitGatewayId": "tgw-1", **option(0.9)}]
     vpcs, groups = ([it[field] for it in whole[name]] for name, field in (("Vpcs", "VpcId"), ("SecurityGroups", "GroupId")))
+    for it in whole["SecurityGroups"]:
+        for name, chance in (("IpPermissions", 0.6), ("IpPermissionsEgress", 0.2)):
+            if rng.random() < chance:
+                it[name] = [{"IpProtocol": "tcp", "FromPort": 80, "ToPort": 443, "IpRanges": [], "UserIdGroupPairs": [{"GroupId": rng.choice(groups)}]}]
     for _ in range(rng.randrange(4)):
         row = {"GroupId": rng.choice(groups), "VpcId": rng.choice(vpcs), "State": rng.choice(("associated", "associated", "associating"))}
-        whole.setdefault("SecurityGroupVpcAssociations", []).append(row)
+        whole["SecurityGroupVpcAssociations"].append(row)
         if rng.random() < 0.7:
             # (an interface there has the group, as the association lets it)
             homes = {it["SubnetId"]: it["VpcId"] for it in whole["Subnets"]}
@@ -199,7 +223,7 @@ MORE = {"access": add_access, "instances": add_instances, "prefixes": add_prefix
 
 
 LISTS = ("Vpcs", "Subnets", "NetworkInterfaces", "RouteTables", "NetworkAcls", "SecurityGroups", "SecurityGroupRules", "InternetGateways", "NatGateways", "VpcPeeringConnections",
-         "TransitGatewayVpcAttachments", "TransitGatewayAttachments", "TransitGatewayRoutes", "PrefixLists", "Appliances")
+         "TransitGatewayVpcAttachments", "TransitGatewayAttachments", "TransitGatewayRoutes", "PrefixLists", "Appliances", "TransitGateways", "SecurityGroupVpcAssociations")
 
 
 def network(rng):
@@ -223,7 +247,7 @@ def network(rng):
         whole["Appliances"].append({"NetworkInterfaceId": "eni-0-0-0", **kind})
         whole["NetworkInterfaces"][0]["SourceDestCheck"] = False
     wanted = [*filter(None, os.environ.get("NETWORKS_MORE", "").split(","))]
-    for name, chance in (("access", 0.3), ("instances", 0.2)):
+    for name, chance in (("access", 0.3), ("instances", 0.2), ("references", 0.3)):
         if rng.random() < chance and name not in wanted:
             wanted.insert(0, name)
     for name in wanted:
@@ -243,7 +267,7 @@ class Change:
         self.hosts = [it for it in whole["NetworkInterfaces"] if "InterfaceType" not in it]
 
     ways = (
-        "permissions", "permissions", "entries", "entries", "routes", "routes", "transit", "peerings", "prefix_lists", "host", "addresses", "fewer_hosts", "more_hosts", "anew",
+        "permissions", "permissions", "entries", "entries", "routes", "routes", "transit", "peerings", "prefix_lists", "references", "host", "addresses", "fewer_hosts", "more_hosts", "anew",
         "exchanged_hosts", "gateways", "host_and_gateway")
     equal_ways = ("order", "split_ports", "split_blocks", "members", "renumbered", "repeated")  # nothing opens or closes by these
 
@@ -314,6 +338,14 @@ class Change:
         it = self.some(self.whole.get("PrefixLists"))
         if it:
             it["Cidrs"] = [block(self.rng, self.vpcs) for _ in range(self.rng.randint(1, 3))]
+
+    def references(self):
+        """Where a group counts beside its VPC: an option of a transit gateway or of an attachment, or a further VPC."""
+        options = [it["Options"] for name in ("TransitGateways", "TransitGatewayVpcAttachments") for it in self.whole.get(name, []) if "Options" in it]
+        rows = self.whole.get("SecurityGroupVpcAssociations", [])
+        it, field, words = self.some([(it, "SecurityGroupReferencingSupport", ("enable", "disable")) for it in options] + [(it, "State", ("associated", "disassociating")) for it in rows]) or ({}, "", ())
+        if it:
+            it[field] = words[it[field] == words[0]]
 
     def host(self):
         """An interface that is told otherwise."""
@@ -425,11 +457,11 @@ class Change:
             it["IpRanges"] = [other for other in it["IpRanges"] if other is not told] + [{"CidrIp": str(half)} for half in ipaddress.ip_network(told["CidrIp"]).subnets()]
 
     def members(self):
-        """A rule that names a group names its members' addresses as well."""
+        """A rule that names a group of its VPC, where the rule's group belongs to no other, names its members' addresses as well."""
         rows, it = self.permission(lambda row: row.get("UserIdGroupPairs"))
         home = next((group for group in self.whole["SecurityGroups"] if rows is group["IpPermissions"] or rows is group["IpPermissionsEgress"]), None)
         named = it and it["UserIdGroupPairs"][0]["GroupId"]
-        if it and named.split("-")[1] == home["GroupId"].split("-")[1]:
+        if it and named.split("-")[1] == home["GroupId"].split("-")[1] and home["GroupId"] not in [row["GroupId"] for row in self.whole.get("SecurityGroupVpcAssociations", [])]:
             theirs = [row for row in self.whole["NetworkInterfaces"] if {"GroupId": named} in row["Groups"]]
             it["IpRanges"] = it["IpRanges"] + [{"CidrIp": f"{told['PrivateIpAddress']}/32"} for row in theirs for told in row["PrivateIpAddresses"]]
 

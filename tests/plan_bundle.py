@@ -714,6 +714,67 @@ TERRAFORM = {
     "second": ([], ["sg-f201565ddeeb561bd"], 100),
 }
 
+# BASE with vpc-2, behind a transit gateway over which no rule names groups: eni-far lets in what sg-web sends to port 443. sg-far belongs to vpc-1 as well.
+FAR = copy.deepcopy(BASE)
+ON, OFF = ({"SecurityGroupReferencingSupport": it} for it in ("enable", "disable"))
+ATT = {"TransitGatewayId": "tgw-1", "State": "available", "Options": {"DnsSupport": "enable", **ON}}
+FAR["Vpcs"].append({"VpcId": "vpc-2", "CidrBlock": "10.2.0.0/16", "OwnerId": "111122223333"})
+FAR["Subnets"].append({"SubnetId": "subnet-far", "VpcId": "vpc-2", "CidrBlock": "10.2.1.0/24", "AvailabilityZone": "us-east-1a", "OwnerId": "111122223333"})
+FAR["NetworkInterfaces"].append({"NetworkInterfaceId": "eni-far", "SubnetId": "subnet-far", "PrivateIpAddress": "10.2.1.10", "Groups": [{"GroupId": "sg-far"}]})
+FAR["RouteTables"].append({"RouteTableId": "rtb-far", "VpcId": "vpc-2", "Associations": [{"Main": True}], "Routes": [{"DestinationCidrBlock": "10.2.0.0/16", "GatewayId": "local"}, to("10.1.0.0/16", TransitGatewayId="tgw-1")]})
+FAR["RouteTables"][1]["Routes"].append(to("10.2.0.0/16", TransitGatewayId="tgw-1"))
+FAR["NetworkAcls"].append({"NetworkAclId": "acl-far", "VpcId": "vpc-2", "IsDefault": True, "Associations": [{"SubnetId": "subnet-far"}], "Entries": [entry(100, it, "-1", "allow", "0.0.0.0/0") for it in (True, False)]})
+FAR["SecurityGroups"].append({"GroupId": "sg-far", "GroupName": "far", "VpcId": "vpc-2", "IpPermissions": [permission("tcp", (443, 443), UserIdGroupPairs=[{"GroupId": "sg-web"}])], "IpPermissionsEgress": []})
+FAR["TransitGateways"] = [{"TransitGatewayId": "tgw-1", "State": "available", "Options": {"DnsSupport": "enable", **OFF}}]
+FAR["TransitGatewayVpcAttachments"] = [{"TransitGatewayAttachmentId": f"att-{it}", "VpcId": f"vpc-{it}", "SubnetIds": [subnet_], **copy.deepcopy(ATT)} for it, subnet_ in ((1, "subnet-web"), (2, "subnet-far"))]
+FAR["TransitGatewayAttachments"] = [{"TransitGatewayAttachmentId": f"att-{it}", "Association": {"TransitGatewayRouteTableId": "tgw-rtb"}} for it in (1, 2)]
+FAR["TransitGatewayRoutes"] = [{"TransitGatewayRouteTableId": "tgw-rtb", "Routes": [{"DestinationCidrBlock": f"10.{it}.0.0/16", "Type": "propagated", "State": "active", "TransitGatewayAttachments": [{"TransitGatewayAttachmentId": f"att-{it}"}]} for it in (1, 2)]}]
+FAR["SecurityGroupVpcAssociations"] = [{"GroupId": "sg-far", "VpcId": "vpc-1", "State": "associated"}]
+KEYS.update(TransitGateways="TransitGatewayId", TransitGatewayVpcAttachments="TransitGatewayAttachmentId", SecurityGroupVpcAssociations="GroupId")
+TO_FAR, NAMED_FAR = "open from eni-web tcp 10.1.1.10 10.2.1.10 5000 443", "security_group_referencing_support"
+TGW, TGW_ATT, SG_VPC = "aws_ec2_transit_gateway.a", "aws_ec2_transit_gateway_vpc_attachment.a", "aws_vpc_security_group_vpc_association.a"
+
+
+def option(own, word, **more):
+    return {"id": own, NAMED_FAR: word, **more}
+
+
+def in_vpc(group_, vpc, **more):
+    return {"security_group_id": group_, "vpc_id": vpc, **more}
+
+
+def associated(group_, vpc):
+    return {"GroupId": group_, "VpcId": vpc, "VpcOwnerId": "111122223333", "State": "associated"}
+
+
+TURNED_ON = change(TGW, "update", option("tgw-1", "disable"), option("tgw-1", "enable"))
+GATEWAY_ON = {"TransitGateways tgw-1 Options": {"DnsSupport": "enable", **ON}}
+# As ROWS, over FAR.
+FAR_ROWS = [
+    ("no naming over a transit gateway", plan([]), [], {}, [(TO_FAR, "stopped GroupsIn eni-far -")]),
+    ("a transit gateway's option is turned on", plan([TURNED_ON]), [], GATEWAY_ON, [(TO_FAR, "arrived eni-far")]),
+    ("and an attachment's off", plan([TURNED_ON, change(TGW_ATT, "update", option("att-2", "enable"), option("att-2", "disable"))]), [], {**GATEWAY_ON, "TransitGatewayVpcAttachments att-2 Options": {"DnsSupport": "enable", **OFF}},
+     [(TO_FAR, "stopped GroupsIn eni-far -")]),
+    ("with more that isn't applied", plan([change(TGW, "update", option("tgw-1", "disable", dns_support="enable"), option("tgw-1", "enable", dns_support="disable"))]), [f"{TGW}: {DOESNT}"], GATEWAY_ON, [(TO_FAR, "arrived eni-far")]),
+    ("other options alone", plan([change(TGW_ATT, "update", option("att-1", "enable", subnet_ids=["subnet-web"]), option("att-1", "enable", subnet_ids=[]))]), [f"{TGW_ATT}: {DOESNT}"], {}, []),
+    ("tags alone, and what has none", plan([change(TGW, "update", option("tgw-1", "disable", tags={}), option("tgw-1", "disable", tags={"a": "b"})), no_op(TGW_ATT, option("att-1", "enable"))]), [], {}, []),
+    ("an option that isn't known", plan([change(TGW, "update", option("tgw-1", "disable"), {"id": "tgw-1"}, {NAMED_FAR: True})]), [f"{TGW}: {NAMED_FAR} {LATER}"], {}, []),
+    ("an option that is none", plan([change(TGW, "update", option("tgw-1", "disable"), option("tgw-1", "on"))]), [f"{TGW}: {NAMED_FAR} is on"], {}, []),
+    ("a transit gateway that the bundle doesn't have", plan([change(TGW, "update", option("tgw-9", "disable"), option("tgw-9", "enable"))]), [f"{TGW}: the bundle has no tgw-9 among its TransitGateways"], {}, []),
+    ("a new transit gateway, an attachment that goes", plan([change(TGW, "create", None, {NAMED_FAR: "enable"}, {"id": True}), change(TGW_ATT, "delete", option("att-1", "enable"), None)]), [f"{TGW}: {DOESNT}", f"{TGW_ATT}: {DOESNT}"], {}, []),
+    ("a group is associated", plan([change(SG_VPC, "create", None, in_vpc("sg-web", "vpc-2"), {"state": True})]), [], {"+SecurityGroupVpcAssociations": [associated("sg-web", "vpc-2")]}, [(TO_FAR, "arrived eni-far")]),
+    ("a new group is", plan([change("aws_security_group.new", "create", None, group("new"), NEW_GROUP), change(SG_VPC, "create", None, {"vpc_id": "vpc-2"}, {"security_group_id": True, "state": True})], {SG_VPC: {"security_group_id": refer("aws_security_group.new.id")}}), [],
+     {"+SecurityGroups": [new_group("new", "aws_security_group.new")], "+SecurityGroupVpcAssociations": [associated("aws_security_group.new", "vpc-2")]}, []),
+    ("an association goes", plan([change(SG_VPC, "delete", in_vpc("sg-far", "vpc-1", state="associated"), None)]), [], {"-SecurityGroupVpcAssociations": ["sg-far"]}, []),
+    ("one becomes another", plan([change(SG_VPC, "delete create", in_vpc("sg-far", "vpc-1", state="associated"), in_vpc("sg-web", "vpc-2"), {"state": True})]), [], {"-SecurityGroupVpcAssociations": ["sg-far"], "+SecurityGroupVpcAssociations": [associated("sg-web", "vpc-2")]},
+     [(TO_FAR, "arrived eni-far")]),
+    ("an association that the bundle doesn't have goes", plan([change(SG_VPC, "delete", in_vpc("sg-far", "vpc-2"), None)]), [f"{SG_VPC}: the bundle has no association of sg-far with vpc-2 to take away"], {}, []),
+    ("a VPC that the bundle doesn't have", plan([change(SG_VPC, "create", None, in_vpc("sg-far", "vpc-9"))]), [f"{SG_VPC}: the bundle has no vpc-9"], {}, []),
+    ("a group that the bundle doesn't have", plan([change(SG_VPC, "create", None, in_vpc("sg-9", "vpc-1"))]), [f"{SG_VPC}: the bundle has no sg-9"], {}, []),
+    ("an associated group goes", plan([change("aws_security_group.far", "delete", group("far", "vpc-2", id="sg-far"), None), change("aws_network_interface.far", "delete", {"id": "eni-far"}, None)]), [],
+     {"-SecurityGroups": ["sg-far"], "-NetworkInterfaces": ["eni-far"], "-SecurityGroupVpcAssociations": ["sg-far"]}, []),
+]
+
 # References through modules, data and variables: what the id of a group in a rule's block is, and what is told.
 THROUGH = [
     ("an output of a module", refer("module.m.id"), {"m": {"expressions": {}, "module": module({}, outputs={"id": {"expression": refer("aws_security_group.in.id")}})}}, "module.m.aws_security_group.in"),
@@ -1002,8 +1063,8 @@ def run_damage(results, room, cases):
     source = random.Random(7)
     odd = []
     for number in range(cases):
-        row = source.choice(ROWS + HOST_ROWS * 3)
-        value, bundle = row[1], HOSTS if row in HOST_ROWS else BASE
+        row = source.choice(ROWS + HOST_ROWS * 3 + FAR_ROWS * 3)
+        value, bundle = row[1], HOSTS if row in HOST_ROWS else FAR if row in FAR_ROWS else BASE
         if source.random() < 0.7:
             value = damaged(value, source)
         else:
@@ -1033,6 +1094,8 @@ def main(words):
             run_row(results, row, room, program, BASE)
         for row in HOST_ROWS:
             run_row(results, row, room, program, HOSTS)
+        for row in FAR_ROWS:
+            run_row(results, row, room, program, FAR)
         for row in THROUGH:
             run_through(results, row, room)
         run_files(results, room)

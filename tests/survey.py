@@ -67,6 +67,7 @@ PLACES = {
     "vpc": ("Vpcs", "vpc-a", None),
     "subnet": ("Subnets", "subnet-b", None),
     "attachment": ("TransitGatewayVpcAttachments", "att-b", None),
+    "near": ("TransitGatewayVpcAttachments", "att-a", None),
     "associated": ("TransitGatewayAttachments", "att-a", None),
 }
 
@@ -79,6 +80,11 @@ BEHIND = "packets from behind it can't be asked about"
 ZONES = "a packet between accounts may cross the ACL and table of the wrong subnet"
 HIDDEN = "packets from it stop as NoPublic, and none to it comes to the interface"
 UNLISTED = "that SecurityGroupRules has no rule of sg-b: its IpPermissions and IpPermissionsEgress count"
+UNLISTED_A = UNLISTED.replace("sg-b", "sg-a")
+NAMES_A, OPTION = '{"IpProtocol": "tcp", "UserIdGroupPairs": [{"GroupId": "sg-a"}]}', '{"Options": {"SecurityGroupReferencingSupport": "%s"}}'
+GATEWAY_ON = {"TransitGateways": '{"TransitGatewayId": "tgw-1", "Options": {"SecurityGroupReferencingSupport": "enable"}}'}
+OTHER_WAY = ", ".join(['{"TransitGatewayAttachmentId": "att-%s2", "TransitGatewayId": "tgw-2", "VpcId": "vpc-%s", "SubnetIds": ["subnet-%s"], "State": "available", "Options": {"SecurityGroupReferencingSupport": "enable"}}'] * 2)
+UNTOLD = "not told: whether %s may name sg-a over tgw-1: what it alone allows stops as GroupsIn"
 NO_TABLE = "which the bundle doesn't have: packets stop there as TgwNoTable"
 EMPTY = "no interfaces: there is no end but the internet to ask about; another region or account may be meant"
 IGW_B = '{"InternetGatewayId": "igw-b", "Attachments": [{"State": "%s", "VpcId": "vpc-b"}]}'
@@ -212,14 +218,24 @@ ROWS = [
     ("appliance mode", {"attachment": '{"Options": {"ApplianceModeSupport": "enable"}}'}, ["appliance mode of att-b: a packet leaves in the zone where it entered"], TO_B, "stopped GroupsIn eni-b -"),
     ("an attachment listed twice", {"TransitGatewayVpcAttachments": '{"TransitGatewayAttachmentId": "att-b", "TransitGatewayId": "tgw-1", "VpcId": "vpc-b", "SubnetIds": [], "State": "available"}'},
      ["another row of att-b, with other subnets: the first row counts"], TO_B, "stopped GroupsIn eni-b -"),
-    ("a reference over a transit gateway", {"in": '{"IpProtocol": "tcp", "UserIdGroupPairs": [{"GroupId": "sg-a"}]}'},
-     ["reference sg-b in 2 to sg-a over tgw-1: what it alone allows stops as GroupsIn"], TO_B, "stopped GroupsIn eni-b -"),
+    ("a reference over a transit gateway of which nothing is told", {"in": NAMES_A}, [UNTOLD % "sg-b in 2"], TO_B, "stopped GroupsIn eni-b -"),
+    ("of which the gateway's option isn't told", {"in": NAMES_A, "near": OPTION % "enable", "attachment": OPTION % "enable", "TransitGateways": '{"TransitGatewayId": "tgw-1", "Options": {}}'},
+     [UNTOLD % "sg-b in 2"], TO_B, "stopped GroupsIn eni-b -"),
+    ("of which an attachment's isn't told", {"in": NAMES_A, "attachment": OPTION % "enable", **GATEWAY_ON}, [UNTOLD % "sg-b in 2"], TO_B, "stopped GroupsIn eni-b -"),
+    ("of which all is told", {"in": NAMES_A, "near": OPTION % "enable", "attachment": OPTION % "enable", **GATEWAY_ON}, [], TO_B, "arrived eni-b"),
+    ("where the gateway forbids it", {"in": NAMES_A, "TransitGateways": '{"TransitGatewayId": "tgw-1", "Options": {"SecurityGroupReferencingSupport": "disable"}}'}, [], TO_B, "stopped GroupsIn eni-b -"),
+    ("over another gateway", {"in": NAMES_A, "TransitGateways": '{"TransitGatewayId": "tgw-2", "Options": {"SecurityGroupReferencingSupport": "enable"}}', "TransitGatewayVpcAttachments": OTHER_WAY % ("a", "a", "a", "b", "b", "b")},
+     [], TO_B, "arrived eni-b"),
+    ("as a row of its own", {"SecurityGroupRules": '{"SecurityGroupRuleId": "sgr-1", "GroupId": "sg-b", "IsEgress": false, "IpProtocol": "-1", "ReferencedGroupInfo": {"GroupId": "sg-a"}}'},
+     [UNLISTED_A, UNTOLD % "sg-b sgr-1"], TO_B, "stopped GroupsIn eni-b -"),
+    ("to a group of both VPCs", {"in": NAMES_A, "SecurityGroupVpcAssociations": '{"GroupId": "sg-a", "VpcId": "vpc-b", "State": "associated"}'}, [], TO_B, "arrived eni-b"),
+    ("to a group that isn't yet of both", {"in": NAMES_A, "SecurityGroupVpcAssociations": '{"GroupId": "sg-a", "VpcId": "vpc-b", "State": "associating"}'}, [UNTOLD % "sg-b in 2"], TO_B, "stopped GroupsIn eni-b -"),
     ("outward, as a row of its own", {"SecurityGroupRules": '{"SecurityGroupRuleId": "sgr-1", "GroupId": "sg-a", "IsEgress": true, "IpProtocol": "-1", "ReferencedGroupInfo": {"GroupId": "sg-b"}}'},
-     [UNLISTED, "reference sg-a sgr-1 to sg-b over tgw-1: what it alone allows stops as GroupsOut"], TO_B, "stopped GroupsOut eni-a -"),
-    ("over an active peering", {"in": '{"IpProtocol": "tcp", "UserIdGroupPairs": [{"GroupId": "sg-a"}]}',
+     [UNLISTED], TO_B, "stopped GroupsOut eni-a -"),
+    ("over an active peering", {"in": NAMES_A,
                                 "VpcPeeringConnections": '{"VpcPeeringConnectionId": "pcx-1", "Status": {"Code": "active"}, "RequesterVpcInfo": {"VpcId": "vpc-a"}, "AccepterVpcInfo": {"VpcId": "vpc-b"}}'},
      [], TO_B, "arrived eni-b"),
-    ("where an attachment forbids it", {"in": '{"IpProtocol": "tcp", "UserIdGroupPairs": [{"GroupId": "sg-a"}]}', "attachment": '{"Options": {"SecurityGroupReferencingSupport": "disable"}}'}, [], TO_B, "stopped GroupsIn eni-b -"),
+    ("where an attachment forbids it", {"in": NAMES_A, "attachment": OPTION % "disable", **GATEWAY_ON}, [], TO_B, "stopped GroupsIn eni-b -"),
     ("to a group that isn't there", {"in": '{"IpProtocol": "tcp", "UserIdGroupPairs": [{"GroupId": "sg-9"}]}'}, [], TO_B, "stopped GroupsIn eni-b -"),
     ("one name of two zones", {"subnet": '{"AvailabilityZoneId": "use1-az1"}'}, [f"zone us-east-1a at tgw-1, use1-az6 of subnet-a, use1-az1 of subnet-b: {ZONES}"], None, None),
     ("two names of one zone", {"subnet": '{"AvailabilityZone": "us-east-1b"}'}, [f"zone use1-az6 at tgw-1, us-east-1a of subnet-a, us-east-1b of subnet-b: {ZONES}"], None, None),
@@ -240,8 +256,8 @@ FOLDED = [
      [f"1,000 routes that lead beyond what is followed, as rtb-a 10.9.0.0/32 to vpce-1: {STOPS}"]),
     ("two subnets of which block public access isn't told", {"vpc": '{"BlockPublicAccessStates": {}}', "InternetGateways": IGW_B % "available"},
      ["not told: block public access of 2 subnets, as subnet-a"]),
-    ("both directions of a reference", {"in": '{"IpProtocol": "tcp", "UserIdGroupPairs": [{"GroupId": "sg-a"}]}, {"IpProtocol": "udp", "UserIdGroupPairs": [{"GroupId": "sg-a"}]}'},
-     ["2 references over transit gateways, as sg-b in 2 to sg-a over tgw-1: what they alone allow stops as GroupsIn or GroupsOut"]),
+    ("two rules over a transit gateway of which nothing is told", {"in": f"{NAMES_A}, {NAMES_A}"},
+     ["not told: whether 2 rules may name groups over transit gateways, as sg-b in 2 to sg-a over tgw-1: what they alone allow stops as GroupsIn"]),
     ("a word that is none", {"RouteTables": '{"RouteTableId": "rtb-\\u001b[2J", "Routes": [{"DestinationIpv6CidrBlock": "::/0", "GatewayId": "igw-a"}]}, '
                                             '{"RouteTableId": "rtb-z", "Routes": [{"DestinationIpv6CidrBlock": "::/0", "GatewayId": "igw-a"}]}'},
      [f'2 route tables with routes of IPv6, as "rtb-\\u001b[2J": {IPV4}']),

@@ -2,10 +2,11 @@
 """Reports as trees of cuts, against an independent model: tests/tree_model.py PROGRAM [--seed S] [--cases N]
 
 A case is a network made at random (networks.py), and some queries of it with `max` above 20,000. Where `ask`
-prints a tree, its text has to be that which the model makes of the rows that the same query has as a list: a box is cut down to the row
-that begins where it begins, side after side, and what is cut off comes next, the last first. Each leaf has to be true of all headers
-by model.py, where the query has few cells, else of some, and no leaf is cut but where something may change; and `check` says yes. Any
-other answer is that of the query without `max`.
+prints a tree, its text has to be that which the model makes of its leaves: a box is cut down to the leaf that begins where it begins,
+side after side, and what is cut off comes next, the last first. Leaves that follow each other by their low corners with one word are one
+leaf where they differ along q alone; and those that are one row where they differ along p or q alone are the rows that the same query has
+as a list. Each leaf has to be true of all headers by model.py, where the query has few cells, else of some, and no leaf is cut but where
+something may change; and `check` says yes. Any other answer is that of the query without `max`.
 
 Then `check` is asked about other trees of the same box: such as the model makes itself, cut in any order and anywhere, which are true,
 and damaged ones. The model tells what is due: the line that is refused, the first header of the first leaf of which something else is
@@ -29,12 +30,18 @@ import rows_model
 from answers import ADDRESS, NUMBER, STOP
 
 SIDES = ("proto", "src", "dst", "p", "q")
+P, Q = 3, 4
 MOST_LEAVES, FEW_CELLS = 100_000, 2_000
 REFUSED, YES, NO = 4, 0, 1
 
 
 def replaced(box, side, ends):
     return (*box[:side], ends, *box[side + 1:])
+
+
+def halves(box, side, number):
+    """The parts of a box that a cut makes, the lower one last."""
+    return [replaced(box, side, (number, box[side][1])), replaced(box, side, (box[side][0], number - 1))]
 
 
 def told_number(side, number):
@@ -52,19 +59,51 @@ def tree_text(head, nodes):
 
 # ---- trees
 
+def leaves_of(box, nodes):
+    """The leaves of a tree, as rows by their low corners; None where the nodes are no tree of the box."""
+    leaves, left = [], [box]
+    for node in nodes:
+        box = left.pop() if left else None
+        cut = box and cut_of(node, box)
+        if cut:
+            left += halves(box, *cut)
+        elif box and node.startswith("leaf "):
+            leaves.append(rows_model.Row("", node[len("leaf "):], box))
+        else:
+            return None
+    return None if left else sorted(leaves, key=lambda it: [low for low, _ in it.box])
+
+
+def goes_on(row, other, along):
+    """Whether a row has the word and the sides of another, but that it begins one past the end of one of these sides."""
+    ways = [side for side in along if other.box[side][1] + 1 == row.box[side][0]]
+    return row.told == other.told and any(all(row.box[it] == other.box[it] for it in range(5) if it != side) for side in ways)
+
+
+def joined(rows, along):
+    """The rows, as few as those that follow each other make along these sides."""
+    told = []
+    for row in rows:
+        while told and goes_on(row, told[-1], along):
+            row = rows_model.Row("", row.told, [(low, high) for (low, _), (_, high) in zip(told.pop().box, row.box)])
+        told.append(row)
+    return told
+
+
 def of_rows(box, rows):
-    """The nodes of the tree that rows make. Each row begins where a box of the tree begins."""
+    """The nodes of the tree that rows make, as far as each row begins where a box of the tree begins."""
     nodes, left, begun = [], [box], {tuple(low for low, _ in row.box): row for row in rows}
     while left:
         box = left.pop()
-        row = begun.pop(tuple(low for low, _ in box))
+        row = begun.pop(tuple(low for low, _ in box), None)
+        if row is None:
+            break
         for side, (_, last) in enumerate(row.box):
             if last < box[side][1]:
                 nodes.append(cut_line(side, last + 1))
                 left.append(replaced(box, side, (last + 1, box[side][1])))
             box = replaced(box, side, (box[side][0], last))
         nodes.append(f"leaf {row.told}")
-    assert not begun
     return nodes
 
 
@@ -85,7 +124,7 @@ class Any:
                 continue
             side, number = self.cut(box, sides, len(told) > 1)
             nodes.append(cut_line(side, number))
-            left += [replaced(box, side, (number, box[side][1])), replaced(box, side, (box[side][0], number - 1))]
+            left += halves(box, side, number)
         return nodes
 
     def cut(self, box, sides, is_due):
@@ -183,8 +222,7 @@ def due(network, text):
         cut = cut_of(line, box)
         if not cut:
             return refused(number)
-        side, at = cut
-        left += [replaced(box, side, (at, box[side][1])), replaced(box, side, (box[side][0], at - 1))]
+        left += halves(box, *cut)
     if lines[number:number + 1] != [f"end {len(leaves)}"]:
         return refused(number + 1)
     return refused(number + 2) if len(lines) > number + 1 or last else found(query, leaves)
@@ -273,10 +311,16 @@ class Asked:
 def told_wrong(rng, query, text, listed):
     """What is wrong with a tree that `ask` printed, where the query has the rows of a list."""
     lines = text.split("\n")
-    rows = [rows_model.Row("", " ".join(it.split(" ")[2:6]), rows_model.read_box(it.split(" ")[6:])) for it in listed.split("\n")[3:-2]]
-    nodes = of_rows(query.box, rows)
-    if text != tree_text(lines[1:3], nodes):
-        yield "another tree than its rows make"
+    rows = leaves_of(query.box, lines[3:-2])
+    if rows is None:
+        yield "no tree"
+        return
+    if text != tree_text(lines[1:3], of_rows(query.box, rows)):
+        yield "another tree than its leaves make"
+    if joined(rows, [Q]) != rows:
+        yield "leaves that could be one"
+    if [f"row {number} {row.told} {model.told_box(row.box)}" for number, row in enumerate(joined(rows, [P, Q]), 1)] != listed.split("\n")[3:-2]:
+        yield "leaves that make other rows than the list has"
     for row in rows:
         ends = [it for side, (low, high) in enumerate(row.box) for it in ((side, low), (side, high + 1))]
         if any(it not in (query.box[side][0], query.box[side][1] + 1) and it not in query.cuts[side] for side, it in ends):
