@@ -3,14 +3,15 @@ use Rattle.std.proofs.Common.{Bool, Contains, List, None, Option, Some, [], ap, 
 use Rattle.std.specs.List.{flat_map, list_any, position_or_len}
 use Rattle.std.specs.Prelude.{filter, map}
 use Rattle.vpc_base.proofs.Bytes.{bytes_self}
-use Rattle.vpc_base.proofs.Lemmas.{Contains-cases, Contains-filter, Contains-flat_map, Contains-here, Contains-later, Contains-none, and_parts, eq-eqb, eqb-true, filter-member, filter_map-member, find-member, flat_map-member, member-list_any, none-some, position-at, position-there, row-member, same_Some}
+use Rattle.vpc_base.proofs.Lemmas.{Contains-cases, Contains-filter, Contains-flat_map, Contains-here, Contains-later, Contains-none, and_parts, eq-eqb, eqb-true, filter-member, filter_map-member, find-member, flat_map-member, member-list_any, none-some, or_left, position-at, position-there, row-member, same_Some}
+use Rattle.prefix_text.specs.Block.{holds}
 use Rattle.vpc_laws.proofs.Accepting.{accepted_has_all_named}
 use Rattle.vpc_laws.proofs.Numbering.{ids_are_found}
 use Rattle.vpc_laws.specs.Terms.{HasPair}
 use Rattle.vpc_laws.specs.Types.{Description, EniNo, Interface, VpcNo}
 use Rattle.vpc_model.specs.Accepted.{IsAccepted}
 use Rattle.vpc_model.specs.Lookup.{no_interface, no_subnet}
-use Rattle.vpc_model.specs.Terms.{has_address, host_of, interface_at, is_in_vpc, owned_by, owner_of, pair_of, pairs_in, pairs_of, subnet_at, subnet_no, vpc_no, vpc_of_interface}
+use Rattle.vpc_model.specs.Terms.{has_address, host_of, interface_at, is_assigned, is_in_vpc, owned_by, owner_of, pair_of, pairs_in, pairs_of, subnet_at, subnet_no, vpc_no, vpc_of_interface}
 
 pair_of-some : (x : ℕ × Option ℕ) (p : ℕ × ℕ) → pair_of x ≡ Some p → x ≡ (p.0, Some p.1)
 pair_of-some (a, None) p e = absurd (none-some p e)
@@ -44,7 +45,8 @@ pub host-of_pair : (d : Description) (v : VpcNo) (own public : ℕ) → HasPair 
 host-of_pair d v own public pair =
     let e = pair.0 in
     let test : Interface → Bool = λ r. has_address r own && is_in_vpc d v r in
-    let has : has_address e own ≡ true = member-list_any (λ (x : ℕ × Option ℕ). x.0 == own) e.addresses (own, Some public) pair.3 (eqb-own own) in
+    let assigned : is_assigned e own ≡ true = member-list_any (λ (x : ℕ × Option ℕ). x.0 == own) e.addresses (own, Some public) pair.3 (eqb-own own) in
+    let has : has_address e own ≡ true = or_left (is_assigned e own) (list_any (holds own) e.prefixes) assigned in
     let there : list_any test d.interfaces ≡ true = member-list_any test d.interfaces e pair.1 (both (has_address e own) (is_in_vpc d v e) has pair.2) in
     let k = position_or_len test d.interfaces in
     let found : position test d.interfaces ≡ Some k = position-there test d.interfaces there in

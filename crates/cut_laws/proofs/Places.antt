@@ -3,7 +3,7 @@ use Rattle.std.proofs.Common.{◌≡◌, ◌∙◌, ◌++◌, ◌∷◌, [], Lis
 use Rattle.std.specs.List.{flat_map}
 use Rattle.std.proofs.lemmas.Grind.{flat_map-append}
 use Rattle.vpc_base.specs.Cuts.{AreAmong, CutLists, joined_cuts, no_cuts}
-use Rattle.vpc_model.specs.Cuts.{address_cuts, all_cuts, asked_at, cuts_at, cuts_at_interface, cuts_at_tgw_table, cuts_of, cuts_of_acl, cuts_of_appliance, cuts_of_blocks, cuts_of_group, cuts_of_group_id, cuts_of_interface, cuts_of_list, cuts_of_table, cuts_of_tgw_table, cuts_of_vpc, fixed_cuts, pair_cuts, unbounded_asked, unbounded_standing}
+use Rattle.vpc_model.specs.Cuts.{address_cuts, all_cuts, asked_at, block_cuts, cuts_at, cuts_at_interface, cuts_at_tgw_table, cuts_of, cuts_of_acl, cuts_of_appliance, cuts_of_blocks, cuts_of_group, cuts_of_group_id, cuts_of_interface, cuts_of_list, cuts_of_table, cuts_of_tgw_table, cuts_of_vpc, fixed_cuts, pair_cuts, unbounded_asked, unbounded_standing}
 use Rattle.vpc_model.specs.Lookup.{addresses_in, both_addresses, group_at, group_of_id, interface_at, no_group, no_table, no_tgw_table, table_at, table_of}
 use Rattle.vpc_model.specs.Near.{cuts_of_hops}
 use Rattle.vpc_model.specs.Transit.{table_of_attachment}
@@ -32,11 +32,15 @@ addresses-cut (x ∷ xs) =
 abbrev addresses_at : Interface → List ℕ
 addresses_at e = flat_map both_addresses e.addresses
 
-interfaces-cut : (es : List Interface) → cuts_of_blocks (flat_map address_cuts (flat_map addresses_at es)) ≡ all_cuts cuts_of_interface es
-interfaces-cut [] = refl
-interfaces-cut (e ∷ es) =
-    ap cuts_of_blocks (flat_map-append address_cuts (addresses_at e) (flat_map addresses_at es) ∙ ap (λ (l : List ℕ). l ++ flat_map address_cuts (flat_map addresses_at es)) (addresses-cut e.addresses))
-    ∙ ap (joined_cuts (cuts_of_interface e)) (interfaces-cut es)
+interfaces-among : (es : List Interface) → AreAmong (cuts_of_blocks (flat_map address_cuts (flat_map addresses_at es))) (all_cuts cuts_of_interface es)
+interfaces-among [] = among_itself no_cuts
+interfaces-among (e ∷ es) =
+    let own = cuts_of_blocks (flat_map pair_cuts e.addresses) in
+    let later_ones = flat_map address_cuts (flat_map addresses_at es) in
+    subst (λ (c : CutLists). AreAmong c (joined_cuts (cuts_of_interface e) (all_cuts cuts_of_interface es)))
+    (sym (ap cuts_of_blocks (flat_map-append address_cuts (addresses_at e) (flat_map addresses_at es) ∙ ap (λ (l : List ℕ). l ++ later_ones) (addresses-cut e.addresses))))
+    (joined_among own (cuts_of_blocks later_ones) (cuts_of_interface e) (all_cuts cuts_of_interface es)
+    (left_among own (cuts_of_blocks (flat_map block_cuts e.prefixes))) (interfaces-among es))
 
 pub addresses_are_standing : AddressesAreStanding
 addresses_are_standing d =
@@ -46,7 +50,7 @@ addresses_are_standing d =
     let blocks = cuts_of_blocks (flat_map address_cuts (addresses_in d)) in
     on_sides_among (joined_cuts fixed_cuts blocks) (unbounded_standing d)
     (both_among fixed_cuts blocks (unbounded_standing d) (left_among fixed_cuts (joined_cuts vpcs (joined_cuts rows others)))
-    (subst (λ (c : CutLists). AreAmong c (unbounded_standing d)) (sym (interfaces-cut d.interfaces))
+    (among_through blocks rows (unbounded_standing d) (interfaces-among d.interfaces)
     (later rows fixed_cuts (joined_cuts vpcs (joined_cuts rows others)) (later rows vpcs (joined_cuts rows others) (left_among rows others)))))
 
 -- ---- places

@@ -43,6 +43,10 @@ all_cuts-append f (x ∷ xs) ys = rw (all_cuts-append f xs ys) (simp append_asso
 pub gathered_with-append : {X : Type 0} (f : X → CutLists) (g : CutLists) (xs ys : List X) → gathered_with (gathered_with g (all_cuts f xs)) (all_cuts f ys) ≡ gathered_with g (all_cuts f (xs ++ ys))
 gathered_with-append f g xs ys = gathered_with-more g (all_cuts f xs) (all_cuts f ys) ∙ ap (gathered_with g) (sym (all_cuts-append f xs ys))
 
+-- the addresses of an interface, and then its blocks
+pub gathered_with-interface : (g : CutLists) (own blocks : List ℕ) → gathered_with (gathered_with g (cuts_of_blocks own)) (cuts_of_blocks blocks) ≡ gathered_with g (cuts_of_blocks (own ++ blocks))
+gathered_with-interface g own blocks = gathered_with-more g (cuts_of_blocks own) (cuts_of_blocks blocks)
+
 -- the blocks of a rule, and then its protocol and range
 pub gathered_with-rule : (g : CutLists) (addr : List ℕ) (proto : Option ℕ) (from to : ℕ) → gathered_with (gathered_with g (cuts_of_blocks addr)) (cuts_of_rule proto from to []) ≡ gathered_with g (record { proto = proto_cuts proto; addr = addr; p = shifted_edges (edges from to); q = edges from to })
 gathered_with-rule g addr proto from to = gathered_with-more g (cuts_of_blocks addr) (cuts_of_rule proto from to []) ∙ rw append-nil
@@ -78,4 +82,4 @@ pub ruleset untouched_sides = append-nil
 
 pub ruleset additions = (gathered_with-more, gathered_with-none)
 
-pub ruleset rows = (gathered_with-append, gathered_with-blocks, gathered_with-pairs, gathered_with-rule, gathered_with-first)
+pub ruleset rows = (gathered_with-append, gathered_with-blocks, gathered_with-pairs, gathered_with-rule, gathered_with-interface, gathered_with-first)

@@ -84,12 +84,14 @@ impl Cutting for Vpc {
     }
 }
 
+// The addresses, and then the blocks that are delegated to it.
 #[tactic(auto, using(crate::proofs::Additions::rows))]
 impl Cutting for Interface {
     ghost cuts = { cuts_of_interface };
 
     fn add_to(&self, gathered: &mut Gathered) -> Result<(), AllocError> {
-        add_all(gathered, self.addresses.as_slice())
+        add_all(gathered, self.addresses.as_slice())?;
+        add_blocks(gathered, self.prefixes.as_slice())
     }
 }
 

@@ -13,6 +13,7 @@ use Rattle.vpc_model.specs.declared.rows.Target.TheVariants as targets
 use Rattle.vpc_model.specs.declared.refusals.Refusal.TheVariants as refusals
 use Rattle.vpc_model.specs.Accepted.{IsAccepted, duplicate_addresses, duplicate_ids, duplicate_publics, duplicates_in, holds_twice, ids_by_list, is_interface_in, is_main_of, is_side, is_subnet_of, is_table_of, missing_of_acl, missing_of_appliance, missing_of_attachment, missing_of_group, missing_of_igw, missing_of_interface, missing_of_life, missing_of_reach, missing_of_route, missing_of_subnet, missing_of_table, missing_of_target, missing_references, private_addresses, public_addresses, repeats, repeats_after, same_address, serves_vpc, too_many_rows, two_acls, two_gateways, two_tables, wanted, without_acl, without_table}
 use Rattle.vpc_model.specs.Lookup.{eni_no, has_group, has_igw, has_interface, has_list, has_nat, has_peering, has_subnet, has_vpc, interface_at, is_listed, nat_at, nat_no, peer_no, peering_at}
+use Rattle.vpc_laws.proofs.Claims.{apart, assigned-once}
 use Rattle.vpc_laws.specs.Accepted.{HasAllNamed, HasNothingTwice, HasTarget, IsFaultless}
 
 -- ---- lists one after the other
@@ -226,8 +227,8 @@ accepted_has_nothing_twice d accepted =
     let tables = append-nothing (map (λ (v : Vpc). refusals.TwoTables v.id) vpcs) (map (λ (s : Subnet). refusals.TwoTables s.id) subnets) faultless.one_table in
     record {
       ids = distinct-lists (ids_by_list d) faultless.ids;
-      addresses = repeats-none same_address same_address-flips (private_addresses d)
-          (map-nothing (λ (a : List ℕ × ℕ). refusals.DuplicateAddress a.0 a.1) (repeats same_address (private_addresses d)) faultless.addresses);
+      addresses = repeats-none same_address same_address-flips (private_addresses d) (assigned-once d faultless.addresses);
+      hosts = λ a. apart d a faultless.addresses;
       publics = repeats-none (λ a b. a == b) eqb-comm (public_addresses d) (map-nothing refusals.DuplicatePublic (repeats (λ a b. a == b) (public_addresses d)) faultless.publics);
       gateways = λ v has. once (λ (g : InternetGateway). is_listed v.id g.vpcs) d.igws
           (filter-nothing (λ (v : Vpc). holds_twice (λ (g : InternetGateway). is_listed v.id g.vpcs) d.igws) d.vpcs

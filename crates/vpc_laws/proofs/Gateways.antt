@@ -1,5 +1,5 @@
 -- What gateways rewrite.
-use Rattle.std.proofs.Common.{Bool, Contains, List, None, Option, Some, [], ap, false, filter, find, inl, inr, option_and_then, option_map, refl, subst, sym, true, unwrap_or, ℕ, ◌&&◌, ◌++◌, ◌<◌, ◌==◌, ◌^◌, ◌∙◌, ◌∷◌, ◌≡◌, ◌⊎◌}
+use Rattle.std.proofs.Common.{Bool, Contains, List, None, Option, Some, [], ap, false, filter, find, inl, inr, option_and_then, option_map, refl, subst, sym, true, ℕ, ◌&&◌, ◌++◌, ◌<◌, ◌==◌, ◌^◌, ◌∙◌, ◌∷◌, ◌≡◌, ◌⊎◌}
 use Rattle.std.specs.List.{AllByRecursion}
 use Rattle.vpc_base.proofs.Lemmas.{AllByRecursion-at, Contains-push, and_parts, cases_Bool, cond_both, eq-eqb, eqb-true, filter-member, filter_map-member, find-member, flat_map-member, none-some, same_Some}
 use Rattle.vpc_base.specs.Header.{echo_reply, exchanged, reply_of}

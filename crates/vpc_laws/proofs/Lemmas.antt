@@ -4,6 +4,7 @@ pub use Rattle.vpc_laws.proofs.Books.{find-none}
 pub use Rattle.vpc_laws.proofs.ByMemory.{IsPlain, by_memory, own_connection-made, place_by}
 pub use Rattle.vpc_laws.proofs.Flow.{header_stays, or_else-first, or_else-later, steps_lead_on, taken_by}
 pub use Rattle.vpc_laws.proofs.Gateways.{inward_answers_opens}
+pub use Rattle.vpc_laws.proofs.Hosting.{hosts_are_assigned_or_delegated}
 pub use Rattle.vpc_laws.proofs.Lengths.{accepted_has_short_lists}
 pub use Rattle.vpc_laws.proofs.Numbering.{accepted_numbers_are_in_range, accepted_numbers_are_own, ids_are_found, nat_addresses_are_interfaces}
 pub use Rattle.vpc_laws.proofs.Passing.{packets_pass_by_groups, rules_are_remembered, taken_by-unrefused}

@@ -55,7 +55,7 @@ abbrev pub too_long_by_list : Description → List (List Refusal)
 too_long_by_list d =
     too_long lists.Vpcs (λ (v : Vpc). is_long v.blocks) d.vpcs
     ∷ too_long lists.Subnets (λ (s : Subnet). false) d.subnets
-    ∷ too_long lists.NetworkInterfaces (λ (e : Interface). is_long e.addresses || is_long e.groups) d.interfaces
+    ∷ too_long lists.NetworkInterfaces (λ (e : Interface). is_long e.addresses || (is_long e.prefixes || is_long e.groups)) d.interfaces
     ∷ too_long lists.RouteTables (λ (t : RouteTable). is_long t.subnets || is_long t.routes) d.tables
     ∷ too_long lists.PrefixLists (λ (l : PrefixList). is_long l.entries) d.lists
     ∷ too_long lists.NetworkAcls (λ (a : Acl). is_long a.subnets || is_long a.rows) d.acls
@@ -78,10 +78,14 @@ too_long-none d none = nothing-joined [] (too_long_by_list d) refl none
 pub accepted_has_short_lists : (d : Description) → IsAccepted d → HasShortLists d
 accepted_has_short_lists d accepted = let faultless = accepted_is_faultless d accepted in by (none-too_long d faultless.lengths)
   where
+    outer : (e : Interface) → (is_long e.addresses || (is_long e.prefixes || is_long e.groups)) ≡ false
+        → (is_long e.addresses ≡ false) × ((is_long e.prefixes || is_long e.groups) ≡ false)
+    outer e short = or_parts (is_long e.addresses) (is_long e.prefixes || is_long e.groups) short
+
     by : AreEmpty (too_long_by_list d) → HasShortLists d
     by (of_vpcs, (of_subnets, (of_interfaces, (of_tables, (of_lists, (of_acls, (of_groups, (of_igws, (of_nats, (of_peerings, (of_attachments, (of_associations, (of_tgw_tables, (of_appliances, _)))))))))))))) =
         let vpcs = short-list lists.Vpcs (λ (v : Vpc). is_long v.blocks) d.vpcs of_vpcs in
-        let interfaces = short-list lists.NetworkInterfaces (λ (e : Interface). is_long e.addresses || is_long e.groups) d.interfaces of_interfaces in
+        let interfaces = short-list lists.NetworkInterfaces (λ (e : Interface). is_long e.addresses || (is_long e.prefixes || is_long e.groups)) d.interfaces of_interfaces in
         let tables = short-list lists.RouteTables (λ (t : RouteTable). is_long t.subnets || is_long t.routes) d.tables of_tables in
         let entries = short-list lists.PrefixLists (λ (l : PrefixList). is_long l.entries) d.lists of_lists in
         let acls = short-list lists.NetworkAcls (λ (a : Acl). is_long a.subnets || is_long a.rows) d.acls of_acls in
@@ -94,8 +98,9 @@ accepted_has_short_lists d accepted = let faultless = accepted_is_faultless d ac
           blocks_of_vpc = λ v has. is_long-short v.blocks (vpcs.1 v has);
           subnets = (short-list lists.Subnets (λ (s : Subnet). false) d.subnets of_subnets).0;
           interfaces = interfaces.0;
-          addresses_of_interface = λ e has. (both-short e.addresses e.groups (interfaces.1 e has)).0;
-          groups_of_interface = λ e has. (both-short e.addresses e.groups (interfaces.1 e has)).1;
+          addresses_of_interface = λ e has. is_long-short e.addresses (outer e (interfaces.1 e has)).0;
+          prefixes_of_interface = λ e has. (both-short e.prefixes e.groups (outer e (interfaces.1 e has)).1).0;
+          groups_of_interface = λ e has. (both-short e.prefixes e.groups (outer e (interfaces.1 e has)).1).1;
           tables = tables.0;
           subnets_of_table = λ t has. (both-short t.subnets t.routes (tables.1 t has)).0;
           routes_of_table = λ t has. (both-short t.subnets t.routes (tables.1 t has)).1;

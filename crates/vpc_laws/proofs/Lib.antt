@@ -15,7 +15,9 @@ pub mod Adding
 pub mod Gateways
 pub mod Opened
 pub mod Modes
+pub mod Claims
 pub mod Accepting
+pub mod Hosting
 pub mod Numbering
 pub mod Sounding
 pub mod Telling

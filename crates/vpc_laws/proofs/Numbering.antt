@@ -1,5 +1,5 @@
 -- Rows and their numbers.
-use Rattle.std.proofs.Common.{◌≡◌, ℕ, ◌&&◌, ◌||◌, ◌⊎◌, Bool, List, [], Option, Some, None, ap, arith, false, inl, inr, length, ltb, map, not, refl, subst, sym, true, unwrap_or, ◌∙◌, IfSome, is_some}
+use Rattle.std.proofs.Common.{◌≡◌, ℕ, ◌&&◌, ◌||◌, ◌⊎◌, Bool, List, Option, Some, None, ap, arith, inl, inr, length, ltb, map, not, refl, subst, sym, true, unwrap_or, ◌∙◌, IfSome, is_some}
 use Rattle.std.specs.List.{filter, IsDistinct, list_any, position, position_or_len, slice_index_or}
 use Rattle.std.specs.Str.{bytes_eq}
 use Rattle.std.proofs.lemmas.Bool.{and_parts, both_ways, false_from_ne_true, ltb-true, not-false, or_cases}
@@ -15,7 +15,7 @@ use Rattle.vpc_model.specs.declared.rows.NatLife.TheVariants as lives
 use Rattle.vpc_model.specs.declared.refusals.Refusal.TheVariants as refusals
 use Rattle.vpc_model.specs.Accepted.{IsAccepted, is_main_of, is_subnet_of, is_table_of}
 use Rattle.vpc_model.specs.Choice.{or_else}
-use Rattle.vpc_model.specs.Lookup.{acl_of, eni_no, has_address, has_interface, has_subnet, interface_at, is_listed, nat_at, no_acl, no_igw, no_interface, no_nat, no_peering, no_subnet, no_table, no_vpc, subnet_at, subnet_no, table_at, table_of}
+use Rattle.vpc_model.specs.Lookup.{acl_of, eni_no, has_interface, has_subnet, interface_at, is_assigned, is_listed, nat_at, no_acl, no_igw, no_interface, no_nat, no_peering, no_subnet, no_table, no_vpc, subnet_at, subnet_no, table_at, table_of}
 use Rattle.vpc_model.specs.Sound.{is_acl, is_eni, is_nat, is_subnet, is_table}
 use Rattle.vpc_laws.specs.Accepted.{IdsHaveNumbers, NumbersAreInRange, NumbersAreOwn}
 use Rattle.vpc_laws.proofs.Accepting.{accepted_has_all_named, accepted_has_nothing_twice, accepted_is_faultless}
@@ -147,14 +147,14 @@ accepted_numbers_are_in_range d accepted =
 pub nat_addresses_are_interfaces : (d : Description) (n : NatNo) (subnet eni : List ℕ) (address : ℕ) → IsAccepted d → is_nat d n ≡ true
     → let row = nat_at d n in row.life ≡ lives.Live subnet eni address
     → let i = eni_no d eni in let e = interface_at d i in
-    (is_eni d i ≡ true) × (e.id ≡ eni) × (e.subnet ≡ subnet) × (has_address e address ≡ true) × (is_subnet d (subnet_no d subnet) ≡ true)
+    (is_eni d i ≡ true) × (e.id ≡ eni) × (e.subnet ≡ subnet) × (is_assigned e address ≡ true) × (is_subnet d (subnet_no d subnet) ≡ true)
 nat_addresses_are_interfaces d n subnet eni address accepted inside is =
     let named = accepted_has_all_named d accepted in
     let ids = ids_are_found d in
     let row = nat_at d n in
     let e = interface_at d (eni_no d eni) in
     let there = named.place_of_nat row subnet eni address (row-member d.nats n.0 no_nat inside) is in
-    let outer = and_parts (has_interface d eni) (bytes_eq e.subnet subnet && has_address e address) there.1 in
-    let inner = and_parts (bytes_eq e.subnet subnet) (has_address e address) outer.1 in
+    let outer = and_parts (has_interface d eni) (bytes_eq e.subnet subnet && is_assigned e address) there.1 in
+    let inner = and_parts (bytes_eq e.subnet subnet) (is_assigned e address) outer.1 in
     let found = ids.interface eni outer.0 in
     (found.0, found.1, same_bytes e.subnet subnet inner.0, inner.1, (ids.subnet subnet there.0).0)

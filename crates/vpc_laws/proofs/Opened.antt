@@ -9,7 +9,7 @@ use Rattle.vpc_model.specs.declared.places.Came.TheVariants as from
 use Rattle.vpc_base.proofs.Lemmas.{cond_both, false≢true}
 use Rattle.prefix_text.specs.Block.{holds}
 use Rattle.vpc_laws.specs.Access.{IsBlockedNext, IsOff, open_subnet, open_vpc, opened}
-use Rattle.vpc_laws.specs.Types.{Access, Acl, AclNo, AttNo, By, Description, Dir, EniNo, GroupNo, Header, IgwNo, Interface, Label, NatGateway, NatLife, NatNo, PeerNo, Place, RuleRef, Stop, Subnet, SubnetNo, TableNo, Target, TgwTableNo, Vpc, VpcNo}
+use Rattle.vpc_laws.specs.Types.{Access, AclNo, AttNo, By, Description, Dir, EniNo, GroupNo, Header, IgwNo, Interface, Label, NatGateway, NatLife, NatNo, PeerNo, Place, RuleRef, Stop, Subnet, SubnetNo, TableNo, Target, Vpc, VpcNo}
 use Rattle.vpc_model.specs.Terms.{Appliances, Connection, Moment, Next, Passing, Step, Translation, access_in, access_of, acl_at, acl_of, acl_verdict, answer_passing, attached_gateway, attachment_at, attachment_for, blocked, blocked_at, by_pair, by_route, chosen_route, crossing, deliver, eni_no, enter_host, entering, first_rule_of, first_subnet, from_inward, from_nat, gateway_of, go, go_private, go_public, group_at, group_of_id, has_address, has_block, has_vpc, host_of, igw_no, in_passing, interface_at, inward, is_attached, is_blocked, is_full, is_gateway, is_in_vpc, is_in_zone, is_listed, is_tracked, is_translatable, is_unroutable, label_passing, leave_by, leave_subnet, leaving, nat_at, nat_no, nat_of, new_translation, no_route, no_subnet, no_vpc, open_passing, or_else, other_side, out_passing, over_peering, own_address, own_subnet, owned_by, owner_of, pairs_in, pairs_of, passing_groups, passing_of, peer_no, peering_at, permission_allows, permissions_of, plain, private_of, public_of, rule_of_group, step_at, step_into, step_nat_in, step_nat_out, step_out, stop, stops_at, subnet_at, subnet_no, subnet_of, table_at, table_of, to_host, to_interface, to_internet, to_nat, to_owner, to_peer, to_target, to_transit, to_zone, translate, translated_to, translation_of, unless_stopped, vpc_at, vpc_no, vpc_of_interface, vpc_of_subnet, vpcs_of_group, zone_subnet}
 use Rattle.vpc_model.specs.declared.places.EnterBy.TheVariants as through
 use Rattle.vpc_model.specs.declared.places.Place.TheVariants as places

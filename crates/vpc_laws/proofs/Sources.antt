@@ -1,6 +1,7 @@
 -- In an accepted description NAT gateways send from addresses of interfaces.
-use Rattle.std.proofs.Common.{◌≡◌, ℕ, refl, subst, sym, true}
-use Rattle.std.specs.List.{AllByRecursion, Contains}
+use Rattle.std.proofs.Common.{◌≡◌, ◌||◌, Bool, ap, refl, subst, sym, true, ℕ}
+use Rattle.std.specs.List.{AllByRecursion, Contains, list_any}
+use Rattle.prefix_text.specs.Block.{holds}
 use Rattle.std.proofs.lemmas.Bool.{and_parts, false≢true}
 use Rattle.vpc_base.proofs.Members.{row-member}
 use Rattle.vpc_laws.specs.Types.{Description, Header, Interface, Label, NatLife, NatNo}
@@ -26,7 +27,8 @@ own-interface d n lives.Unmodelled accepted inside is works = absurd (false≢tr
 own-interface d n (lives.Live subnet eni address) accepted inside is works =
     let found = nat_addresses_are_interfaces d n subnet eni address accepted inside is in
     let i = eni_no d eni in
-    (interface_at d i, row-member d.interfaces i.0 no_interface found.0, found.3)
+    let e = interface_at d i in
+    (e, row-member d.interfaces i.0 no_interface found.0, ap (λ (b : Bool). b || list_any (holds address) e.prefixes) found.3)
 
 goes-as : (P Q : Header → Type 0) (x : Next) → ((k : Header) → P k → Q k) → IfGoes x P → IfGoes x Q
 goes-as P Q (go p k) turn holds = turn k holds

@@ -1,12 +1,12 @@
 -- What holds of accepted descriptions.
-use Rattle.std.specs.Prelude.{◌≡◌, ◌<◌, ◌≤◌, ◌==◌, ◌++◌, [], Contains, List, bytes_eq, count_by, false, length, true, ℕ}
+use Rattle.std.specs.Prelude.{Bool, ◌&&◌, ◌≡◌, ◌<◌, ◌≤◌, ◌==◌, ◌++◌, [], Contains, List, bytes_eq, count_by, false, length, true, ℕ}
 use Rattle.std.specs.List.{AllByRecursion, IsDistinct}
 use Rattle.vpc_laws.specs.Types.{Acl, Appliance, Attachment, Description, EniNo, Group, IgwNo, Interface, InternetGateway, NatGateway, NatNo, PeerNo, Permission, PrefixList, Route, RouteTable, Subnet, SubnetNo, Target, TgwTable, Vpc, VpcNo}
 use Rattle.vpc_model.specs.declared.rows.NatLife.TheVariants as lives
 use Rattle.vpc_model.specs.declared.rows.Reach.TheVariants as reaches
 use Rattle.vpc_model.specs.declared.rows.Target.TheVariants as targets
 use Rattle.vpc_model.specs.Accepted.{IsAccepted, duplicate_addresses, duplicate_ids, duplicate_publics, ids_by_list, is_interface_in, is_main_of, is_side, is_subnet_of, is_table_of, missing_references, private_addresses, public_addresses, same_address, serves_vpc, too_many_rows, two_acls, two_gateways, two_tables, without_acl, without_table}
-use Rattle.vpc_model.specs.Lookup.{acl_of, eni_no, has_address, has_group, has_igw, has_interface, has_list, has_nat, has_peering, has_subnet, has_vpc, igw_at, igw_no, interface_at, is_listed, nat_at, nat_no, peer_no, peering_at, subnet_at, subnet_no, subnet_of, table_at, table_of, vpc_at, vpc_no, vpc_of_subnet}
+use Rattle.vpc_model.specs.Lookup.{acl_of, eni_no, has_address, has_group, has_igw, has_interface, has_list, has_nat, has_peering, has_subnet, has_vpc, igw_at, igw_no, interface_at, is_assigned, is_listed, nat_at, nat_no, peer_no, peering_at, subnet_at, subnet_no, subnet_of, table_at, table_of, vpc_at, vpc_no, vpc_of_interface, vpc_of_subnet}
 use Rattle.vpc_model.specs.Sound.{is_acl, is_eni, is_igw, is_nat, is_peering, is_subnet, is_table, is_vpc}
 
 -- ---- no refusals
@@ -76,12 +76,17 @@ AcceptedHasAllNamed = (d : Description) → IsAccepted d → HasAllNamed d
 
 -- ---- what differs
 
--- no two rows of a list have one id, no two interfaces of a VPC one private address, no two interfaces
--- one public address; a VPC has
+-- both interfaces are in one VPC and have the address, in a delegated block or as their own
+abbrev pub both_have : Description → ℕ → Interface → Interface → Bool
+both_have d a e o = bytes_eq (vpc_of_interface d e) (vpc_of_interface d o) && (has_address e a && has_address o a)
+
+-- no two rows of a list have one id, no address is assigned twice in a VPC, no two interfaces of a VPC have one address, no two
+-- interfaces one public address; a VPC has
 -- at most one internet gateway and one main table, a subnet at most one table and one ACL
 pub record HasNothingTwice (d : Description) : Type 0 where
   pub ids : AllByRecursion (IsDistinct bytes_eq) (ids_by_list d)
   pub addresses : IsDistinct same_address (private_addresses d)
+  pub hosts : (a : ℕ) → IsDistinct (both_have d a) d.interfaces
   pub publics : IsDistinct (λ a b. a == b) (public_addresses d)
   pub gateways : (v : Vpc) → Contains d.vpcs v → count_by (λ g. is_listed v.id g.vpcs) d.igws < 2
   pub main_tables : (v : Vpc) → Contains d.vpcs v → count_by (is_main_of v.id) d.tables < 2
@@ -142,7 +147,7 @@ NatAddressesAreInterfaces =
     (d : Description) (n : NatNo) (subnet eni : List ℕ) (address : ℕ) → IsAccepted d → is_nat d n ≡ true
     → let row = nat_at d n in row.life ≡ lives.Live subnet eni address
     → let i = eni_no d eni in let e = interface_at d i in
-    (is_eni d i ≡ true) × (e.id ≡ eni) × (e.subnet ≡ subnet) × (has_address e address ≡ true)
+    (is_eni d i ≡ true) × (e.id ≡ eni) × (e.subnet ≡ subnet) × (is_assigned e address ≡ true)
     × (is_subnet d (subnet_no d subnet) ≡ true)
 
 -- ---- the length of lists
@@ -158,6 +163,7 @@ pub record HasShortLists (d : Description) : Type 0 where
   pub subnets : IsShort d.subnets
   pub interfaces : IsShort d.interfaces
   pub addresses_of_interface : (e : Interface) → Contains d.interfaces e → IsShort e.addresses
+  pub prefixes_of_interface : (e : Interface) → Contains d.interfaces e → IsShort e.prefixes
   pub groups_of_interface : (e : Interface) → Contains d.interfaces e → IsShort e.groups
   pub tables : IsShort d.tables
   pub subnets_of_table : (t : RouteTable) → Contains d.tables t → IsShort t.subnets

@@ -8,6 +8,7 @@ pub mod Equality
 pub mod Choice
 pub mod Rewriting
 pub mod Accepted
+pub mod Hosts
 pub mod Access
 pub mod Sound
 pub mod Terms

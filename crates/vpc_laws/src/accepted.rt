@@ -1,5 +1,6 @@
 // Laws of accepted descriptions.
 ghost use Rattle.vpc_laws.specs.Accepted.{AcceptedHasAllNamed, AcceptedHasNothingTwice, AcceptedHasShortLists, AcceptedIsFaultless, AcceptedNumbersAreInRange, AcceptedNumbersAreOwn, IdsAreFound, NatAddressesAreInterfaces};
+ghost use Rattle.vpc_laws.specs.Hosts.{HostsAreAssignedOrDelegated};
 
 /// Where a description is accepted, nothing is wrong of any kind.
 pub fn has_no_fault()
@@ -14,6 +15,11 @@ pub fn describes_what_is_named()
 /// Its ids and addresses differ, and nothing has two gateways, tables or ACLs.
 pub fn has_nothing_twice()
     ensures { AcceptedHasNothingTwice }
+{}
+
+/// The interface that has an address has it assigned, or a block that holds it delegated.
+pub fn hosts_by_address()
+    ensures { HostsAreAssignedOrDelegated }
 {}
 
 /// In any description, an id that is there has a number.

@@ -8,7 +8,8 @@ use Rattle.vpc_model.specs.declared.refusals.ListName.TheVariants as named
 use Rattle.vpc_model.specs.declared.rows.Reach.TheVariants as reaches
 use Rattle.vpc_model.specs.declared.refusals.Refusal.TheVariants as refusals
 use Rattle.vpc_model.specs.declared.rows.Target.TheVariants as targets
-use Rattle.vpc_model.specs.Lookup.{eni_no, has_address, has_group, has_igw, has_interface, has_list, has_nat, has_peering, has_subnet, has_vpc, interface_at, is_listed, nat_at, nat_no, peer_no, peering_at, subnet_at, subnet_no, vpc_of_interface}
+use Rattle.prefix_text.specs.Block.{last_of}
+use Rattle.vpc_model.specs.Lookup.{eni_no, has_group, has_igw, has_interface, has_list, has_nat, has_peering, has_subnet, has_vpc, interface_at, is_assigned, is_listed, nat_at, nat_no, peer_no, peering_at, subnet_at, subnet_no, vpc_of_interface}
 
 -- ---- what stands twice
 
@@ -123,7 +124,7 @@ missing_of_igw d g = flat_map (λ v. wanted (has_vpc d v) g.id v) g.vpcs
 abbrev pub is_interface_in : Description → List ℕ → List ℕ → ℕ → Bool
 is_interface_in d subnet id address =
     let e = interface_at d (eni_no d id) in
-    has_interface d id && (bytes_eq e.subnet subnet && has_address e address)
+    has_interface d id && (bytes_eq e.subnet subnet && is_assigned e address)
 
 -- a live NAT gateway's subnet, and its interface there, which has its address
 abbrev pub missing_of_life : Description → List ℕ → NatLife → List Refusal
@@ -154,7 +155,7 @@ missing_references d =
 
 -- ---- addresses
 
--- the private addresses of all interfaces, each with the id of its VPC
+-- the private addresses that are assigned to all interfaces, each with the id of its VPC
 abbrev pub private_addresses : Description → List (List ℕ × ℕ)
 private_addresses d = flat_map (λ e. map (λ x. (vpc_of_interface d e, x.0)) e.addresses) d.interfaces
 
@@ -162,9 +163,64 @@ private_addresses d = flat_map (λ e. map (λ x. (vpc_of_interface d e, x.0)) e.
 abbrev pub same_address : List ℕ × ℕ → List ℕ × ℕ → Bool
 same_address a b = bytes_eq a.0 b.0 && (a.1 == b.1)
 
--- an address stands twice in a VPC
+-- what an interface claims in the VPC with this id: the addresses from the first to the last
+pub record Claim : Type 0 where
+  pub vpc : List ℕ
+  pub first : ℕ
+  pub last : ℕ
+
+-- its addresses, each alone
+abbrev pub address_claims : Description → Interface → List Claim
+address_claims d e = map (λ x. record { vpc = vpc_of_interface d e; first = x.0; last = x.0 }) e.addresses
+
+-- the blocks that are delegated to it
+abbrev pub prefix_claims : Description → Interface → List Claim
+prefix_claims d e = map (λ b. record { vpc = vpc_of_interface d e; first = b.first; last = last_of b }) e.prefixes
+
+-- all that it claims
+abbrev pub claims_of : Description → Interface → List Claim
+claims_of d e = address_claims d e ++ prefix_claims d e
+
+-- both claims have an address of one VPC
+abbrev pub meets : Claim → Claim → Bool
+meets a b = bytes_eq a.vpc b.vpc && (nat_le a.first b.last && nat_le b.first a.last)
+
+-- the least address that both have
+abbrev pub first_shared : Claim → Claim → Option ℕ
+first_shared a b = if meets a b then Some (if nat_le a.first b.first then b.first else a.first) else None
+
+-- the lesser of two numbers, where there are
+abbrev pub lesser : Option ℕ → Option ℕ → Option ℕ
+lesser None o = o
+lesser (Some m) None = Some m
+lesser (Some m) (Some n) = if nat_lt n m then Some n else Some m
+
+-- the least address that a claim shares with any of some others
+abbrev pub least_shared : List Claim → Claim → Option ℕ
+least_shared [] c = None
+least_shared (b ∷ bs) c = lesser (first_shared b c) (least_shared bs c)
+
+-- a claim shares an address with others
+abbrev pub clash_with : List Claim → Claim → List Refusal
+clash_with others c = elim (least_shared others c) [ None ↦ [] | Some a ↦ refusals.DuplicateAddress c.vpc a ∷ [] ]
+
+-- each address of an interface with those before it, its own and those of earlier interfaces
+abbrev pub address_clashes : List Claim → List Claim → List Refusal
+address_clashes earlier [] = []
+address_clashes earlier (c ∷ cs) = clash_with earlier c ++ address_clashes (earlier ++ c ∷ []) cs
+
+-- an interface's addresses, and then its blocks, which it may share with its own addresses and other blocks
+abbrev pub interface_clashes : Description → List Claim → Interface → List Refusal
+interface_clashes d earlier e = address_clashes earlier (address_claims d e) ++ flat_map (clash_with earlier) (prefix_claims d e)
+
+-- the interfaces, each with what those before it claim
+abbrev pub clashes_after : Description → List Claim → List Interface → List Refusal
+clashes_after d earlier [] = []
+clashes_after d earlier (e ∷ es) = interface_clashes d earlier e ++ clashes_after d (earlier ++ claims_of d e) es
+
+-- an address of a VPC is claimed twice (profile; within an interface's own blocks it may be)
 abbrev pub duplicate_addresses : Description → List Refusal
-duplicate_addresses d = map (λ a. refusals.DuplicateAddress a.0 a.1) (repeats same_address (private_addresses d))
+duplicate_addresses d = clashes_after d [] d.interfaces
 
 -- the public addresses of all interfaces
 abbrev pub public_addresses : Description → List ℕ
@@ -234,7 +290,7 @@ abbrev pub too_many_rows : Description → List Refusal
 too_many_rows d =
     too_long named.Vpcs (λ v. is_long v.blocks) d.vpcs
     ++ too_long named.Subnets (λ s. false) d.subnets
-    ++ too_long named.NetworkInterfaces (λ e. is_long e.addresses || is_long e.groups) d.interfaces
+    ++ too_long named.NetworkInterfaces (λ e. is_long e.addresses || (is_long e.prefixes || is_long e.groups)) d.interfaces
     ++ too_long named.RouteTables (λ t. is_long t.subnets || is_long t.routes) d.tables
     ++ too_long named.PrefixLists (λ l. is_long l.entries) d.lists
     ++ too_long named.NetworkAcls (λ a. is_long a.subnets || is_long a.rows) d.acls

@@ -98,9 +98,9 @@ cuts_of_box b =
 abbrev pub cuts_of_vpc : Vpc → CutLists
 cuts_of_vpc v = cuts_of_blocks (flat_map block_cuts v.blocks)
 
--- the cuts of an interface's addresses
+-- the cuts of an interface's addresses, and of the blocks that are delegated to it
 abbrev pub cuts_of_interface : Interface → CutLists
-cuts_of_interface e = cuts_of_blocks (flat_map pair_cuts e.addresses)
+cuts_of_interface e = cuts_of_blocks (flat_map pair_cuts e.addresses ++ flat_map block_cuts e.prefixes)
 
 -- the cuts of an ACL's rows
 abbrev pub cuts_of_acl : Acl → CutLists

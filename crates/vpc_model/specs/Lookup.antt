@@ -2,10 +2,11 @@
 -- accepted description every number that is asked for is in range and every id that is looked for is
 -- described; elsewhere the row is an empty one, and the number is the list's length.
 use Rattle.std.specs.List.{flat_map, list_any, position_or_len}
-use Rattle.std.specs.Prelude.{◌==◌, ◌&&◌, ◌∷◌, [], Bool, List, None, Option, Some, bytes_eq, false, find, length, option_map, position, slice_index_or, true, unwrap_or, ℕ}
+use Rattle.std.specs.Prelude.{◌==◌, ◌&&◌, ◌||◌, ◌∷◌, [], Bool, List, None, Option, Some, bytes_eq, false, find, length, option_map, position, slice_index_or, true, unwrap_or, ℕ}
 use Rattle.vpc_model.specs.Types.{Acl, AclNo, AttNo, Attachment, Block, Description, EniNo, Group, GroupNo, GroupScope, IgwNo, Interface, InternetGateway, NatGateway, NatNo, PeerNo, Peering, RouteTable, Subnet, SubnetNo, TableNo, TgwTable, TgwTableNo, Vpc, VpcNo}
 use Rattle.vpc_model.specs.declared.rows.InterfaceKind.TheVariants as kinds
 use Rattle.vpc_model.specs.declared.rows.NatLife.TheVariants as lives
+use Rattle.prefix_text.specs.Block.{holds}
 use Rattle.vpc_model.specs.Choice.{or_else}
 
 -- the id stands in the list
@@ -32,7 +33,7 @@ subnet_at d s = slice_index_or d.subnets s.0 no_subnet
 
 -- an interface that sends and receives nothing
 abbrev pub no_interface : Interface
-no_interface = record { id = []; subnet = []; primary = None; addresses = []; groups = []; checked = true; idle = true; kind = kinds.Host }
+no_interface = record { id = []; subnet = []; primary = None; addresses = []; prefixes = []; groups = []; checked = true; idle = true; kind = kinds.Host }
 
 -- a row of DescribeNetworkInterfaces (EC2 API, DescribeNetworkInterfaces)
 abbrev pub interface_at : Description → EniNo → Interface
@@ -198,9 +199,13 @@ vpc_of_interface d e = let s = subnet_at d (subnet_no d e.subnet) in s.vpc
 abbrev pub is_in_vpc : Description → VpcNo → Interface → Bool
 is_in_vpc d v e = let vpc = vpc_at d v in bytes_eq (vpc_of_interface d e) vpc.id
 
--- the private address is one of the interface's (EC2 API, DescribeNetworkInterfaces)
+-- the private address is assigned to the interface itself (EC2 API, DescribeNetworkInterfaces)
+abbrev pub is_assigned : Interface → ℕ → Bool
+is_assigned e a = list_any (λ x. x.0 == a) e.addresses
+
+-- the private address is one of the interface's: assigned to it, or in a block that is delegated to it (EC2 User Guide, "Prefix delegation")
 abbrev pub has_address : Interface → ℕ → Bool
-has_address e a = list_any (λ x. x.0 == a) e.addresses
+has_address e a = is_assigned e a || list_any (holds a) e.prefixes
 
 -- a private address, and its public one if it has one (EC2 API, DescribeNetworkInterfaces)
 abbrev pub both_addresses : ℕ × Option ℕ → List ℕ

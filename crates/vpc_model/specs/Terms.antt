@@ -1,6 +1,6 @@
 -- The definitions that longer pages take, from one place.
 pub use Rattle.vpc_model.specs.Access.{access_in, access_of, access_text, stops_at}
-pub use Rattle.vpc_model.specs.Accepted.{IsAccepted, duplicate_ids, first_cause, is_side, is_subnet_of, private_addresses, refusals_of, same_address}
+pub use Rattle.vpc_model.specs.Accepted.{Claim, IsAccepted, address_claims, claims_of, clash_with, clashes_after, duplicate_ids, first_cause, first_shared, is_side, is_subnet_of, least_shared, lesser, meets, prefix_claims, private_addresses, refusals_of, same_address}
 pub use Rattle.vpc_model.specs.Acls.{acl_verdict, verdict_of_row}
 pub use Rattle.vpc_model.specs.Appliances.{Appliances, appliances_of, boxes_at, passes}
 pub use Rattle.vpc_model.specs.Choice.{is_unbeaten, or_else}
@@ -10,7 +10,7 @@ pub use Rattle.vpc_model.specs.Filter.{far_address, is_between, matches_proto}
 pub use Rattle.vpc_model.specs.Groups.{are_on_one, are_over_transit, are_peers, first_rule, first_rule_of, is_inward, is_member, lets_name, may_name, names_address, no_permission, permission_allows, permissions_of, reference_counts, rule_of_group, vpc_of_rules, vpcs_of_group}
 pub use Rattle.vpc_model.specs.Id.{is_id}
 pub use Rattle.vpc_model.specs.Internet.{is_unroutable, owned_by, owner_of, pair_of, pairs_in, pairs_of, private_of, public_of}
-pub use Rattle.vpc_model.specs.Lookup.{acl_at, acl_of, addresses_in, attached_gateway, attachment_at, attachment_of_id, both_addresses, eni_no, entries_of, gateway_of, group_at, group_of_id, has_address, has_interface, has_subnet, has_vpc, host_of, igw_at, igw_no, interface_at, is_in_vpc, is_listed, nat_at, nat_no, no_acl, no_attachment, no_group, no_igw, no_interface, no_nat, no_peering, no_scope, no_subnet, no_table, no_tgw_table, no_vpc, peer_no, peering_at, subnet_at, subnet_no, subnet_of, table_at, table_of, tgw_table_at, tgw_table_of_id, vpc_at, vpc_no, vpc_of_interface, vpc_of_subnet}
+pub use Rattle.vpc_model.specs.Lookup.{acl_at, acl_of, addresses_in, attached_gateway, attachment_at, attachment_of_id, both_addresses, eni_no, entries_of, gateway_of, group_at, group_of_id, has_address, has_interface, has_subnet, has_vpc, host_of, igw_at, igw_no, interface_at, is_assigned, is_in_vpc, is_listed, nat_at, nat_no, no_acl, no_attachment, no_group, no_igw, no_interface, no_nat, no_peering, no_scope, no_subnet, no_table, no_tgw_table, no_vpc, peer_no, peering_at, subnet_at, subnet_no, subnet_of, table_at, table_of, tgw_table_at, tgw_table_of_id, vpc_at, vpc_no, vpc_of_interface, vpc_of_subnet}
 pub use Rattle.vpc_model.specs.Names.{name_text}
 pub use Rattle.vpc_model.specs.Nat.{Translation, first_free, first_port, free_port, inward, is_full, is_taken, is_translatable, new_translation, shares, translation_of}
 pub use Rattle.vpc_model.specs.Near.{cuts_of_hops, near_cuts}

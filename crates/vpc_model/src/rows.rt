@@ -51,6 +51,8 @@ pub struct Interface {
     pub primary: Option<u32>,
     /// The private addresses, each with its public address if it has one.
     pub addresses: OwnList<(u32, Option<u32>)>,
+    /// The blocks that are delegated to it: their addresses are its own as well, none of them with a public one.
+    pub prefixes: OwnList<Prefix>,
     pub groups: OwnList<Id>,
     /// Whether the source/destination check is on.
     pub checked: bool,
