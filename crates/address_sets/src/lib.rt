@@ -3,4 +3,4 @@
 
 mod sets;
 
-pub use sets::{AddressSet, Run};
+pub use sets::{AddressSet, Run, run_of};

@@ -14,7 +14,8 @@ pub struct Run {
     pub last: u32,
 }
 
-fn run_of(block: &Prefix) -> Run
+/// The addresses of a block.
+pub fn run_of(block: &Prefix) -> Run
     ensures { result ≡ run_of block.now }
 {
     Run {
@@ -118,7 +119,7 @@ impl AddressSet {
     ghost use Rattle.std.specs.Prelude.{[], IfOk, IsTrue, ℕ};
     ghost use Rattle.std.specs.List.{list_any};
     ghost use Rattle.prefix_text.specs.Block.{holds};
-    ghost use Rattle.address_sets.specs.Runs.{HaveBegun, IsStretch, is_in};
+    ghost use Rattle.address_sets.specs.Runs.{AreRuns, HaveBegun, IsStretch, is_in};
 
     /// No addresses.
     pub fn empty(alloc: Global) -> AddressSet
@@ -157,7 +158,8 @@ impl AddressSet {
 
     /// The runs, in ascending order.
     pub fn runs(&self) -> &[Run]
-        ensures { result.now ≡ self.now }
+        ensures same { result.now ≡ self.now }
+        ensures apart { AreRuns result.now }
     {
         self.runs.as_slice()
     }

@@ -4,3 +4,4 @@ pub mod KeyLemmas
 pub mod Following
 pub mod Between
 pub mod Pairs
+pub mod Apart

@@ -1,4 +1,5 @@
 pub mod Entries
 pub mod Keys
 pub mod Next
+pub mod Runs
 pub mod Above

@@ -14,7 +14,7 @@ use Rattle.vpc_model.specs.declared.rows.Vpc.{Vpc}
 use Rattle.reference_check.specs.Keys.{AreKeys, AreKnown, addresses_in, key_of, twice}
 
 -- ids that are found at one number are one id
-same_id : (vpcs : List Vpc) (a b : List ℕ) → list_any (λ v. bytes_eq v.id a) vpcs ≡ true → list_any (λ v. bytes_eq v.id b) vpcs ≡ true → position_or_len (λ v. bytes_eq v.id a) vpcs ≡ position_or_len (λ v. bytes_eq v.id b) vpcs → a ≡ b
+pub same_id : (vpcs : List Vpc) (a b : List ℕ) → list_any (λ v. bytes_eq v.id a) vpcs ≡ true → list_any (λ v. bytes_eq v.id b) vpcs ≡ true → position_or_len (λ v. bytes_eq v.id a) vpcs ≡ position_or_len (λ v. bytes_eq v.id b) vpcs → a ≡ b
 same_id vpcs a b ha hb e =
     let within_a : position_or_len (λ v. bytes_eq v.id a) vpcs < length vpcs = within (λ v. bytes_eq v.id a) ha in
     let within_b : position_or_len (λ v. bytes_eq v.id b) vpcs < length vpcs = within (λ v. bytes_eq v.id b) hb in

@@ -1,5 +1,8 @@
 pub mod Accepted
+pub mod Adding
+pub mod Alone
 pub mod Causes
+pub mod Delegating
 pub mod Described
 pub mod Distinct
 pub mod Firsts
@@ -8,8 +11,13 @@ pub mod LongLists
 pub mod Maps
 pub mod Marks
 pub mod NumberLemmas
+pub mod Positions
 pub mod VpcIds
+pub mod OwnClaims
 pub mod Owners
 pub mod Parts
 pub mod Repeats
+pub mod Shared
+pub mod Stretching
+pub mod Taking
 pub mod Told

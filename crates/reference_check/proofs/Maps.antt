@@ -1,5 +1,5 @@
 -- Tests and numbers over mapped lists.
-use Rattle.std.proofs.Common.{◌<◌, ◌≡◌, ◌∙◌, Bool, List, None, Some, ap, arith, cond, false, get_or, length, map, nat_lt, position, refl, sym, true, ℕ}
+use Rattle.std.proofs.Common.{[], ◌&&◌, ◌<◌, ◌||◌, ◌≡◌, ◌∙◌, ◌∷◌, Bool, List, None, Some, ap, arith, cond, false, get_or, length, map, nat_lt, position, refl, sym, true, ℕ}
 use Rattle.std.specs.List.{find, list_any, position_or_len, slice_get}
 use Rattle.std.specs.Prelude.{bytes_eq}
 use Rattle.std.proofs.lemmas.Bool.Decides.{nat_tests}
@@ -45,3 +45,17 @@ position_row f id ids xs same = rw same (position_map f (λ i. bytes_eq i id) (�
 pub read_row : {X : Type 0} (p : X → Bool) (xs : List X) (k : ℕ) (x : X) → IsFound p xs k → x ≡ get_or xs k x → Some x ≡ find p xs
 read_row p xs k x found at =
     sym (find_at p xs ∙ ap (slice_get xs) found.number ∙ slice_get-get_or xs k x found.within ∙ ap Some (sym at))
+
+-- a test beside one that is the same of each item
+pub and-any : {X : Type 0} (b : Bool) (f : X → Bool) (xs : List X) → list_any (λ x. b && f x) xs ≡ (list_any f xs && b)
+and-any b f [] = refl
+and-any b f (x ∷ xs) = ap (λ r. (b && f x) || r) (and-any b f xs) ∙ by b (f x) (list_any f xs)
+  where
+    by : (a c e : Bool) → ((a && c) || (e && a)) ≡ ((c || e) && a)
+    by true true e = refl
+    by true false true = refl
+    by true false false = refl
+    by false true true = refl
+    by false true false = refl
+    by false false true = refl
+    by false false false = refl

@@ -2,14 +2,14 @@
 use Rattle.std.proofs.Common.{Bool, List, None, Some, [], add-zero, ap, append_assoc, arith, bytes_eq, cond, drop, false, flat_map, get_or, length, map, nat_lt, not, position, refl, replicate, suc, sym, true, zero, zero-add, ℕ, ◌&&◌, ◌*◌, ◌++◌, ◌+◌, ◌<◌, ◌==◌, ◌^◌, ◌||◌, ◌∙◌, ◌∷◌, ◌≡◌}
 use Rattle.std.specs.List.{list_any, position_or_len}
 use Rattle.vpc_base.proofs.Lemmas.{bytes_eq-Decides, bytes_eq-comm, drop_more, get_or-append-add, get_or-map, get_or-replicate, get_or_append_left, length-append, length-map, length-replicate, list_any-append, list_any-position, list_any_at, list_any_map, missing_number, nat_tests, position-nowhere, position-there}
-use Rattle.vpc_model.specs.Terms.{duplicate_ids, has_address, has_vpc, is_in_vpc, private_addresses, same_address, vpc_at, vpc_of_interface}
+use Rattle.vpc_model.specs.Terms.{duplicate_ids, has_vpc, is_assigned, private_addresses, same_address, vpc_at, vpc_of_interface}
 use Rattle.vpc_laws.specs.Types.{Description, Interface, Vpc, VpcNo}
-use Rattle.reference_check.specs.Hosts.{owners_from}
+use Rattle.reference_check.specs.Hosts.{is_assigned_in, owners_from}
 use Rattle.reference_check.specs.Keys.{AreKeys, AreKnown, addresses_of, key_of}
 use Rattle.reference_check.proofs.Described.{vpcs-differ}
 use Rattle.reference_check.proofs.Distinct.{AreDistinct, distinct}
 use Rattle.reference_check.proofs.Keyed.{same_key}
-use Rattle.reference_check.proofs.Maps.{found_number}
+use Rattle.reference_check.proofs.Maps.{and-any, found_number}
 use Rattle.vpc_model.specs.Lookup.{no_vpc}
 
 -- the first that passes in two lists
@@ -56,22 +56,8 @@ owner {X = X} q g n (e ∷ es) d sizes h =
 
 -- ---- by keys
 
-and-any : {X : Type 0} (b : Bool) (f : X → Bool) (xs : List X) → list_any (λ x. b && f x) xs ≡ (list_any f xs && b)
-and-any b f [] = refl
-and-any b f (x ∷ xs) = ap (λ r. (b && f x) || r) (and-any b f xs) ∙ by b (f x) (list_any f xs)
-  where
-    by : (a c e : Bool) → ((a && c) || (e && a)) ≡ ((c || e) && a)
-    by true true true = refl
-    by true true false = refl
-    by true false true = refl
-    by true false false = refl
-    by false true true = refl
-    by false true false = refl
-    by false false true = refl
-    by false false false = refl
-
--- an interface of the VPC has the address
-pub host-test : (d : Description) (id : List ℕ) (a : ℕ) (e : Interface) → list_any (λ p. same_address p (id, a)) (addresses_of d e) ≡ (has_address e a && bytes_eq (vpc_of_interface d e) id)
+-- the address is assigned to an interface of the VPC
+pub host-test : (d : Description) (id : List ℕ) (a : ℕ) (e : Interface) → list_any (λ p. same_address p (id, a)) (addresses_of d e) ≡ (is_assigned e a && bytes_eq (vpc_of_interface d e) id)
 host-test d id a e =
     list_any_map (λ x. (vpc_of_interface d e, x.0)) (λ p. same_address p (id, a)) (λ x. bytes_eq (vpc_of_interface d e) id && (x.0 == a)) (λ x. refl) e.addresses
     ∙ and-any (bytes_eq (vpc_of_interface d e) id) (λ x. x.0 == a) e.addresses
@@ -106,13 +92,18 @@ number-of (v ∷ vs) (suc k) d differ within =
     let apart : bytes_eq v.id (get_or vs k d).id ≡ false = bytes_eq-comm v.id (get_or vs k d).id ∙ ap (λ i. bytes_eq i v.id) (sym row) ∙ other in
     rw apart (ap (λ n. 1 + n) (number-of vs k d differ.1 inner) ∙ omega arith)
 
--- ---- the interface of a VPC with an address
-
-abbrev pub is_host : Description → VpcNo → ℕ → Interface → Bool
-is_host d v a e = has_address e a && is_in_vpc d v e
+-- ---- the interface of a VPC to which an address is assigned
 
 abbrev pub id_of : Description → VpcNo → List ℕ
 id_of d v = let row = vpc_at d v in row.id
+
+-- the key of an address by the VPC's number is that by its id
+pub numbered-key : (d : Description) (v : VpcNo) (a : ℕ) → duplicate_ids d ≡ [] → v.0 < length d.vpcs → (v.0 * 4294967296 + a ≡ key_of d (id_of d v, a)) × (has_vpc d (id_of d v) ≡ true)
+numbered-key d v a differ within =
+    let id = id_of d v in
+    let number = number-of d.vpcs v.0 no_vpc (distinct (map (λ w. w.id) d.vpcs) (vpcs-differ d differ)) within in
+    let self : bytes_eq id id ≡ true = (bytes_eq-Decides id id).1 refl in
+    (ap (λ n. n * 4294967296 + a) (sym number), list_any_at (λ w. bytes_eq w.id id) d.vpcs v.0 no_vpc within self)
 
 -- what the key of an address finds is what its place among the addresses is
 pub record IsPlaced (d : Description) (keys : List ℕ) (v : VpcNo) (a : ℕ) : Type 0 where
@@ -122,10 +113,9 @@ pub record IsPlaced (d : Description) (keys : List ℕ) (v : VpcNo) (a : ℕ) : 
 placed : (d : Description) (keys : List ℕ) (v : VpcNo) (a : ℕ) → AreKeys d (private_addresses d) keys → duplicate_ids d ≡ [] → v.0 < length d.vpcs → a < 2 ^ 32 → IsPlaced d keys v a
 placed d keys v a are differ within small =
     let id = id_of d v in
-    let number = number-of d.vpcs v.0 no_vpc (distinct (map (λ w. w.id) d.vpcs) (vpcs-differ d differ)) within in
-    let self : bytes_eq id id ≡ true = (bytes_eq-Decides id id).1 refl in
-    let described : has_vpc d id ≡ true = list_any_at (λ w. bytes_eq w.id id) d.vpcs v.0 no_vpc within self in
-    let key : v.0 * 4294967296 + a ≡ key_of d (id, a) = ap (λ n. n * 4294967296 + a) (sym number) in
+    let numbered = numbered-key d v a differ within in
+    let described : has_vpc d id ≡ true = numbered.1 in
+    let key : v.0 * 4294967296 + a ≡ key_of d (id, a) = numbered.0 in
     let first = ap (λ k. position_or_len (λ n. n == k) keys) key ∙ ap (λ (ns : List ℕ). position_or_len (λ n. n == key_of d (id, a)) ns) are.same ∙ key-position d (id, a) (private_addresses d) described small are.known in
     let count : length keys ≡ length (private_addresses d) = ap length are.same ∙ length-map (private_addresses d) (key_of d) in
     record {
@@ -136,13 +126,13 @@ placed d keys v a are differ within small =
           ∙ sym (list_any-position (λ p. same_address p (id, a)) (private_addresses d));
     }
 
--- an address is there where an interface has it
-any-host : (d : Description) (v : VpcNo) (a : ℕ) → list_any (λ p. same_address p (id_of d v, a)) (private_addresses d) ≡ list_any (is_host d v a) d.interfaces
+-- an address is there where it is assigned
+any-host : (d : Description) (v : VpcNo) (a : ℕ) → list_any (λ p. same_address p (id_of d v, a)) (private_addresses d) ≡ list_any (is_assigned_in d v a) d.interfaces
 any-host d v a =
     any-flat (λ p. same_address p (id_of d v, a)) (addresses_of d) d.interfaces
     ∙ ap (λ (test : Interface → Bool). list_any test d.interfaces) (λ i e. host-test d (id_of d v) a e i)
 
-pub host-found : (d : Description) (keys owners : List ℕ) (v : VpcNo) (a k dflt : ℕ) → AreKeys d (private_addresses d) keys → owners ≡ owners_from 0 d.interfaces → duplicate_ids d ≡ [] → v.0 < length d.vpcs → a < 2 ^ 32 → position (λ n. n == v.0 * 4294967296 + a) keys ≡ Some k → position (is_host d v a) d.interfaces ≡ Some (get_or owners k dflt)
+pub host-found : (d : Description) (keys owners : List ℕ) (v : VpcNo) (a k dflt : ℕ) → AreKeys d (private_addresses d) keys → owners ≡ owners_from 0 d.interfaces → duplicate_ids d ≡ [] → v.0 < length d.vpcs → a < 2 ^ 32 → position (λ n. n == v.0 * 4294967296 + a) keys ≡ Some k → position (is_assigned_in d v a) d.interfaces ≡ Some (get_or owners k dflt)
 host-found d keys owners v a k dflt are owned differ within small h =
     let found = found_number (λ n. n == v.0 * 4294967296 + a) keys k h in
     let place = placed d keys v a are differ within small in
@@ -150,14 +140,14 @@ host-found d keys owners v a k dflt are owned differ within small h =
     let there : list_any q (private_addresses d) ≡ true = sym place.any ∙ found.there in
     let sizes : (e : Interface) → length (addresses_of d e) ≡ length e.addresses = λ e. length-map e.addresses (λ x. (vpc_of_interface d e, x.0)) in
     let whose = owner q (addresses_of d) 0 d.interfaces dflt sizes there in
-    let same : position_or_len (λ e. list_any q (addresses_of d e)) d.interfaces ≡ position_or_len (is_host d v a) d.interfaces = ap (λ (test : Interface → Bool). position_or_len test d.interfaces) (λ i e. host-test d (id_of d v) a e i) in
-    let at : get_or owners k dflt ≡ position_or_len (is_host d v a) d.interfaces = ap (λ (os : List ℕ). get_or os k dflt) owned ∙ ap (λ n. get_or (owners_from 0 d.interfaces) n dflt) (sym found.number ∙ place.first) ∙ whose ∙ zero-add _ ∙ same in
-    position-there (is_host d v a) d.interfaces (sym (any-host d v a) ∙ there) ∙ ap (λ (n : ℕ). Some n) (sym at)
+    let same : position_or_len (λ e. list_any q (addresses_of d e)) d.interfaces ≡ position_or_len (is_assigned_in d v a) d.interfaces = ap (λ (test : Interface → Bool). position_or_len test d.interfaces) (λ i e. host-test d (id_of d v) a e i) in
+    let at : get_or owners k dflt ≡ position_or_len (is_assigned_in d v a) d.interfaces = ap (λ (os : List ℕ). get_or os k dflt) owned ∙ ap (λ n. get_or (owners_from 0 d.interfaces) n dflt) (sym found.number ∙ place.first) ∙ whose ∙ zero-add _ ∙ same in
+    position-there (is_assigned_in d v a) d.interfaces (sym (any-host d v a) ∙ there) ∙ ap (λ (n : ℕ). Some n) (sym at)
 
-pub host-missing : (d : Description) (keys : List ℕ) (v : VpcNo) (a : ℕ) → AreKeys d (private_addresses d) keys → duplicate_ids d ≡ [] → v.0 < length d.vpcs → a < 2 ^ 32 → position (λ n. n == v.0 * 4294967296 + a) keys ≡ None → position (is_host d v a) d.interfaces ≡ None
+pub host-missing : (d : Description) (keys : List ℕ) (v : VpcNo) (a : ℕ) → AreKeys d (private_addresses d) keys → duplicate_ids d ≡ [] → v.0 < length d.vpcs → a < 2 ^ 32 → position (λ n. n == v.0 * 4294967296 + a) keys ≡ None → position (is_assigned_in d v a) d.interfaces ≡ None
 host-missing d keys v a are differ within small h =
     let place = placed d keys v a are differ within small in
-    position-nowhere (is_host d v a) d.interfaces (sym (any-host d v a) ∙ sym place.any ∙ missing_number (λ n. n == v.0 * 4294967296 + a) keys h)
+    position-nowhere (is_assigned_in d v a) d.interfaces (sym (any-host d v a) ∙ sym place.any ∙ missing_number (λ n. n == v.0 * 4294967296 + a) keys h)
 
 -- an owner for each key
 owners-length : {X : Type 0} (g : Interface → List X) (n : ℕ) (es : List Interface) → ((e : Interface) → length (g e) ≡ length e.addresses) → length (owners_from n es) ≡ length (flat_map g es)

@@ -1,5 +1,5 @@
 -- What is told of causes one after another.
-use Rattle.std.proofs.Common.{◌+◌, ◌++◌, ◌<◌, ◌≡◌, ◌∷◌, [], List, None, Option, drop, get_or, length, refl, subst, sym, ℕ}
+use Rattle.std.proofs.Common.{◌+◌, ◌++◌, ◌<◌, ◌≡◌, ◌∙◌, ◌∷◌, [], List, None, Option, Result, drop, get_or, length, refl, subst, sym, ℕ}
 use Rattle.std.specs.List.{flat_map}
 use Rattle.std.proofs.lemmas.Grind.{flat_map-append}
 use Rattle.std.proofs.lemmas.List.{drop_more}
@@ -11,7 +11,7 @@ use Rattle.vpc_model.specs.declared.rows.Group.{Group}
 use Rattle.vpc_model.specs.declared.rows.RouteTable.{RouteTable}
 use Rattle.reference_check.specs.Missing.{missing_of_rule}
 use Rattle.vpc_model.specs.declared.refusals.Refusal.TheVariants as refusals
-use Rattle.reference_check.specs.Told.{IsTold}
+use Rattle.reference_check.specs.Told.{IsTold, Tells}
 
 -- where there is no cause, memory was refused
 pub told_none : (first : Option Refusal) (cause : Refusal) → IsTold None cause → IsTold first cause
@@ -46,3 +46,9 @@ told_subnets d t cause none h =
     let subnets = flat_map (λ (x : List ℕ). wanted (is_subnet_of d t.vpc x) t.id x) t.subnets in
     told_first (wanted (has_vpc d t.vpc) t.id t.vpc ++ subnets) (flat_map (missing_of_route d t) t.routes) cause
     (told_second (wanted (has_vpc d t.vpc) t.id t.vpc) subnets cause none h)
+
+-- where there is no cause of either kind
+pub tells_none : {A : Type 0} (xs ys : List Refusal) (r : Result A Refusal) → xs ≡ [] → ys ≡ [] → Tells ys r → Tells xs r
+tells_none {A} xs ys r none nor told =
+    let P : List Refusal → Type 0 = λ causes. Tells {A = A} causes r in
+    subst P (nor ∙ sym none) told

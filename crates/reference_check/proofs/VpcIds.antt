@@ -1,12 +1,11 @@
 -- VPCs by their ids and numbers.
-use Rattle.std.proofs.Common.{◌≡◌, ◌∙◌, ◌==◌, [], ℕ, Contains, List, ap, bytes_eq, get_or, inl, inr, sym, true}
+use Rattle.std.proofs.Common.{◌≡◌, ◌∙◌, ◌==◌, ℕ, Contains, List, ap, bytes_eq, get_or, inl, inr, sym, true}
 use Rattle.std.proofs.lemmas.Bool.{both_ways, cases_Bool, eq-eqb, ne_eqb}
 use Rattle.vpc_base.proofs.Bytes.{bytes_self, same_bytes}
 use Rattle.vpc_base.proofs.Members.{row-member}
 use Rattle.vpc_model.specs.declared.numbers.VpcNo.{VpcNo}
 use Rattle.vpc_model.specs.declared.rows.Description.{Description}
 use Rattle.vpc_model.specs.declared.rows.Interface.{Interface}
-use Rattle.vpc_model.specs.declared.rows.Vpc.{Vpc}
 use Rattle.vpc_model.specs.Accepted.{IsAccepted}
 use Rattle.vpc_model.specs.Lookup.{has_vpc, no_subnet, no_vpc, subnet_at, subnet_no, vpc_at, vpc_no, vpc_of_interface}
 use Rattle.vpc_model.specs.Sound.{is_vpc}

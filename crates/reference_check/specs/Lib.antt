@@ -1,7 +1,10 @@
 pub mod AllNumbered
 pub mod Attached
+pub mod Blocks
 pub mod Causes
+pub mod Claimed
 pub mod Claims
+pub mod Delegated
 pub mod FirstNumbers
 pub mod Hosts
 pub mod Keys
@@ -10,4 +13,5 @@ pub mod LongLists
 pub mod Missing
 pub mod Network
 pub mod Numbered
+pub mod Taken
 pub mod Told

@@ -10,7 +10,7 @@ abbrev pub long_networks : Description → List Refusal
 long_networks d =
     too_long named.Vpcs (λ v. is_long v.blocks) d.vpcs
     ++ (too_long named.Subnets (λ s. false) d.subnets
-    ++ (too_long named.NetworkInterfaces (λ e. is_long e.addresses || is_long e.groups) d.interfaces
+    ++ (too_long named.NetworkInterfaces (λ e. is_long e.addresses || (is_long e.prefixes || is_long e.groups)) d.interfaces
     ++ (too_long named.RouteTables (λ t. is_long t.subnets || is_long t.routes) d.tables
     ++ too_long named.PrefixLists (λ l. is_long l.entries) d.lists)))
 

@@ -1,17 +1,20 @@
 // Addresses that stand twice, and the interfaces that have them.
 ghost use Rattle.std.specs.Prelude.{◌≡◌, ◌==◌, ◌++◌, ◌∷◌, [], IfOk, IsTrue, List, OnOk, map, not, ℕ};
 ghost use Rattle.std.specs.List.{filter_map, flat_map, list_any};
-ghost use Rattle.vpc_model.specs.Accepted.{duplicate_addresses, duplicate_publics, missing_references, private_addresses, repeats_after, same_address};
-ghost use Rattle.vpc_model.specs.Lookup.{has_subnet, has_vpc, subnet_at, subnet_no, vpc_no};
+ghost use Rattle.vpc_model.specs.Accepted.{duplicate_addresses, duplicate_publics, missing_references, private_addresses, repeats, repeats_after, same_address};
+ghost use Rattle.vpc_model.specs.Lookup.{has_subnet, has_vpc, vpc_no};
 ghost use Rattle.vpc_model.specs.declared.refusals.Refusal.TheVariants.{DuplicatePublic};
+ghost use Rattle.reference_check.specs.Claimed.{has_prefixes};
 ghost use Rattle.reference_check.specs.Keys.{AreKeys, addresses_in, addresses_of, twice};
 ghost use Rattle.reference_check.specs.Numbered.{AreNetworkIds};
 ghost use Rattle.reference_check.specs.Told.{Tells};
 
+use crate::clashes::check_claims;
 use crate::directory::NetworkIds;
 use crate::numbers::Numbers;
+use crate::places::{number_of_vpc, subnet_of};
 use std::alloc::{AllocError, Global};
-use vpc_model::{Description, Id, Interface, Refusal, Subnet};
+use vpc_model::{Description, Id, Interface, Refusal};
 
 // Adds the public addresses of an interface.
 fn add_publics(publics: &mut Numbers, addresses: &[(u32, Option<u32>)]) -> Result<(), Refusal>
@@ -84,31 +87,6 @@ fn add_addresses(
     Ok(())
 }
 
-// The subnet of an interface.
-fn subnet_of<'a>(d: &'a Description, ids: &NetworkIds, interface: &Interface) -> &'a Subnet
-    requires numbered { AreNetworkIds d.now ids.now }
-    requires described { IsTrue (has_subnet d.now interface.now.subnet) }
-    ensures { result.now ≡ subnet_at d.now (subnet_no d.now interface.now.subnet) }
-{
-    match ids.subnets.number(interface.subnet.bytes()) {
-        Some(k) => &d.subnets.as_slice()[k],
-        None => unreachable!(),
-    }
-}
-
-// The number of a VPC.
-fn number_of_vpc(d: &Description, ids: &NetworkIds, vpc: &Id) -> usize
-    requires numbered { AreNetworkIds d.now ids.now }
-    requires described { IsTrue (has_vpc d.now vpc.now) }
-    ensures { result ≡ (vpc_no d.now vpc.now).0 }
-{
-    let _ = d;
-    match ids.vpcs.number(vpc.bytes()) {
-        Some(v) => v,
-        None => unreachable!(),
-    }
-}
-
 // Adds the private addresses of an interface in its VPC.
 fn add_interface(
     alloc: Global,
@@ -141,12 +119,11 @@ fn add_interface(
     )
 }
 
-/// The keys of all private addresses, or the first address that stands twice in a VPC. The references of
-/// the description were checked.
-pub fn private_keys(alloc: Global, d: &Description, ids: &NetworkIds) -> Result<Numbers, Refusal>
+// The keys of all assigned addresses, or the first that stands twice in a VPC.
+fn assigned_keys(alloc: Global, d: &Description, ids: &NetworkIds) -> Result<Numbers, Refusal>
     requires numbered { AreNetworkIds d.now ids.now }
     requires complete { missing_references d.now ≡ [] }
-    ensures told { Tells (duplicate_addresses d.now) result }
+    ensures told { Tells (map twice (repeats same_address (private_addresses d.now))) result }
     ensures keys { IfOk result (λ keys. AreKeys d.now (private_addresses d.now) keys) }
 {
     let mut keys = Numbers::new(alloc);
@@ -154,4 +131,40 @@ pub fn private_keys(alloc: Global, d: &Description, ids: &NetworkIds) -> Result<
         add_interface(alloc, &mut keys, d, ids, interface)?;
     }
     Ok(keys)
+}
+
+// Whether an interface has a delegated block.
+fn has_prefixes(d: &Description) -> bool
+    ensures { result ≡ has_prefixes d.now }
+{
+    d.interfaces
+        .as_slice()
+        .iter()
+        .any(|e| e.prefixes.as_slice().len() > 0)
+}
+
+// The same keys, or the first address that is claimed twice in a VPC.
+fn checked_keys(alloc: Global, d: &Description, ids: &NetworkIds) -> Result<Numbers, Refusal>
+    requires numbered { AreNetworkIds d.now ids.now }
+    requires complete { missing_references d.now ≡ [] }
+    ensures told { Tells (duplicate_addresses d.now) result }
+    ensures keys { IfOk result (λ keys. AreKeys d.now (private_addresses d.now) keys) }
+{
+    check_claims(alloc, d, ids)?;
+    assigned_keys(alloc, d, ids)
+}
+
+/// The keys of all assigned addresses, or the first address that is claimed twice in a VPC. The references of the
+/// description were checked.
+pub fn private_keys(alloc: Global, d: &Description, ids: &NetworkIds) -> Result<Numbers, Refusal>
+    requires numbered { AreNetworkIds d.now ids.now }
+    requires complete { missing_references d.now ≡ [] }
+    ensures told { Tells (duplicate_addresses d.now) result }
+    ensures keys { IfOk result (λ keys. AreKeys d.now (private_addresses d.now) keys) }
+{
+    if has_prefixes(d) {
+        checked_keys(alloc, d, ids)
+    } else {
+        assigned_keys(alloc, d, ids)
+    }
 }

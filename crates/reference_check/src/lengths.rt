@@ -50,10 +50,11 @@ impl HasLists for Subnet {
 impl HasLists for Interface {
     ghost use Rattle.std.specs.Prelude.{◌||◌};
 
-    ghost is_long_row = { λ e. is_long e.addresses || is_long e.groups };
+    ghost is_long_row = { λ e. is_long e.addresses || (is_long e.prefixes || is_long e.groups) };
 
     fn has_long_list(&self) -> bool {
-        is_long(self.addresses.as_slice()) || is_long(self.groups.as_slice())
+        is_long(self.addresses.as_slice())
+            || (is_long(self.prefixes.as_slice()) || is_long(self.groups.as_slice()))
     }
 }
 

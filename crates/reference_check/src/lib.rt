@@ -3,6 +3,8 @@
 
 mod addresses;
 mod claims;
+mod clashes;
+mod delegated;
 mod directory;
 mod duplicates;
 mod first_numbers;
@@ -12,9 +14,11 @@ mod lengths;
 mod network;
 mod numbered;
 mod numbers;
+mod places;
 mod references;
 mod rows;
 mod subnets;
+mod taken;
 
 pub use first_numbers::{FirstNumbers, Naming};
 pub use network::Network;

@@ -2,7 +2,7 @@
 ghost use Rattle.std.specs.Prelude.{◌≡◌, List};
 ghost use Rattle.std.specs.List.{flat_map};
 ghost use Rattle.vpc_model.specs.Accepted.{is_interface_in, is_side, is_subnet_of, missing_of_life, missing_of_reach, missing_of_route, missing_of_target, missing_references, serves_vpc, wanted};
-ghost use Rattle.vpc_model.specs.Lookup.{has_address};
+ghost use Rattle.vpc_model.specs.Lookup.{is_assigned};
 ghost use Rattle.reference_check.specs.Kinds.{has_row};
 ghost use Rattle.reference_check.specs.Missing.{has_interface_for, has_nat_for, has_peering_for, missing_by_part, missing_filters, missing_gateways, missing_networks, missing_of_rule};
 ghost use Rattle.reference_check.specs.Told.{Tells};
@@ -280,9 +280,9 @@ impl Refers for InternetGateway {
     }
 }
 
-// Whether the address is one of the interface's.
-fn has_address(interface: &Interface, address: u32) -> bool
-    ensures { result ≡ has_address interface.now address }
+// Whether the address is assigned to the interface.
+fn is_assigned(interface: &Interface, address: u32) -> bool
+    ensures { result ≡ is_assigned interface.now address }
 {
     interface
         .addresses
@@ -297,7 +297,7 @@ fn is_interface_in(rows: &Directory, subnet: &Id, id: &Id, address: u32) -> bool
 {
     match rows.interface(id) {
         Some(interface) => {
-            interface.subnet.bytes() == subnet.bytes() && has_address(interface, address)
+            interface.subnet.bytes() == subnet.bytes() && is_assigned(interface, address)
         }
         None => false,
     }

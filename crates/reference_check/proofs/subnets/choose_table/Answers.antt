@@ -1,4 +1,4 @@
-use Rattle.std.proofs.Common.{◌≡◌, ◌∙◌, [], List, Option, ap, get_or, position, subst, sym, true, ℕ}
+use Rattle.std.proofs.Common.{◌≡◌, ◌∙◌, List, Option, ap, get_or, position, subst, sym, true, ℕ}
 use Rattle.std.proofs.lemmas.List.{get_or_default}
 use Rattle.vpc_model.specs.Accepted.{is_main_of, is_table_of}
 use Rattle.vpc_model.specs.Choice.{or_else}

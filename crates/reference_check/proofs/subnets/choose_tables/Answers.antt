@@ -1,7 +1,6 @@
 use Rattle.std.proofs.Common.{◌++◌, ◌<◌, ◌∙◌, ◌∷◌, [], List, Option, ap, length, map, sym, take, ℕ}
 use Rattle.std.proofs.lemmas.Grind.{take_at_read}
 use Rattle.std.proofs.lemmas.List.{map-append}
-use Rattle.vpc_model.specs.declared.rows.Subnet.{Subnet}
 use Rattle.reference_check.specs.Attached.{chosen_table}
 use Rattle.reference_check.proofs.subnets.choose_tables.Goals as goal
 use Rattle.vpc_model.specs.Lookup.{no_subnet}

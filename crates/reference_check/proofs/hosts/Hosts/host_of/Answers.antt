@@ -1,32 +1,26 @@
-use Rattle.std.proofs.Common.{◌<◌, ◌∙◌, Some, ap, arith, length, option_map, rules, sym, ℕ}
+use Rattle.std.proofs.Common.{◌∙◌, Option, ap, arith, sym}
+use Rattle.vpc_laws.proofs.Accepting.{accepted_is_faultless}
+use Rattle.vpc_laws.proofs.Hosting.{hosts_are_assigned_or_delegated}
+use Rattle.vpc_laws.specs.Hosts.{delegated_host}
+use Rattle.vpc_model.specs.Choice.{or_else}
 use Rattle.vpc_model.specs.declared.numbers.EniNo.{EniNo}
-use Rattle.reference_check.proofs.Maps.{found_number}
-use Rattle.reference_check.proofs.Owners.{host-found, host-missing, is_host, owner-within}
 use Rattle.reference_check.proofs.hosts.Hosts.host_of.Goals as goal
 
-pub index-requires : goal.index-requires
-index-requires c =
-    let within : c.in-Some.k < length c.args.self.now.owners.items = owner-within c.args.d.now c.args.self.now.keys c.args.self.now.owners.items c.in-Some.k c.requires.hosts.addresses c.requires.hosts.owners c.in-Some.ensures.within in
-    search rules
+pub assigned-requires-clause-differ : goal.assigned-requires-clause-differ
+assigned-requires-clause-differ c = (accepted_is_faultless c.args.d.now c.requires.accepted).ids
 
-pub overflow_cast-result : goal.overflow_cast-result
-overflow_cast-result c =
-    let small : c.args.address < 4294967296 = omega arith in
-    let found = host-found c.args.d.now c.args.self.now.keys c.args.self.now.owners.items c.args.v c.args.address c.in-Some.k c.index.result.now c.requires.hosts.addresses c.requires.hosts.owners c.requires.differ c.requires.within small (sym c.in-Some.ensures.number) in
-    let row = found_number (is_host c.args.d.now c.args.v c.args.address) c.args.d.now.interfaces c.index.result.now (found ∙ ap (λ (n : ℕ). Some n) (sym c.index.ensures)) in
-    let within : c.index.result.now < length c.args.d.now.interfaces = row.within in
-    omega arith
+pub delegated-requires-clause-differ : goal.delegated-requires-clause-differ
+delegated-requires-clause-differ c = (accepted_is_faultless c.args.d.now c.requires.accepted).ids
 
 pub returns-in-Some : goal.returns-in-Some
 returns-in-Some c =
-    let small : c.args.address < 4294967296 = omega arith in
-    let found = host-found c.args.d.now c.args.self.now.keys c.args.self.now.owners.items c.args.v c.args.address c.in-Some.k c.index.result.now c.requires.hosts.addresses c.requires.hosts.owners c.requires.differ c.requires.within small (sym c.in-Some.ensures.number) in
-    let numbered : ℕ → EniNo = λ n. record { 0 = n } in
-    ap (λ (n : ℕ). Some (numbered n)) c.index.ensures ∙ ap (option_map numbered) (sym found)
+    let d = c.args.d.now in
+    ap (λ (o : Option EniNo). or_else o (delegated_host d c.args.v c.args.address)) (sym c.in-Some.is ∙ c.assigned.ensures)
+    ∙ sym (hosts_are_assigned_or_delegated d c.args.v c.args.address c.requires.accepted)
 
 pub returns-in-None : goal.returns-in-None
 returns-in-None c =
-    let small : c.args.address < 4294967296 = omega arith in
-    let missing = host-missing c.args.d.now c.args.self.now.keys c.args.v c.args.address c.requires.hosts.addresses c.requires.differ c.requires.within small (sym c.in-None.ensures.number) in
-    let numbered : ℕ → EniNo = λ n. record { 0 = n } in
-    ap (option_map numbered) (sym missing)
+    let d = c.args.d.now in
+    sym (c.delegated.ensures.alike c.args.address (omega arith) c.delegated.ensures.from)
+    ∙ ap (λ (o : Option EniNo). or_else o (delegated_host d c.args.v c.args.address)) (sym c.in-None.is ∙ c.assigned.ensures)
+    ∙ sym (hosts_are_assigned_or_delegated d c.args.v c.args.address c.requires.accepted)

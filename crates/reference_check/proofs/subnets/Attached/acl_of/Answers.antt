@@ -1,4 +1,4 @@
-use Rattle.std.proofs.Common.{◌<◌, ◌∙◌, [], ap, arith, get_or, length, sym, ℕ}
+use Rattle.std.proofs.Common.{◌<◌, ◌∙◌, ap, arith, get_or, length, sym, ℕ}
 use Rattle.vpc_model.specs.Lookup.{is_listed, no_subnet}
 use Rattle.vpc_model.specs.declared.numbers.AclNo.{AclNo}
 use Rattle.vpc_model.specs.declared.rows.Acl.{Acl}

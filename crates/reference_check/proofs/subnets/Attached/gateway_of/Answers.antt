@@ -1,4 +1,4 @@
-use Rattle.std.proofs.Common.{◌<◌, ◌∙◌, [], ap, arith, get_or, length, option_map, sym, ℕ}
+use Rattle.std.proofs.Common.{◌<◌, ◌∙◌, ap, arith, get_or, length, option_map, sym, ℕ}
 use Rattle.vpc_model.specs.Lookup.{is_listed, no_vpc}
 use Rattle.vpc_model.specs.declared.numbers.IgwNo.{IgwNo}
 use Rattle.vpc_model.specs.declared.rows.InternetGateway.{InternetGateway}

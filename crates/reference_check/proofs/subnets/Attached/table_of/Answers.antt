@@ -1,8 +1,7 @@
-use Rattle.std.proofs.Common.{◌<◌, ◌∙◌, [], List, Option, ap, arith, get_or, length, sym, unwrap_or, ℕ}
+use Rattle.std.proofs.Common.{◌<◌, ◌∙◌, List, Option, ap, arith, get_or, length, sym, unwrap_or, ℕ}
 use Rattle.std.proofs.lemmas.List.{get_or-map}
 use Rattle.vpc_model.specs.Accepted.{is_main_of, is_table_of}
 use Rattle.vpc_model.specs.declared.numbers.TableNo.{TableNo}
-use Rattle.vpc_model.specs.declared.rows.Subnet.{Subnet}
 use Rattle.reference_check.specs.Attached.{chosen_table}
 use Rattle.reference_check.proofs.Firsts.{or_else-within}
 use Rattle.reference_check.proofs.subnets.Attached.table_of.Goals as goal

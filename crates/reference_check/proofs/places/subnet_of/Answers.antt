@@ -2,7 +2,7 @@ use Rattle.std.proofs.Common.{◌∙◌, sym}
 use Rattle.std.proofs.lemmas.List.{get_or_default}
 use Rattle.vpc_model.specs.declared.rows.Subnet.{Subnet}
 use Rattle.reference_check.proofs.Maps.{found_row, missing_row}
-use Rattle.reference_check.proofs.addresses.subnet_of.Goals as goal
+use Rattle.reference_check.proofs.places.subnet_of.Goals as goal
 
 pub returns : goal.returns
 returns c =

@@ -1,7 +1,7 @@
 use Rattle.std.proofs.Common.{◌∙◌, sym}
 use Rattle.vpc_model.specs.declared.rows.Vpc.{Vpc}
 use Rattle.reference_check.proofs.Maps.{found_row, missing_row}
-use Rattle.reference_check.proofs.addresses.number_of_vpc.Goals as goal
+use Rattle.reference_check.proofs.places.number_of_vpc.Goals as goal
 
 pub returns : goal.returns
 returns c =

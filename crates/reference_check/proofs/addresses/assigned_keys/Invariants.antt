@@ -2,7 +2,7 @@ use Rattle.std.proofs.Common.{◌≡◌, drop, take}
 use Rattle.std.specs.List.{flat_map}
 use Rattle.vpc_model.specs.Accepted.{private_addresses, repeats, repeats_after, same_address}
 use Rattle.reference_check.specs.Keys.{AreKeys, addresses_of}
-use Rattle.reference_check.proofs.addresses.private_keys.Given as goal
+use Rattle.reference_check.proofs.addresses.assigned_keys.Given as goal
 
 abbrev pub invariant-loop-interface : goal.invariant-loop-interface
 invariant-loop-interface l = record {
