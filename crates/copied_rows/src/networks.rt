@@ -36,6 +36,7 @@ impl CopiedRow for Interface {
             subnet: self.subnet.copied(alloc)?,
             primary: self.primary,
             addresses: copied_values(alloc, &self.addresses)?,
+            prefixes: copied_values(alloc, &self.prefixes)?,
             groups: copied_list(alloc, &self.groups)?,
             checked: self.checked,
             idle: self.idle,

@@ -1,10 +1,12 @@
 -- A generated network is accepted: one kind of refusal at a time.
-use Rattle.std.proofs.Common.{◌==◌, ◌≡◌, ◌≤◌, ◌∙◌, ◌∷◌, ◌||◌, [], Bool, List, ap, arith, bytes_eq, codes, false, map, nat_le, nat_lt, ne_eqb, not, refl, true, ℕ}
+use Rattle.std.proofs.Common.{◌==◌, ◌≡◌, ◌≤◌, ◌∙◌, ◌∷◌, ◌||◌, [], Bool, List, ap, arith, bytes_eq, codes, false, length, map, nat_le, nat_lt, ne_eqb, not, refl, true, ℕ}
 use Rattle.std.specs.List.{count_by, filter, filter_map, list_any}
 use Rattle.std.proofs.lemmas.Bool.{and_right, or_left}
 use Rattle.std.proofs.lemmas.Bool.Decides.{nat_tests}
 use Rattle.std.proofs.lemmas.List.FromFn.{length-map-range_with_len}
 use Rattle.vpc_base.proofs.Members.{nothing-append}
+use Rattle.reference_check.proofs.Alone.{assigned-alone}
+use Rattle.reference_check.specs.Claimed.{has_prefixes}
 use Rattle.vpc_laws.proofs.Accepting.{faultless_is_accepted}
 use Rattle.vpc_laws.proofs.Lengths.{too_long-none}
 use Rattle.vpc_model.specs.Accepted.{duplicate_addresses, duplicate_ids, duplicate_publics, duplicates_in, holds_twice, ids_by_list, is_long, is_long_group, is_main_of, is_table_of, public_addresses, repeats, same_address, too_long, too_many_rows, two_acls, two_gateways, two_tables, without_acl, without_table}
@@ -72,12 +74,16 @@ addresses-differ vpc_of n j k from below to =
     let other : (host_address k == host_address j) ≡ false = ne_eqb (host_address k) (host_address j) (λ same. omega (arith, same, below)) in
     and_right (bytes_eq (vpc_of k) (vpc_of j)) (host_address k == host_address j) other
 
+no-prefixes : (n : ℕ) → has_prefixes (made n) ≡ false
+no-prefixes n = list_any-none (λ (e : Interface). nat_lt 0 (length e.prefixes)) made_interface 1 n (λ k. refl)
+
 no-duplicate_addresses : (n : ℕ) → duplicate_addresses (made n) ≡ []
 no-duplicate_addresses n =
     let d = made n in
     let vpc_of : ℕ → List ℕ = λ k. vpc_of_interface d (made_interface k) in
     let addresses = flat_map-single (λ (e : Interface). map (λ (x : ℕ × _). (vpc_of_interface d e, x.0)) e.addresses) made_interface (λ k. (vpc_of k, host_address k)) 1 n (λ k. refl) in
-    ap (λ (xs : List (List ℕ × ℕ)). map (λ (a : List ℕ × ℕ). refusals.DuplicateAddress a.0 a.1) (repeats same_address xs)) addresses
+    assigned-alone d (no-prefixes n)
+    ∙ ap (λ (xs : List (List ℕ × ℕ)). map (λ (a : List ℕ × ℕ). refusals.DuplicateAddress a.0 a.1) (repeats same_address xs)) addresses
     ∙ ap (map (λ (a : List ℕ × ℕ). refusals.DuplicateAddress a.0 a.1)) (repeats-each same_address (λ k. (vpc_of k, host_address k)) 1 n (addresses-differ vpc_of n))
 
 no-duplicate_publics : (n : ℕ) → duplicate_publics (made n) ≡ []
@@ -150,7 +156,7 @@ no-long_lists n most =
       (
         short-lists named.Subnets (λ (s : Subnet). false) made_subnet n most (λ k. refl),
         (
-          short-lists named.NetworkInterfaces (λ (e : Interface). is_long e.addresses || is_long e.groups) made_interface n most (λ k. refl),
+          short-lists named.NetworkInterfaces (λ (e : Interface). is_long e.addresses || (is_long e.prefixes || is_long e.groups)) made_interface n most (λ k. refl),
           (
             short-lists named.RouteTables (λ (t : RouteTable). is_long t.subnets || is_long t.routes) made_table n most (λ k. refl),
             (

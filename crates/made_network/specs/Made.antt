@@ -75,6 +75,7 @@ made_interface k = record {
   subnet = subnet_id k;
   primary = Some (host_address k);
   addresses = (host_address k, None) ∷ [];
+  prefixes = [];
   groups = group_id k ∷ [];
   checked = true;
   idle = false;

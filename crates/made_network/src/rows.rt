@@ -71,6 +71,7 @@ impl MadeRow for Interface {
             subnet: numbered(alloc, "subnet", number)?,
             primary: Some(address),
             addresses: only_row(alloc, (address, None))?,
+            prefixes: no_rows(alloc),
             groups: only_row(alloc, numbered(alloc, "sg", number)?)?,
             checked: true,
             idle: false,

@@ -3,9 +3,10 @@ use Rattle.std.specs.Prelude.{ℕ, ◌∷◌, ◌==◌, ◌&&◌, ◌||◌, ◌+
 use Rattle.std.specs.List.{list_any}
 use Rattle.serde_json.specs.Data.{Data}
 use Rattle.json_fields.specs.FieldFault.{and_then}
-use Rattle.json_fields.specs.Fields.{addr_of_field, flag_of, has_text, id_of, needed, text_of, within_part}
+use Rattle.json_fields.specs.Fields.{addr_of_field, flag_of, has_text, id_of, needed, prefix_of_field, text_of, within_part}
 use Rattle.json_fields.specs.Kept.{each_item}
 use Rattle.json_fields.specs.declared.fault.FieldFault.{FieldFault}
+use Rattle.prefix_text.specs.Block.{Block}
 use Rattle.vpc_model.specs.declared.rows.Interface.{Interface}
 use Rattle.vpc_model.specs.declared.rows.InterfaceKind.{InterfaceKind}
 use Rattle.vpc_model.specs.declared.rows.InterfaceKind.TheVariants.{Host, Gateway}
@@ -78,6 +79,10 @@ manner_of row path =
     and_then (kind_at row path) (λ kind.
     Ok (record { groups = groups; checked = unwrap_or checked true; idle = idle; kind = kind })))))
 
+-- a block that is delegated to an interface
+abbrev pub delegated_prefix : Data → List ℕ → Result Block FieldFault
+delegated_prefix item path = needed prefix_of_field item path (codes "Ipv4Prefix")
+
 -- an interface
 abbrev pub interface_of : Data → List ℕ → Result Interface FieldFault
 interface_of row path =
@@ -85,13 +90,15 @@ interface_of row path =
     and_then (id_of row path (codes "SubnetId")) (λ subnet.
     and_then (addresses_of row path) (λ addresses.
     and_then (manner_of row path) (λ manner.
+    and_then (each_item delegated_prefix row path (codes "Ipv4Prefixes")) (λ prefixes.
     Ok (record {
       id = id;
       subnet = subnet;
       primary = addresses.primary;
       addresses = addresses.all;
+      prefixes = prefixes;
       groups = manner.groups;
       checked = manner.checked;
       idle = manner.idle;
       kind = manner.kind;
-    })))))
+    }))))))

@@ -2,13 +2,14 @@
 ghost use Rattle.std.specs.Prelude.{◌≡◌, IfOk};
 ghost use Rattle.serde_json.specs.View.{view};
 ghost use Rattle.json_fields.specs.FieldFault.{Reads};
-ghost use Rattle.read_network.specs.Interfaces.{addresses_of, group_id, interface_of, is_listed, kind_at, manner_of, private_address, with_primary};
+ghost use Rattle.read_network.specs.Interfaces.{addresses_of, delegated_prefix, group_id, interface_of, is_listed, kind_at, manner_of, private_address, with_primary};
 
 use crate::types::kind_of;
 use json_fields::{
     FieldFault, Path, ReadRow, addr_at, addr_if, addr_if_within, flag_if, has_text, id_at,
-    read_items, str_if,
+    prefix_at, read_items, str_if,
 };
+use prefix_text::Prefix;
 use serde_json::Value;
 use std::alloc::{AllocError, Global};
 use vpc_base::OwnList;
@@ -127,6 +128,19 @@ fn manner_of(alloc: Global, row: &Value, path: &Path) -> Result<Manner, FieldFau
     })
 }
 
+/// The rows of an interface's `Ipv4Prefixes`.
+struct DelegatedPrefixes;
+
+impl ReadRow for DelegatedPrefixes {
+    type Row = Prefix;
+
+    ghost meaning = { delegated_prefix };
+
+    fn read(alloc: Global, row: &Value, path: &Path) -> Result<Prefix, FieldFault> {
+        prefix_at(alloc, row, path, "Ipv4Prefix")
+    }
+}
+
 fn interface_of(alloc: Global, row: &Value, path: &Path) -> Result<Interface, FieldFault>
     ensures { Reads (λ x. x) (interface_of (view row.now) path.now) result }
 {
@@ -134,11 +148,13 @@ fn interface_of(alloc: Global, row: &Value, path: &Path) -> Result<Interface, Fi
     let subnet = id_at(alloc, row, path, "SubnetId")?;
     let addresses = addresses_of(alloc, row, path)?;
     let manner = manner_of(alloc, row, path)?;
+    let prefixes = read_items::<DelegatedPrefixes>(alloc, row, path, "Ipv4Prefixes")?;
     Ok(Interface {
         id,
         subnet,
         primary: addresses.primary,
         addresses: addresses.all,
+        prefixes: OwnList::of(prefixes),
         groups: manner.groups,
         checked: manner.checked,
         idle: manner.idle,

@@ -39,7 +39,7 @@ LinesAreUnknown =
 -- two hosts, the first of which has a second address, 10.0.1.11
 abbrev pub two_addresses : Description
 two_addresses = record hosts {
-  interfaces = record { id = codes "eni-a"; subnet = codes "subnet-a"; primary = Some (v4 10 0 1 10); addresses = (v4 10 0 1 10, None) ∷ (v4 10 0 1 11, None) ∷ []; groups = codes "sg-a" ∷ []; checked = false; idle = false; kind = interfaces.Host }
+  interfaces = record { id = codes "eni-a"; subnet = codes "subnet-a"; primary = Some (v4 10 0 1 10); addresses = (v4 10 0 1 10, None) ∷ (v4 10 0 1 11, None) ∷ []; prefixes = []; groups = codes "sg-a" ∷ []; checked = false; idle = false; kind = interfaces.Host }
       ∷ host (codes "eni-b") (codes "subnet-b") (v4 10 0 2 20) (codes "sg-b") ∷ [];
 }
 

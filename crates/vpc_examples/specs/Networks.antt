@@ -76,7 +76,7 @@ subnet_row id vpc zone = record no_subnet { id = id; vpc = vpc; zone = zone }
 
 -- an interface with one address, maybe a public one, and one group
 abbrev pub host_with : List ℕ → List ℕ → ℕ → Option ℕ → List ℕ → Interface
-host_with id subnet address public group = record { id = id; subnet = subnet; primary = Some address; addresses = (address, public) ∷ []; groups = group ∷ []; checked = true; idle = false; kind = kinds.Host }
+host_with id subnet address public group = record { id = id; subnet = subnet; primary = Some address; addresses = (address, public) ∷ []; prefixes = []; groups = group ∷ []; checked = true; idle = false; kind = kinds.Host }
 
 abbrev pub host : List ℕ → List ℕ → ℕ → List ℕ → Interface
 host id subnet address group = host_with id subnet address None group
@@ -168,7 +168,7 @@ public_hosts p = record (two_subnets (acl_1 ∷ [])) {
 
 -- the interface of the NAT gateway, 10.0.3.5 with the public address 203.0.113.5
 abbrev pub eni_n : Interface
-eni_n = record { id = codes "eni-n"; subnet = codes "subnet-n"; primary = Some (v4 10 0 3 5); addresses = (v4 10 0 3 5, Some (v4 203 0 113 5)) ∷ []; groups = []; checked = false; idle = false; kind = kinds.Gateway }
+eni_n = record { id = codes "eni-n"; subnet = codes "subnet-n"; primary = Some (v4 10 0 3 5); addresses = (v4 10 0 3 5, Some (v4 203 0 113 5)) ∷ []; prefixes = []; groups = []; checked = false; idle = false; kind = kinds.Gateway }
 
 -- two hosts in subnets of their own behind a NAT gateway in a third subnet; acl-n, with these rows, is that one's
 abbrev pub behind_nat : List AclRow → Description

@@ -7,7 +7,7 @@ use Rattle.vpc_model.specs.declared.refusals.ListName.TheVariants as named
 use Rattle.vpc_model.specs.declared.refusals.Refusal.TheVariants as refusals
 use Rattle.vpc_model.specs.declared.rows.Target.TheVariants as targets
 use Rattle.vpc_examples.specs.Middleboxes.{with_appliance}
-use Rattle.vpc_examples.specs.Networks.{acl, acl_1, allow_all, anywhere, bare, behind_nat, gone_route, group, https_from_group, list_route, low_ports_in, main_table, open_rows, peered, route, site_host, site_table, subnet_table, transit, two_subnets, v4, vpc_1}
+use Rattle.vpc_examples.specs.Networks.{acl, acl_1, allow_all, anywhere, bare, behind_nat, block, gone_route, group, https_from_group, list_route, low_ports_in, main_table, open_rows, peered, route, site_host, site_table, subnet_table, transit, two_subnets, v4, vpc_1}
 use Rattle.vpc_examples.specs.Stops.{eni_a, eni_b, plain_vpc, with_hosts, with_route}
 use Rattle.vpc_model.specs.Accepted.{is_long, refusal_of, too_many_rows}
 
@@ -40,6 +40,19 @@ TellsDuplicates =
     × ((cause (record peered { interfaces = site_host (codes "a") 1 ∷ record (site_host (codes "b") 2) { addresses = (v4 10 1 1 10, None) ∷ [] } ∷ [] }) ≡ None)
     × (cause (record peered { interfaces = record (site_host (codes "a") 1) { addresses = (v4 10 1 1 10, Some (v4 203 0 113 1)) ∷ [] } ∷ record (site_host (codes "b") 2) { addresses = (v4 10 2 1 10, Some (v4 203 0 113 1)) ∷ [] } ∷ [] })
     ≡ Some (refusals.DuplicatePublic (v4 203 0 113 1))))))))
+
+-- a block that is delegated to an interface must not meet an address or a block of an earlier one of the VPC, nor an address a block
+-- of one: the least address that both have is told. An interface's own blocks may meet its addresses, and one another
+abbrev pub TellsSharedBlocks : Type 0
+TellsSharedBlocks =
+    let twice : ℕ → Option Refusal = λ a. Some (refusals.DuplicateAddress (codes "vpc-1") a) in
+    let with_blocks : Interface → List Block → Interface = λ e blocks. record e { prefixes = blocks } in
+    (cause (with_hosts (with_blocks eni_a (block (v4 10 0 2 16) 28 ∷ [])) eni_b) ≡ twice (v4 10 0 2 20))
+    × ((cause (with_hosts (with_blocks eni_a (block (v4 10 0 1 64) 28 ∷ [])) (with_blocks eni_b (block (v4 10 0 1 72) 29 ∷ []))) ≡ twice (v4 10 0 1 72))
+    × ((cause (with_hosts (with_blocks eni_a (block (v4 10 0 1 64) 30 ∷ block (v4 10 0 1 96) 28 ∷ [])) (with_blocks eni_b (block (v4 10 0 1 0) 24 ∷ []))) ≡ twice (v4 10 0 1 10))
+    × ((cause (with_hosts (with_blocks eni_a (block (v4 10 0 1 0) 24 ∷ block (v4 10 0 1 64) 28 ∷ [])) eni_b) ≡ None)
+    × ((cause (with_hosts eni_a (record (with_blocks eni_b (block (v4 10 0 1 0) 28 ∷ [])) { addresses = (v4 10 0 2 20, None) ∷ (v4 10 0 2 20, None) ∷ [] })) ≡ twice (v4 10 0 2 20))
+    × (cause (record peered { interfaces = with_blocks (site_host (codes "a") 1) (block (v4 10 2 1 0) 28 ∷ []) ∷ site_host (codes "b") 2 ∷ [] }) ≡ None)))))
 
 -- ---- references
 
@@ -177,6 +190,7 @@ pub record LongListsAreNamed : Type 0 where
 pub record LongRowsAreNamed : Type 0 where
   pub blocks : (xs : List Block) → is_long xs ≡ true → too_many (record nothing { vpcs = record vpc_1 { blocks = xs } ∷ [] }) named.Vpcs
   pub addresses : (xs : List (ℕ × Option ℕ)) → is_long xs ≡ true → too_many (record nothing { interfaces = record eni_a { addresses = xs } ∷ [] }) named.NetworkInterfaces
+  pub delegated : (xs : List Block) → is_long xs ≡ true → too_many (record nothing { interfaces = record eni_a { prefixes = xs } ∷ [] }) named.NetworkInterfaces
   pub member_of : (xs : List (List ℕ)) → is_long xs ≡ true → too_many (record nothing { interfaces = record eni_a { groups = xs } ∷ [] }) named.NetworkInterfaces
   pub table_subnets : (xs : List (List ℕ)) → is_long xs ≡ true → too_many (record nothing { tables = subnet_table_of xs [] ∷ [] }) named.RouteTables
   pub routes : (xs : List Route) → is_long xs ≡ true → too_many (record nothing { tables = subnet_table_of [] xs ∷ [] }) named.RouteTables

@@ -60,6 +60,17 @@ OwnsAllAddresses =
     open_from_a (with_hosts (record eni_a { addresses = (v4 10 0 1 10, None) ∷ (v4 10 0 1 11, None) ∷ [] }) (record eni_b { addresses = (v4 10 0 2 20, None) ∷ (v4 10 0 2 21, None) ∷ [] })) (tcp (v4 10 0 1 11) (v4 10 0 2 21) 0 443)
     ≡ outcomes.Arrived (ends.Interface (eni 1)) (tcp (v4 10 0 1 11) (v4 10 0 2 21) 0 443)
 
+-- so is every address of a block that is delegated to it: it sends and receives there, and is a member of its groups there
+abbrev pub OwnsDelegatedBlocks : Type 0
+OwnsDelegatedBlocks =
+    let d = with_hosts (record eni_a { prefixes = block (v4 10 0 1 64) 28 ∷ [] }) (record eni_b { prefixes = block (v4 10 0 2 128) 28 ∷ [] }) in
+    let between : ℕ → ℕ → Header = λ from to. tcp from to 0 443 in
+    (open_from_a d (between (v4 10 0 1 64) (v4 10 0 2 128)) ≡ outcomes.Arrived (ends.Interface (eni 1)) (between (v4 10 0 1 64) (v4 10 0 2 128)))
+    × ((open_from_a d (between (v4 10 0 1 79) (v4 10 0 2 143)) ≡ outcomes.Arrived (ends.Interface (eni 1)) (between (v4 10 0 1 79) (v4 10 0 2 143)))
+    × ((open_from_a d (between (v4 10 0 1 80) (v4 10 0 2 128)) ≡ outcomes.Stopped (stops.SourceCheck (eni 0)))
+    × ((open_from_a d (between (v4 10 0 1 10) (v4 10 0 2 144)) ≡ outcomes.Stopped (stops.NoHost (vpc 0)))
+    × (open_from_a d (between (v4 10 0 1 10) (v4 10 0 2 127)) ≡ outcomes.Stopped (stops.NoHost (vpc 0))))))
+
 -- an interface of a gateway hosts nothing, whether it is found by its address or named by a route
 abbrev pub GatewaysHostNothing : Type 0
 GatewaysHostNothing =

@@ -1,5 +1,5 @@
 // Where packets are stopped in small networks.
-ghost use Rattle.vpc_examples.specs.Stops.{ChecksInterfaces, GatewaysHostNothing, OwnsAllAddresses, JudgesExit, JudgesEveryEntry, PublicAddressesAreOfOneVpc, UnroutableBlocksEnd, EntersNamedGateway, ChecksRoutes, JudgesEntry, FindsFirstRule, CountsReferences, CountsReferencesOverTransit, RulesAreInTheVpcOfTheInterface, OtherPeeringsDontCount, NeedsNoGroups, ChecksInternetGateways, ChecksNatGateways, ChecksPeerings, ChecksTransitEntry, ChecksTransitExit, LeavesByZone, StaticRouteIsChosen, ChecksReturns, ChecksReturnedHeader, RepliesReturnToTheStart, RequestsReachTheirTarget, LongWalksEnd};
+ghost use Rattle.vpc_examples.specs.Stops.{ChecksInterfaces, GatewaysHostNothing, OwnsAllAddresses, OwnsDelegatedBlocks, JudgesExit, JudgesEveryEntry, PublicAddressesAreOfOneVpc, UnroutableBlocksEnd, EntersNamedGateway, ChecksRoutes, JudgesEntry, FindsFirstRule, CountsReferences, CountsReferencesOverTransit, RulesAreInTheVpcOfTheInterface, OtherPeeringsDontCount, NeedsNoGroups, ChecksInternetGateways, ChecksNatGateways, ChecksPeerings, ChecksTransitEntry, ChecksTransitExit, LeavesByZone, StaticRouteIsChosen, ChecksReturns, ChecksReturnedHeader, RepliesReturnToTheStart, RequestsReachTheirTarget, LongWalksEnd};
 
 /// Idle interfaces, and the source/destination check.
 pub fn checks_interfaces()
@@ -99,6 +99,11 @@ pub fn ends_long_walks()
 /// An interface owns all its private addresses.
 pub fn owns_all_addresses()
     ensures { OwnsAllAddresses }
+{}
+
+/// An interface owns the blocks that are delegated to it.
+pub fn owns_delegated_blocks()
+    ensures { OwnsDelegatedBlocks }
 {}
 
 /// Network ACLs judge what leaves a subnet, whatever the target.

@@ -1,5 +1,5 @@
 // Which descriptions make a network.
-ghost use Rattle.vpc_examples.specs.Refused.{AcceptsTargetsOfEitherSide, LongListsAreNamed, LongRowsAreNamed, NetworksAreAccepted, TellsDuplicates, TellsMissingRows, TellsMissingTargets, TellsForeignTargets, TellsMissingAtGateways, TellsTablesAndAcls, TellsFirstCause};
+ghost use Rattle.vpc_examples.specs.Refused.{AcceptsTargetsOfEitherSide, LongListsAreNamed, LongRowsAreNamed, NetworksAreAccepted, TellsDuplicates, TellsSharedBlocks, TellsMissingRows, TellsMissingTargets, TellsForeignTargets, TellsMissingAtGateways, TellsTablesAndAcls, TellsFirstCause};
 
 /// The networks of the other examples are accepted.
 pub fn accepts_networks()
@@ -9,6 +9,11 @@ pub fn accepts_networks()
 /// Ids and addresses that stand twice.
 pub fn tells_duplicates()
     ensures { TellsDuplicates }
+{}
+
+/// Blocks that are delegated to several interfaces, or hold addresses of others.
+pub fn tells_shared_blocks()
+    ensures { TellsSharedBlocks }
 {}
 
 /// References to rows that are not there.

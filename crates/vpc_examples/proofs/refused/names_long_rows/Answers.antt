@@ -5,6 +5,7 @@ pub returns : goal.returns
 returns c = record {
   blocks = λ xs long. rw long refl;
   addresses = λ xs long. rw long refl;
+  delegated = λ xs long. rw long refl;
   member_of = λ xs long. rw long refl;
   table_subnets = λ xs long. rw long refl;
   routes = λ xs long. rw long refl;
