@@ -10,11 +10,11 @@ use Rattle.vpc_base.specs.declared.headers.Header.{Header}
 use Rattle.vpc_model.specs.Filter.{far_address, is_between, matches_proto}
 use Rattle.vpc_model.specs.declared.numbers.EniNo.{EniNo}
 use Rattle.security_groups.proofs.GroupsOn.{is_some-first_of}
-use Rattle.security_groups.specs.Alike.{AreTwins, BothGroups, GroupsLetInSame, HasSameMembers, IsSameList, IsTwin, LetsInSame, MatchesSame}
+use Rattle.security_groups.specs.Alike.{AreTwins, BothGroups, GroupsLetInSame, HasSameBlocks, HasSameKeys, HasSameMembers, IsSameList, IsTwin, LetsInSame, MatchesSame}
 use Rattle.security_groups.specs.Dividing.{rules_in}
 use Rattle.security_groups.specs.Index.{GroupLists}
 use Rattle.security_groups.specs.Joined.{AreAlike}
-use Rattle.security_groups.specs.Rules.{allows, any_allows, has_entry, has_member, names}
+use Rattle.security_groups.specs.Rules.{allows, any_allows, has_block, has_entry, has_key, has_member, names}
 use Rattle.security_groups.specs.declared.rules.Rule.{Rule}
 
 -- ---- twins
@@ -46,16 +46,25 @@ twins_are_alike alike twins seen ns ks ms js are is one other zip =
 
 -- ---- what a rule names
 
-pub same_members : (one other : GroupLists) (g k : ℕ) (members others : List ℕ) (first twin a : ℕ) → members ≡ one.members → others ≡ other.members → first ≡ key_of g 0 → twin ≡ key_of k 0
-    → list_any (λ n. n == first + a) members ≡ list_any (λ n. n == twin + a) others → has_member one.members a g ≡ has_member other.members a k
-same_members one other g k members others first twin a is also first_is twin_is same =
+pub same_keys : (one other : GroupLists) (g k : ℕ) (members others : List ℕ) (first twin a : ℕ) → members ≡ one.members.keys → others ≡ other.members.keys → first ≡ key_of g 0 → twin ≡ key_of k 0
+    → list_any (λ n. n == first + a) members ≡ list_any (λ n. n == twin + a) others → has_key one.members a g ≡ has_key other.members a k
+same_keys one other g k members others first twin a is also first_is twin_is same =
     let here : first + a ≡ key_of g a = omega arith in
     let there : twin + a ≡ key_of k a = omega arith in
-    ap (λ m. list_any (λ n. n == m) one.members) (sym here)
+    ap (λ m. list_any (λ n. n == m) one.members.keys) (sym here)
     ∙ ap (list_any (λ n. n == first + a)) (sym is)
     ∙ same
     ∙ ap (list_any (λ n. n == twin + a)) also
-    ∙ ap (λ m. list_any (λ n. n == m) other.members) there
+    ∙ ap (λ m. list_any (λ n. n == m) other.members.keys) there
+
+pub same_members : (one other : GroupLists) (g k : ℕ) → HasSameKeys one other g k → HasSameBlocks one other g k → HasSameMembers one other g k
+same_members one other g k keys blocks a fits =
+    ap (λ b. b || has_block one.members a g) (keys a fits) ∙ ap (λ b. has_key other.members a k || b) (blocks a)
+
+pub same_sets : (one other lists others : List (List Run)) (g k : ℕ) → lists ≡ one → others ≡ other → ((a : ℕ) → has_entry lists a g ≡ has_entry others a k)
+    → (a : ℕ) → has_entry one a g ≡ has_entry other a k
+same_sets one other lists others g k is also same a =
+    ap (λ (xs : List (List Run)). has_entry xs a g) (sym is) ∙ same a ∙ ap (λ (xs : List (List Run)). has_entry xs a k) also
 
 pub matches_same : (one other : GroupLists) (r s : Rule) → AreAlike r s → r.blocks ≡ s.blocks → AllZip (IsSameList one other) r.lists s.lists → AllZip (HasSameMembers one other) r.groups s.groups
     → MatchesSame one other r s

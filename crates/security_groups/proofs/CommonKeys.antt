@@ -4,7 +4,7 @@ use Rattle.std.specs.List.{list_any}
 use Rattle.vpc_base.proofs.Lemmas.{eq-eqb, eqb-true, false_from_ne_true, list_any-member, member-list_any}
 use Rattle.number_tables.specs.Keys.{key_of}
 use Rattle.number_tables.specs.Next.{IsNext}
-use Rattle.security_groups.specs.Naming.{IsLowFrom, Shares, has_pair}
+use Rattle.security_groups.specs.Sharing.{IsLowFrom, Shares, has_pair}
 
 -- ---- the least low number from one on
 

@@ -11,6 +11,7 @@ use Rattle.security_groups.specs.Tables.{AreBegun, AreEnded, AreLasts, run_of}
 use Rattle.security_groups.specs.declared.rules.Rule.{Rule}
 use Rattle.security_groups.proofs.Runs.{starts-later}
 use Rattle.security_groups.proofs.RunsOn.{first-decide, none-ended, none-of, run-parts}
+use Rattle.security_groups.specs.Members.{MemberSets}
 
 -- a run without such a rule is left behind
 pub run-passed : (p : Rule → Bool) (rules : List Rule) (k : ℕ) → list_any p (run_of k rules) ≡ false → list_any p (drop (16 * k) rules) ≡ list_any p rules
@@ -18,7 +19,7 @@ pub run-passed : (p : Rule → Bool) (rules : List Rule) (k : ℕ) → list_any 
 run-passed p rules k fails so_far = sym (ap (λ b. b || list_any p (drop (16 * (k + 1)) rules)) fails) ∙ sym (run-parts p rules k) ∙ so_far
 
 -- the first runs of a number, which end before the packet's port, are left behind
-pub ended-passed : (lists : List (List Run)) (members : List ℕ) (dir : Dir) (h : Header) (rules : List Rule) (lasts : List ℕ) (n : ℕ) → AreLasts rules lasts → AreEnded lasts h.q n
+pub ended-passed : (lists : List (List Run)) (members : MemberSets) (dir : Dir) (h : Header) (rules : List Rule) (lasts : List ℕ) (n : ℕ) → AreLasts rules lasts → AreEnded lasts h.q n
     → (m : ℕ) → m ≤ n → list_any (allows lists members dir h) (drop (16 * m) rules) ≡ list_any (allows lists members dir h) rules
 ended-passed lists members dir h rules lasts n are ended zero below = refl
 ended-passed lists members dir h rules lasts n are ended (suc m) below =
@@ -41,7 +42,7 @@ run-has p rules k j found =
     (omega arith, ap p (sym same) ∙ found.1)
 
 -- no rule that begins after the packet's port allows it
-pub begun-finds : (lists : List (List Run)) (members : List ℕ) (dir : Dir) (h : Header) (all rules : List Rule) (found : Option ℕ) → AreBegun all h.q rules
+pub begun-finds : (lists : List (List Run)) (members : MemberSets) (dir : Dir) (h : Header) (all rules : List Rule) (found : Option ℕ) → AreBegun all h.q rules
     → FindsOne (allows lists members dir h) rules found → FindsOne (allows lists members dir h) all found
 begun-finds lists members dir h all rules None are found =
     let p = allows lists members dir h in

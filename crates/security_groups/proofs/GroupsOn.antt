@@ -7,12 +7,12 @@ use Rattle.vpc_laws.specs.Types.{Box5, Dir, EniNo, Header}
 use Rattle.box_images.specs.Terms.{Answers, header_at}
 use Rattle.image_tests.proofs.Lemmas.{answers_more, answers_same, header_of_rest}
 use Rattle.vpc_model.specs.Choice.{or_else}
-use Rattle.security_groups.specs.Terms.{DivideAt, DivideGroups, DivideRule, DivideRules, GroupLists, GroupRules, IsAllowedOn, Rule, allowed, allows, any_allows, any_group_allows, first_in_group, first_of, least, lesser, no_rules, rule_at, rules_in, rules_of}
+use Rattle.security_groups.specs.Terms.{DivideAt, DivideGroups, DivideRule, DivideRules, GroupLists, GroupRules, IsAllowedOn, MemberSets, Rule, allowed, allows, any_allows, any_group_allows, first_in_group, first_of, least, lesser, no_rules, rule_at, rules_in, rules_of}
 
-abbrev pub group_test : List (List Run) → List ℕ → List GroupRules → Dir → Image → ℕ → Header → Bool
+abbrev pub group_test : List (List Run) → MemberSets → List GroupRules → Dir → Image → ℕ → Header → Bool
 group_test lists members groups dir i n h = any_allows lists members dir (rules_in groups dir n) (header_at i h)
 
-pub group_of_rest : (lists : List (List Run)) (members : List ℕ) (groups : List GroupRules) (named : List ℕ) (dir : Dir) (i rest : Image) (n : ℕ) (x : Part Bool)
+pub group_of_rest : (lists : List (List Run)) (members : MemberSets) (groups : List GroupRules) (named : List ℕ) (dir : Dir) (i rest : Image) (n : ℕ) (x : Part Bool)
     → Contains named n → rest ≡ record i { part = rest.part }
     → Answers (DivideRules lists members (rules_in groups dir n)) (group_test lists members groups dir rest n) rest.part x
     → Answers (DivideGroups lists members groups dir named) (group_test lists members groups dir i n) rest.part x
@@ -29,7 +29,7 @@ rules-found groups dir n g rules below is same = same ∙ ap (rules_of dir) (is 
 -- ---- a rule that allows is one of the rules
 
 -- it is asked with the cuts of all
-pub one-of-all : (lists : List (List Run)) (members : List ℕ) (dir : Dir) (rules : List Rule) (number : ℕ) (i : Image) (r : Rule) (answer : Option (Part Bool)) → number < length rules → r ≡ rule_at rules number
+pub one-of-all : (lists : List (List Run)) (members : MemberSets) (dir : Dir) (rules : List Rule) (number : ℕ) (i : Image) (r : Rule) (answer : Option (Part Bool)) → number < length rules → r ≡ rule_at rules number
     → IfSome answer (Answers (DivideRule lists members r) (λ h. allows lists members dir (header_at i h) r) i.part)
     → IfSome answer (Answers (DivideRules lists members rules) (λ h. allows lists members dir (header_at i h) (rule_at rules number)) i.part)
 one-of-all lists members dir rules number i r None below is k = k
@@ -39,7 +39,7 @@ one-of-all lists members dir rules number i r (Some x) below is k =
     (λ cuts all. All-contains (λ m. DivideRule lists members m cuts) rules one all (number, below, get_or_default rules number one _ below))
     (subst (λ (y : Rule). Answers (DivideRule lists members y) (λ h. allows lists members dir (header_at i h) y) i.part x) is k)
 
-pub one-allows : (lists : List (List Run)) (members : List ℕ) (dir : Dir) (rules : List Rule) (number : ℕ) (i : Image) (x : Part Bool) → number < length rules → x.told ≡ true
+pub one-allows : (lists : List (List Run)) (members : MemberSets) (dir : Dir) (rules : List Rule) (number : ℕ) (i : Image) (x : Part Bool) → number < length rules → x.told ≡ true
     → Answers (DivideRules lists members rules) (λ h. allows lists members dir (header_at i h) (rule_at rules number)) i.part x
     → Answers (DivideRules lists members rules) (λ h. any_allows lists members dir rules (header_at i h)) i.part (record { body = x.body; told = true })
 one-allows lists members dir rules number i x below passes k = record {
@@ -49,7 +49,7 @@ one-allows lists members dir rules number i x below passes k = record {
   aligned = k.aligned;
 }
 
-pub one-group-allows : (lists : List (List Run)) (members : List ℕ) (groups : List GroupRules) (named : List ℕ) (dir : Dir) (n : ℕ) (i : Image) (b : Box5) → Contains named n
+pub one-group-allows : (lists : List (List Run)) (members : MemberSets) (groups : List GroupRules) (named : List ℕ) (dir : Dir) (n : ℕ) (i : Image) (b : Box5) → Contains named n
     → IsAllowedOn lists members dir (rules_in groups dir n) i b
     → Answers (DivideGroups lists members groups dir named) (λ h. any_group_allows lists members groups dir named (header_at i h)) i.part (record { body = b; told = true })
 one-group-allows lists members groups named dir n i b has k = record {
@@ -84,7 +84,7 @@ is_some-or_else : {X : Type 0} (a b : Option X) → is_some (or_else a b) ≡ (i
 is_some-or_else None b = refl
 is_some-or_else (Some x) b = refl
 
-pub is_some-first_of : (lists : List (List Run)) (members : List ℕ) (groups : List GroupRules) (dir : Dir) (h : Header) (named : List ℕ)
+pub is_some-first_of : (lists : List (List Run)) (members : MemberSets) (groups : List GroupRules) (dir : Dir) (h : Header) (named : List ℕ)
     → is_some (first_of lists members groups dir h named) ≡ any_group_allows lists members groups dir named h
 is_some-first_of lists members groups dir h [] = refl
 is_some-first_of lists members groups dir h (n ∷ ns) =
@@ -95,7 +95,7 @@ is_some-first_of lists members groups dir h (n ∷ ns) =
     ∙ ap (λ b. any_allows lists members dir (rules_in groups dir n) h || b) (is_some-first_of lists members groups dir h ns)
 
 -- the answer for an interface's groups is that of the index
-pub index-allows : (lists seen : List (List Run)) (members : List ℕ) (groups known : List GroupRules) (interfaces : List (List ℕ)) (index : GroupLists) (e : EniNo) (dir : Dir) (named : List ℕ) (i : Image) (x : Part Bool)
+pub index-allows : (lists seen : List (List Run)) (members : MemberSets) (groups known : List GroupRules) (interfaces : List (List ℕ)) (index : GroupLists) (e : EniNo) (dir : Dir) (named : List ℕ) (i : Image) (x : Part Bool)
     → record { lists = lists; members = members; groups = groups; interfaces = interfaces } ≡ index → seen ≡ lists → known ≡ groups → named ≡ slice_index_or interfaces e.0 []
     → Answers (DivideGroups seen members known dir named) (λ h. any_group_allows seen members known dir named (header_at i h)) i.part x
     → Answers (DivideAt index e dir) (λ h. is_some (allowed index e dir (header_at i h))) i.part x

@@ -5,12 +5,12 @@ use Rattle.vpc_base.proofs.Lemmas.{All-cons, All-contains, All-head, All-nil, Al
 use Rattle.address_sets.specs.Runs.{is_in, is_of}
 use Rattle.image_tests.specs.Types.{Image, Part, Run}
 use Rattle.box_images.specs.Terms.{Answers, header_at}
-use Rattle.cut_laws.specs.Dividing.{CutOut, Divide, DivideTurns}
+use Rattle.cut_laws.specs.Dividing.{Divide, DivideTurns}
 use Rattle.vpc_laws.specs.Types.{Box5, Dir, Header}
 use Rattle.image_tests.proofs.Answering.{answers_more, answers_same}
 use Rattle.vpc_base.specs.Cuts.{CutLists}
 use Rattle.vpc_model.specs.Terms.{cuts_of_rule, far_address, is_between, matches_proto}
-use Rattle.security_groups.specs.Terms.{AreAlike, DivideRule, DivideRules, IsAllowedOn, IsJoint, Rule, SayTheSame, allows, any_allows, has_entry, has_member, names, once, rule_at}
+use Rattle.security_groups.specs.Terms.{AreAlike, DivideMember, DivideRule, DivideRules, IsAllowedOn, IsJoint, MemberSets, Rule, SayTheSame, allows, any_allows, has_entry, has_member, names, once, rule_at}
 use Rattle.security_groups.proofs.OnceEach.{list_any-once}
 use Rattle.security_groups.proofs.RuleCuts.{all-members, once-member, turns-alike}
 use Rattle.security_groups.proofs.Runs.{take-add}
@@ -42,7 +42,7 @@ is_in-blocks : (a : ℕ) (rules : List Rule) → is_in a (all_blocks rules) ≡ 
 is_in-blocks a [] = refl
 is_in-blocks a (r ∷ rs) = list_any-append (is_of a) r.blocks (all_blocks rs) ∙ ap (λ b. is_in a r.blocks || b) (is_in-blocks a rs)
 
-any-names : (lists : List (List Run)) (members : List ℕ) (a : ℕ) (rules : List Rule)
+any-names : (lists : List (List Run)) (members : MemberSets) (a : ℕ) (rules : List Rule)
     → list_any (names lists members a) rules ≡ (is_in a (all_blocks rules) || (list_any (has_entry lists a) (all_lists rules) || list_any (has_member members a) (all_groups rules)))
 any-names lists members a [] = refl
 any-names lists members a (r ∷ rs) =
@@ -57,10 +57,10 @@ any-names lists members a (r ∷ rs) =
 -- ---- rules that are alike
 
 -- what a rule allows, by the protocol and the ports of one that is alike
-abbrev allows_as : List (List Run) → List ℕ → Dir → Header → Rule → Bool → Bool
+abbrev allows_as : List (List Run) → MemberSets → Dir → Header → Rule → Bool → Bool
 allows_as lists members dir h first named = matches_proto first.proto h.proto && (is_between first.q_from first.q_to h.q && named)
 
-allows-alike : (lists : List (List Run)) (members : List ℕ) (dir : Dir) (h : Header) (first r : Rule) → AreAlike first r
+allows-alike : (lists : List (List Run)) (members : MemberSets) (dir : Dir) (h : Header) (first r : Rule) → AreAlike first r
     → allows lists members dir h r ≡ allows_as lists members dir h first (names lists members (far_address dir h) r)
 allows-alike lists members dir h first r alike =
     let named : Bool = names lists members (far_address dir h) r in
@@ -79,7 +79,7 @@ shared true true a b = refl
 shared true false a b = refl
 shared false q a b = refl
 
-any-alike : (lists : List (List Run)) (members : List ℕ) (dir : Dir) (h : Header) (first : Rule) (rules : List Rule) → All (AreAlike first) rules
+any-alike : (lists : List (List Run)) (members : MemberSets) (dir : Dir) (h : Header) (first : Rule) (rules : List Rule) → All (AreAlike first) rules
     → any_allows lists members dir rules h ≡ allows_as lists members dir h first (list_any (names lists members (far_address dir h)) rules)
 any-alike lists members dir h first [] all = sym (nowhere (is_between first.q_from first.q_to h.q) (matches_proto first.proto h.proto))
 any-alike lists members dir h first (r ∷ rs) all =
@@ -115,7 +115,7 @@ joint-rule rules r some alike like blocks named members_of = record { same = sam
     first : Rule
     first = rule_at rules 0
 
-    same : (lists : List (List Run)) (members : List ℕ) (dir : Dir) (h : Header) → allows lists members dir h r ≡ any_allows lists members dir rules h
+    same : (lists : List (List Run)) (members : MemberSets) (dir : Dir) (h : Header) → allows lists members dir h r ≡ any_allows lists members dir rules h
     same lists members dir h =
         let a : ℕ = far_address dir h in
         allows-alike lists members dir h first r like
@@ -134,22 +134,22 @@ joint-rule rules r some alike like blocks named members_of = record { same = sam
         (subst (λ n. Divide (cuts_of_rule r.proto n first.q_to []) cuts) like.from
         (subst (λ p. Divide (cuts_of_rule p first.q_from first.q_to []) cuts) like.proto d))
 
-    divide : (lists : List (List Run)) (members : List ℕ) (cuts : CutLists) → DivideRules lists members rules cuts → DivideRule lists members r cuts
+    divide : (lists : List (List Run)) (members : MemberSets) (cuts : CutLists) → DivideRules lists members rules cuts → DivideRule lists members r cuts
     divide lists members cuts all = record {
       rule = edges cuts (all 0 (rule_at [] 0) some).rule;
       blocks = turns-alike (λ a. is_in a r.blocks) (λ a. list_any (λ s. is_in a s.blocks) rules) cuts (λ a. blocks a ∙ is_in-blocks a rules)
           (any-turns (λ s a. is_in a s.blocks) rules cuts (λ k none within. (all k none within).blocks));
       entries = all-members (λ l. DivideTurns (λ a. has_entry lists a l) cuts) r.lists (λ l has. entry l (flat_map-member (λ s. s.lists) rules l (once-member (all_lists rules) l (subst (λ ls. Contains ls l) named has))));
-      groups = all-members (λ g. CutOut (λ a. has_member members a g) cuts) r.groups (λ g has. member g (flat_map-member (λ s. s.groups) rules g (once-member (all_groups rules) g (subst (λ ls. Contains ls g) members_of has))));
+      groups = all-members (λ g. DivideMember members g cuts) r.groups (λ g has. member g (flat_map-member (λ s. s.groups) rules g (once-member (all_groups rules) g (subst (λ ls. Contains ls g) members_of has))));
     }
       where
         entry : (l : ℕ) → (s : Rule) × Contains rules s × Contains s.lists l → DivideTurns (λ a. has_entry lists a l) cuts
         entry l (s, at, has) =
             All-contains (λ m. DivideTurns (λ a. has_entry lists a m) cuts) s.lists l (All-contains (λ t. DivideRule lists members t cuts) rules s all at).entries has
 
-        member : (g : ℕ) → (s : Rule) × Contains rules s × Contains s.groups g → CutOut (λ a. has_member members a g) cuts
+        member : (g : ℕ) → (s : Rule) × Contains rules s × Contains s.groups g → DivideMember members g cuts
         member g (s, at, has) =
-            All-contains (λ m. CutOut (λ a. has_member members a m) cuts) s.groups g (All-contains (λ t. DivideRule lists members t cuts) rules s all at).groups has
+            All-contains (λ m. DivideMember members m cuts) s.groups g (All-contains (λ t. DivideRule lists members t cuts) rules s all at).groups has
 
 -- as it is made
 pub joint-made : (rules : List Rule) (first : Rule) (runs blocks : List Run) (lists groups : List ℕ) → 0 < length rules → All (AreAlike (rule_at rules 0)) rules → first ≡ get_or rules 0 first
@@ -212,14 +212,14 @@ same-none rules = record { same = λ lists members dir h. refl; divide = λ list
 same-next : (rules others alike : List Rule) (one : Rule) → SayTheSame rules others → IsJoint alike one → SayTheSame (rules ++ alike) (others ++ one ∷ [])
 same-next rules others alike one so_far joint = record { same = same; divide = divide }
   where
-    same : (lists : List (List Run)) (members : List ℕ) (dir : Dir) (h : Header) → any_allows lists members dir (others ++ one ∷ []) h ≡ any_allows lists members dir (rules ++ alike) h
+    same : (lists : List (List Run)) (members : MemberSets) (dir : Dir) (h : Header) → any_allows lists members dir (others ++ one ∷ []) h ≡ any_allows lists members dir (rules ++ alike) h
     same lists members dir h =
         list_any-append (allows lists members dir h) others (one ∷ [])
         ∙ ap (λ b. any_allows lists members dir others h || b) (or-false (allows lists members dir h one) ∙ joint.same lists members dir h)
         ∙ ap (λ b. b || any_allows lists members dir alike h) (so_far.same lists members dir h)
         ∙ sym (list_any-append (allows lists members dir h) rules alike)
 
-    divide : (lists : List (List Run)) (members : List ℕ) (cuts : CutLists) → DivideRules lists members (rules ++ alike) cuts → DivideRules lists members (others ++ one ∷ []) cuts
+    divide : (lists : List (List Run)) (members : MemberSets) (cuts : CutLists) → DivideRules lists members (rules ++ alike) cuts → DivideRules lists members (others ++ one ∷ []) cuts
     divide lists members cuts all =
         let enough : Rule → Type 0 = λ r. DivideRule lists members r cuts in
         All-push enough others one (so_far.divide lists members cuts (all-left enough rules alike all)) (joint.divide lists members cuts (all-right enough rules alike all))
@@ -269,7 +269,7 @@ same-if_some rules seen rows (Some others) is p s = same-sorted rules others row
 
 -- ---- asked of an image
 
-pub same-answers : (lists : List (List Run)) (members : List ℕ) (dir : Dir) (rules others table : List Rule) (i : Image) (x : Part Bool) → SayTheSame rules others → rules ≡ table
+pub same-answers : (lists : List (List Run)) (members : MemberSets) (dir : Dir) (rules others table : List Rule) (i : Image) (x : Part Bool) → SayTheSame rules others → rules ≡ table
     → Answers (DivideRules lists members others) (λ h. any_allows lists members dir others (header_at i h)) i.part x
     → Answers (DivideRules lists members table) (λ h. any_allows lists members dir table (header_at i h)) i.part x
 same-answers lists members dir rules others table i x s is k =
@@ -281,7 +281,7 @@ same-answers lists members dir rules others table i x s is k =
 pub same-found : (rules others : List Rule) (o : Option (List Rule)) → o ≡ Some others → IfSome o (SayTheSame rules) → SayTheSame rules others
 same-found rules others o is s = subst (λ (p : Option (List Rule)). IfSome p (SayTheSame rules)) is s
 
-pub same-allowed : (lists : List (List Run)) (members : List ℕ) (dir : Dir) (rules others table : List Rule) (i : Image) (o : Option Box5) → SayTheSame rules others → rules ≡ table
+pub same-allowed : (lists : List (List Run)) (members : MemberSets) (dir : Dir) (rules others table : List Rule) (i : Image) (o : Option Box5) → SayTheSame rules others → rules ≡ table
     → IfSome o (IsAllowedOn lists members dir others i) → IfSome o (IsAllowedOn lists members dir table i)
 same-allowed lists members dir rules others table i None s is k = k
 same-allowed lists members dir rules others table i (Some b) s is k = same-answers lists members dir rules others table i (record { body = b; told = true }) s is k

@@ -1,5 +1,6 @@
 pub mod Steps
 pub mod CommonKeys
+pub mod ToldLemmas
 pub mod OnceEach
 pub mod MemberSteps
 pub mod Numbered

@@ -23,7 +23,7 @@ names-is d i dir vpc n a p r resolved rule fits =
     ap (list_any (has_member i.members a)) rule.groups
     ∙ list_any-once (has_member i.members a) (filter_map (counted d dir vpc) p.groups)
     ∙ list_any-filter_map (has_member i.members a) (counted d dir vpc) p.groups
-    ∙ list_any-agree (λ g. any_if (has_member i.members a) (counted d dir vpc g)) (λ g. reference_counts d dir vpc g && is_member d g a) (λ g. any_member-is d i.members dir vpc a g resolved.members.keys resolved.members.fit fits) p.groups in
+    ∙ list_any-agree (λ g. any_if (has_member i.members a) (counted d dir vpc g)) (λ g. reference_counts d dir vpc g && is_member d g a) (λ g. any_member-is d i.members dir vpc a g resolved.members fits) p.groups in
     rw (rule.blocks a, lists, groups) refl
 
 -- a rule allows what its permission allows

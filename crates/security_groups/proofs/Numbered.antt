@@ -1,15 +1,15 @@
 -- Groups, members and prefix lists, found by numbers as by ids.
 use Rattle.std.proofs.Common.{All, Bool, List, None, Option, Some, [], ap, arith, bytes_eq, cond, false, filter_map, find, flat_map, get_or, inl, inr, length, ltb, map, option_map, position, refl, subst, suc, sym, true, ℕ, ◌&&◌, ◌+◌, ◌<◌, ◌==◌, ◌^◌, ◌||◌, ◌∙◌, ◌∷◌, ◌≡◌}
 use Rattle.std.specs.List.{AllByRecursion, AllZip, list_any, position_or_len}
-use Rattle.vpc_base.proofs.Lemmas.{All-head, All-tail, and_right, both_ways, bytes_self, cases_Bool, cases_lt, eq-eqb, false_from_ne_true, find-nowhere, get_or_default, le-ltb, list_any-agree, list_any-append, lt-ltb, missing_number, ne_eqb, position-at, recursion_from_All, same_bytes, zip_at}
+use Rattle.vpc_base.proofs.Lemmas.{All-head, All-tail, and_right, both_ways, bytes_self, cases_Bool, cases_lt, eq-eqb, false_from_ne_true, find-nowhere, get_or_default, le-ltb, list_any-agree, list_any-append, lt-ltb, ltb-true, missing_number, ne_eqb, position-at, recursion_from_All, same_bytes, zip_at}
 use Rattle.address_sets.specs.declared.sets.Run.{Run}
 use Rattle.prefix_text.specs.Block.{Block, holds}
 use Rattle.vpc_laws.specs.Types.{Description, Dir, Group, GroupNo, Interface, PrefixList}
-use Rattle.vpc_model.specs.Terms.{entries_of, has_address, is_listed, is_member, may_name, no_group, reference_counts, vpcs_of_group}
+use Rattle.vpc_model.specs.Terms.{entries_of, has_address, is_assigned, is_listed, is_member, may_name, no_group, reference_counts, vpcs_of_group}
 use Rattle.reference_check.proofs.Maps.{found_number, read_row}
 use Rattle.number_tables.specs.Keys.{key_of}
 use Rattle.number_tables.proofs.KeyLemmas.{key_of-same}
-use Rattle.security_groups.specs.Terms.{AreFit, HasEntriesOf, all_members, counted, groups_with, has_entry, has_member, key_with, keys_with, list_no, number_of}
+use Rattle.security_groups.specs.Terms.{AreFit, HasEntriesOf, HasMembersOf, MemberSets, counted, groups_with, has_block, has_entry, has_member, holds_for, key_with, keys_with, list_no, number_of}
 use Rattle.security_groups.proofs.OnceEach.{list_any-once}
 
 -- ---- searches
@@ -147,23 +147,54 @@ keys_with-is k a groups (x ∷ xs) fits fits_a =
 
 -- all interfaces
 all_members-is : (d : Description) (group : List ℕ) (k a : ℕ) (es : List Interface) → position (λ (g : Group). bytes_eq g.id group) d.groups ≡ Some k → All (λ (e : Interface). AreFit e.addresses) es → a < 2 ^ 32
-    → list_any (λ n. n == key_of k a) (flat_map (λ e. keys_with (groups_with d e) e.addresses) es) ≡ list_any (λ e. is_listed group e.groups && has_address e a) es
+    → list_any (λ n. n == key_of k a) (flat_map (λ e. keys_with (groups_with d e) e.addresses) es) ≡ list_any (λ e. is_listed group e.groups && is_assigned e a) es
 all_members-is d group k a [] found fits fits_a = refl
 all_members-is d group k a (e ∷ es) found fits fits_a =
     let here = recursion_from_All (λ (x : ℕ × Option ℕ). x.0 < 2 ^ 32) e.addresses (All-head (λ (x : Interface). AreFit x.addresses) e es fits) in
     let later = All-tail (λ (x : Interface). AreFit x.addresses) e es fits in
     list_any-append (λ n. n == key_of k a) (keys_with (groups_with d e) e.addresses) (flat_map (λ x. keys_with (groups_with d x) x.addresses) es)
     ∙ ap (λ (b : Bool). b || list_any (λ n. n == key_of k a) (flat_map (λ x. keys_with (groups_with d x) x.addresses) es))
-    (keys_with-is k a (groups_with d e) e.addresses here fits_a ∙ ap (λ (b : Bool). b && has_address e a) (groups_with-is d group k e found))
-    ∙ ap (λ (b : Bool). (is_listed group e.groups && has_address e a) || b) (all_members-is d group k a es found later fits_a)
+    (keys_with-is k a (groups_with d e) e.addresses here fits_a ∙ ap (λ (b : Bool). b && is_assigned e a) (groups_with-is d group k e found))
+    ∙ ap (λ (b : Bool). (is_listed group e.groups && is_assigned e a) || b) (all_members-is d group k a es found later fits_a)
+
+-- the blocks of an interface
+holds_for-is : (d : Description) (group : List ℕ) (k a : ℕ) (es : List Interface) → position (λ (g : Group). bytes_eq g.id group) d.groups ≡ Some k
+    → list_any (holds_for d k a) es ≡ list_any (λ e. is_listed group e.groups && list_any (holds a) e.prefixes) es
+holds_for-is d group k a es found =
+    list_any-agree (holds_for d k a) (λ e. is_listed group e.groups && list_any (holds a) e.prefixes)
+    (λ (e : Interface). ap (λ (b : Bool). b && list_any (holds a) e.prefixes) (groups_with-is d group k e found)) es
+
+-- an interface that has an address, or holds it in a block
+either-is : (group : List ℕ) (a : ℕ) (es : List Interface)
+    → (list_any (λ e. is_listed group e.groups && is_assigned e a) es || list_any (λ e. is_listed group e.groups && list_any (holds a) e.prefixes) es)
+    ≡ list_any (λ e. is_listed group e.groups && has_address e a) es
+either-is group a [] = refl
+either-is group a (e ∷ es) =
+    by (is_listed group e.groups) (is_assigned e a) (list_any (holds a) e.prefixes) (list_any (λ e. is_listed group e.groups && is_assigned e a) es)
+    (list_any (λ e. is_listed group e.groups && list_any (holds a) e.prefixes) es) (list_any (λ e. is_listed group e.groups && has_address e a) es) (either-is group a es)
+  where
+    by : (s t h p q r : Bool) → (p || q) ≡ r → (((s && t) || p) || ((s && h) || q)) ≡ ((s && (t || h)) || r)
+    by false t h p q r e = e
+    by true true h p q r e = refl
+    by true false true true q r e = refl
+    by true false true false q r e = refl
+    by true false false p q r e = e
+
+-- a member by a group's number
+member-is : (d : Description) (members : MemberSets) (group : List ℕ) (k a : ℕ) → HasMembersOf d members → position (λ (g : Group). bytes_eq g.id group) d.groups ≡ Some k → a < 2 ^ 32
+    → has_member members a k ≡ is_member d group a
+member-is d members group k a has found fits =
+    let within : k < length d.groups = ltb-true k (length d.groups) (position-at (λ (g : Group). bytes_eq g.id group) d.groups k no_group found).0 in
+    ap (λ (b : Bool). b || has_block members a k) (has.keys (key_of k a) ∙ all_members-is d group k a d.interfaces found has.fit fits)
+    ∙ ap (λ (b : Bool). list_any (λ e. is_listed group e.groups && is_assigned e a) d.interfaces || b) (has.delegated k a within ∙ holds_for-is d group k a d.interfaces found)
+    ∙ either-is group a d.interfaces
 
 -- ---- references
 
 -- a member by a group's number is one by its id
-pub any_member-is : (d : Description) (members : List ℕ) (dir : Dir) (vpc : List ℕ) (a : ℕ) (group : List ℕ) → ((k : ℕ) → list_any (λ n. n == k) members ≡ list_any (λ n. n == k) (all_members d))
-    → All (λ (e : Interface). AreFit e.addresses) d.interfaces → a < 2 ^ 32
+pub any_member-is : (d : Description) (members : MemberSets) (dir : Dir) (vpc : List ℕ) (a : ℕ) (group : List ℕ) → HasMembersOf d members → a < 2 ^ 32
     → any_if (has_member members a) (counted d dir vpc group) ≡ (reference_counts d dir vpc group && is_member d group a)
-any_member-is d members dir vpc a group keys fits fits_a = by (position (λ (g : Group). bytes_eq g.id group) d.groups) refl
+any_member-is d members dir vpc a group has fits_a = by (position (λ (g : Group). bytes_eq g.id group) d.groups) refl
   where
     without : (gs : List Group) → list_any (λ (g : Group). bytes_eq g.id group) gs ≡ false → list_any (λ (g : Group). bytes_eq g.id group && list_any (may_name d dir vpc) (vpcs_of_group d g)) gs ≡ false
     without [] none = refl
@@ -180,6 +211,6 @@ any_member-is d members dir vpc a group keys fits fits_a = by (position (λ (g :
     by (Some k) some =
         rw some
         (elim (cases_Bool (reference_counts d dir vpc group)) [
-          | inl counts ↦ rw counts (keys (key_of k a) ∙ all_members-is d group k a d.interfaces some fits fits_a)
+          | inl counts ↦ rw counts (member-is d members group k a has some fits_a)
           | inr ignored ↦ rw ignored refl
         ])

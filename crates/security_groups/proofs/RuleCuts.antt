@@ -10,7 +10,7 @@ use Rattle.vpc_base.specs.Cuts.{AreAmong, CutLists}
 use Rattle.vpc_model.specs.Terms.{block_cuts, blocks_of_permission, cuts_of_blocks, cuts_of_permission, cuts_of_rule, entries_of, on_sides, standing_cuts}
 use Rattle.vpc_laws.specs.Types.{Description, Dir, Permission}
 use Rattle.security_groups.specs.Terms.{DivideRule, GroupLists, IsResolved, IsRuleOf, Rule, has_entry, list_no, once}
-use Rattle.security_groups.proofs.MemberCuts.{members-are-cut-out}
+use Rattle.security_groups.proofs.MemberCuts.{members-divide}
 use Rattle.security_groups.proofs.Numbered.{any_entry-is, any_if}
 use Rattle.security_groups.proofs.OnceEach.{list_any-once}
 
@@ -79,7 +79,5 @@ rule-divides d i dir vpc n p r cuts resolved rule standing divide = record {
   blocks = turns-alike (λ a. is_in a r.blocks) (λ a. list_any (holds a) p.blocks) cuts rule.blocks
       (turns-divide d p cuts p.blocks (λ b at. Contains-append_left p.blocks (flat_map (entries_of d) p.lists) b at) divide);
   entries = all-members (λ l. DivideTurns (λ a. has_entry i.lists a l) cuts) r.lists (list-divides d i dir vpc n p r cuts resolved rule divide);
-  groups = λ k none within a fits some.
-      let g = get_or r.groups k none in
-      among_through _ (standing_cuts d) cuts (members-are-cut-out d i.members g resolved.members a fits some) standing;
+  groups = λ k none within. members-divide d i.members (get_or r.groups k none) cuts resolved.members standing;
 }

@@ -17,6 +17,7 @@ use Rattle.security_groups.specs.Asking.{least, lesser}
 use Rattle.security_groups.specs.Rules.{allows, names}
 use Rattle.security_groups.specs.Tables.{AreBegun, AreEnded, AreLasts, AreTops, BeginAfter, EndBy, run_of}
 use Rattle.security_groups.proofs.Least.{least-append, least-none, lesser-none}
+use Rattle.security_groups.specs.Members.{MemberSets}
 
 -- two parts, one after the other
 pub take-add : {X : Type 0} (m n : ℕ) (xs : List X) → take (m + n) xs ≡ take m xs ++ take n (drop m xs)
@@ -34,7 +35,7 @@ least-run p rules k =
 -- ---- rules that can't allow the packet
 
 -- they end before its port
-pub least-ended : (lists : List (List Run)) (members : List ℕ) (dir : Dir) (h : Header) (last : ℕ) (rules : List Rule) → EndBy last rules → last < h.q → least (allows lists members dir h) rules ≡ None
+pub least-ended : (lists : List (List Run)) (members : MemberSets) (dir : Dir) (h : Header) (last : ℕ) (rules : List Rule) → EndBy last rules → last < h.q → least (allows lists members dir h) rules ≡ None
 least-ended lists members dir h last rules ends before =
     least-none (allows lists members dir h) rules
     (λ k d within.
@@ -51,14 +52,14 @@ least-ended lists members dir h last rules ends before =
     nowhere false b false = refl
 
 -- it begins after its port
-pub starts-later : (lists : List (List Run)) (members : List ℕ) (dir : Dir) (h : Header) (r : Rule) → h.q < r.q_from → allows lists members dir h r ≡ false
+pub starts-later : (lists : List (List Run)) (members : MemberSets) (dir : Dir) (h : Header) (r : Rule) → h.q < r.q_from → allows lists members dir h r ≡ false
 starts-later lists members dir h r less = rw (lt-leb r.q_from h.q less) (nowhere (nat_le h.q r.q_to) (names lists members (far_address dir h) r) (matches_proto r.proto h.proto))
   where
     nowhere : (a b c : Bool) → (c && ((false && a) && b)) ≡ false
     nowhere a b true = refl
     nowhere a b false = refl
 
-pub least-begun : (lists : List (List Run)) (members : List ℕ) (dir : Dir) (h : Header) (all rules : List Rule) → AreBegun all h.q rules
+pub least-begun : (lists : List (List Run)) (members : MemberSets) (dir : Dir) (h : Header) (all rules : List Rule) → AreBegun all h.q rules
     → least (allows lists members dir h) rules ≡ least (allows lists members dir h) all
 least-begun lists members dir h all rules are =
     let p = allows lists members dir h in
@@ -221,7 +222,7 @@ ended-begun lasts tops seen ports c q n are same alike runs within point =
         omega arith
 
 -- they hold no rule that allows the packet
-pub least-before : (lists : List (List Run)) (members : List ℕ) (dir : Dir) (h : Header) (rules : List Rule) (lasts : List ℕ) (n : ℕ) → AreLasts rules lasts → AreEnded lasts h.q n
+pub least-before : (lists : List (List Run)) (members : MemberSets) (dir : Dir) (h : Header) (rules : List Rule) (lasts : List ℕ) (n : ℕ) → AreLasts rules lasts → AreEnded lasts h.q n
     → (m : ℕ) → m ≤ n → least (allows lists members dir h) (take (16 * m) rules) ≡ None
 least-before lists members dir h rules lasts n are ended zero below = refl
 least-before lists members dir h rules lasts n are ended (suc m) below =

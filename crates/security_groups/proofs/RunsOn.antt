@@ -14,7 +14,7 @@ use Rattle.box_images.specs.declared.fields.Side.TheVariants.{Q}
 use Rattle.cut_laws.specs.Dividing.{Divide}
 use Rattle.image_tests.proofs.Lemmas.{answers_more, answers_same, header_of_rest, low-is-least, number-greatest, range_of_rule}
 use Rattle.image_tests.specs.Tests.{cuts_of_range}
-use Rattle.security_groups.specs.Terms.{AllowsNone, AreBegun, AreEnded, AreLasts, BeginAfter, DivideRule, DivideRules, EndBy, IsLeftWith, Rule, allows, any_allows, names, run_of}
+use Rattle.security_groups.specs.Terms.{AllowsNone, AreBegun, AreEnded, AreLasts, BeginAfter, DivideRule, DivideRules, EndBy, IsLeftWith, MemberSets, Rule, allows, any_allows, names, run_of}
 use Rattle.vpc_model.specs.Filter.{far_address, matches_proto}
 use Rattle.security_groups.proofs.Runs.{starts-later}
 
@@ -41,7 +41,7 @@ run-parts p rules k =
 
 -- ---- rules that can't allow a header
 
-pub ended-before : (lists : List (List Run)) (members : List ℕ) (dir : Dir) (h : Header) (r : Rule) → r.q_to < h.q → allows lists members dir h r ≡ false
+pub ended-before : (lists : List (List Run)) (members : MemberSets) (dir : Dir) (h : Header) (r : Rule) → r.q_to < h.q → allows lists members dir h r ≡ false
 ended-before lists members dir h r less =
     let fails : nat_le h.q r.q_to ≡ false = lt-leb h.q r.q_to less in
     rw fails (nowhere (nat_le r.q_from h.q) (names lists members (far_address dir h) r) (matches_proto r.proto h.proto))
@@ -52,7 +52,7 @@ ended-before lists members dir h r less =
     nowhere false b true = refl
     nowhere false b false = refl
 
-pub none-ended : (lists : List (List Run)) (members : List ℕ) (dir : Dir) (h : Header) (last : ℕ) (rules : List Rule) → EndBy last rules → last < h.q → any_allows lists members dir rules h ≡ false
+pub none-ended : (lists : List (List Run)) (members : MemberSets) (dir : Dir) (h : Header) (last : ℕ) (rules : List Rule) → EndBy last rules → last < h.q → any_allows lists members dir rules h ≡ false
 none-ended lists members dir h last rules ends before =
     none-of (allows lists members dir h) rules
     (λ k d within. let end = ends k d within in ended-before lists members dir h (get_or rules k d) (omega arith))
@@ -64,7 +64,7 @@ pub later-rule : (rules : List Rule) (begun k : ℕ) (r : Rule) → r ≡ get_or
 later-rule rules begun k r is = is ∙ ap (λ rs. get_or rs k r) (take_rest rules begun) ∙ get_or-drop begun rules k r
 
 -- one more allows none of the headers
-pub refused-more : (lists : List (List Run)) (members : List ℕ) (dir : Dir) (i : Image) (rules : List Rule) (begun k : ℕ) (r : Rule)
+pub refused-more : (lists : List (List Run)) (members : MemberSets) (dir : Dir) (i : Image) (rules : List Rule) (begun k : ℕ) (r : Rule)
     → k < length (take (length rules - begun) (drop begun rules)) → r ≡ get_or (take (length rules - begun) (drop begun rules)) k r → AllowsNone lists members dir i r
     → AllWithin (AllowsNone lists members dir i) rules begun (begun + k) → AllWithin (AllowsNone lists members dir i) rules begun (begun + (k + 1))
 refused-more lists members dir i rules begun k r within is none before =
@@ -76,12 +76,12 @@ refused-more lists members dir i rules begun k r within is none before =
     (at_read rules (AllowsNone lists members dir i) (begun + k) r (omega arith) (later-rule rules begun k r is) none))
 
 -- those that allow none of the headers
-refused : (lists : List (List Run)) (members : List ℕ) (dir : Dir) (i : Image) (rules : List Rule) (begun k n : ℕ) (d : Rule) (h : Header)
+refused : (lists : List (List Run)) (members : MemberSets) (dir : Dir) (i : Image) (rules : List Rule) (begun k n : ℕ) (d : Rule) (h : Header)
     → AllWithin (AllowsNone lists members dir i) rules begun (begun + k) → holds h i.part ≡ true → n < k → allows lists members dir (header_at i h) (get_or (drop begun rules) n d) ≡ false
 refused lists members dir i rules begun k n d h before t less =
     ap (allows lists members dir (header_at i h)) (get_or-drop begun rules n d) ∙ before (begun + n) d (omega arith) (omega arith) h t
 
-pub left-all : (lists : List (List Run)) (members : List ℕ) (dir : Dir) (rules : List Rule) (begun k : ℕ) (i : Image) → IsValidImage i
+pub left-all : (lists : List (List Run)) (members : MemberSets) (dir : Dir) (rules : List Rule) (begun k : ℕ) (i : Image) → IsValidImage i
     → length (take (length rules - begun) (drop begun rules)) ≤ k → AllWithin (AllowsNone lists members dir i) rules begun (begun + k)
     → IsLeftWith lists members dir rules (take begun rules) i i.part
 left-all lists members dir rules begun k i valid ended before =
@@ -92,7 +92,7 @@ left-all lists members dir rules begun k i valid ended before =
     (none-of (allows lists members dir (header_at i h)) (drop begun rules) (λ n d inside. refused lists members dir i rules begun k n d h before t (omega arith))))
     (reduced_nothing (DivideRules lists members rules) whole i.part valid.part)
 
-pub left-before : (lists : List (List Run)) (members : List ℕ) (dir : Dir) (rules : List Rule) (begun k : ℕ) (i : Image) (next : Rule) (x : Part Bool)
+pub left-before : (lists : List (List Run)) (members : MemberSets) (dir : Dir) (rules : List Rule) (begun k : ℕ) (i : Image) (next : Rule) (x : Part Bool)
     → k < length (take (length rules - begun) (drop begun rules)) → next ≡ get_or (take (length rules - begun) (drop begun rules)) k next
     → IsNonDecreasingBy (λ r. r.q_from) rules → BeginAfter rules begun (header_at i (low_of i.part)).q → AllWithin (AllowsNone lists members dir i) rules begun (begun + k)
     → ((to : ℕ) → Answers (Divide (cuts_of_range next.q_from to)) (λ h. nat_le next.q_from (header_at i h).q) i.part x)
@@ -148,7 +148,7 @@ left-before lists members dir rules begun k i next x below is ascend later befor
         (cases_lt n k)
 
 -- a rule that begins after the ports of all headers leaves them all
-pub left-beyond : (lists : List (List Run)) (members : List ℕ) (dir : Dir) (rules : List Rule) (begun k : ℕ) (i : Image) (next : Rule) (last : ℕ)
+pub left-beyond : (lists : List (List Run)) (members : MemberSets) (dir : Dir) (rules : List Rule) (begun k : ℕ) (i : Image) (next : Rule) (last : ℕ)
     → k < length (take (length rules - begun) (drop begun rules)) → next ≡ get_or (take (length rules - begun) (drop begun rules)) k next
     → IsNonDecreasingBy (λ r. r.q_from) rules → BeginAfter rules begun (header_at i (low_of i.part)).q → AllWithin (AllowsNone lists members dir i) rules begun (begun + k)
     → IsValidImage i → last ≡ greatest_of i.q i.part → last < next.q_from
@@ -163,18 +163,18 @@ left-beyond lists members dir rules begun k i next last below is ascend later be
 
 -- ---- what is left of an image after some runs
 
-pub record IsInRuns (lists : List (List Run)) (members : List ℕ) (dir : Dir) (rules : List Rule) (i : Image) (k : ℕ) (rest : Image) : Type 0 where
+pub record IsInRuns (lists : List (List Run)) (members : MemberSets) (dir : Dir) (rules : List Rule) (i : Image) (k : ℕ) (rest : Image) : Type 0 where
   pub image : rest ≡ record i { part = rest.part }
   pub valid : IsValidImage rest
   pub walk : IsImageOfWalk rest
   pub left : IsLeftWith lists members dir rules (drop (16 * k) rules) i rest.part
 
-pub runs_first : (lists : List (List Run)) (members : List ℕ) (dir : Dir) (rules : List Rule) (i : Image) → IsValidImage i → IsImageOfWalk i → IsInRuns lists members dir rules i 0 i
+pub runs_first : (lists : List (List Run)) (members : MemberSets) (dir : Dir) (rules : List Rule) (i : Image) → IsValidImage i → IsImageOfWalk i → IsInRuns lists members dir rules i 0 i
 runs_first lists members dir rules i v w =
     record { image = refl; valid = v; walk = w; left = reduced_nothing (DivideRules lists members rules) (λ h. any_allows lists members dir rules (header_at i h)) i.part v.part }
 
 -- a run is asked of what is left
-run_asked : (lists : List (List Run)) (members : List ℕ) (dir : Dir) (rules : List Rule) (i rest : Image) (k : ℕ) (x : Part Bool) → rest ≡ record i { part = rest.part }
+run_asked : (lists : List (List Run)) (members : MemberSets) (dir : Dir) (rules : List Rule) (i rest : Image) (k : ℕ) (x : Part Bool) → rest ≡ record i { part = rest.part }
     → Answers (DivideRules lists members (run_of k rules)) (λ h. any_allows lists members dir (run_of k rules) (header_at rest h)) rest.part x
     → Answers (DivideRules lists members rules) (λ h. any_allows lists members dir (run_of k rules) (header_at i h)) rest.part x
 run_asked lists members dir rules i rest k x e a =
@@ -184,7 +184,7 @@ run_asked lists members dir rules i rest k x e a =
     (λ h. any_allows lists members dir (run_of k rules) (header_at i h)) rest.part x
     (λ h. ap (any_allows lists members dir (run_of k rules)) (header_of_rest i rest h e)) a)
 
-pub runs_next : (lists : List (List Run)) (members : List ℕ) (dir : Dir) (rules : List Rule) (i rest next : Image) (k : ℕ) (x : Part Bool)
+pub runs_next : (lists : List (List Run)) (members : MemberSets) (dir : Dir) (rules : List Rule) (i rest next : Image) (k : ℕ) (x : Part Bool)
     → x.told ≡ false → next ≡ record rest { part = x.body } → IsValidImage next → ((addresses : List ℕ) → KeepsKind addresses rest next)
     → IsInRuns lists members dir rules i k rest
     → Answers (DivideRules lists members (run_of k rules)) (λ h. any_allows lists members dir (run_of k rules) (header_at rest h)) rest.part x
@@ -202,7 +202,7 @@ runs_next lists members dir rules i rest next k x fails image valid keeps r a = 
 }
 
 -- a run that ends before the ports of all headers is left behind
-pub runs_passed : (lists : List (List Run)) (members : List ℕ) (dir : Dir) (rules : List Rule) (i rest : Image) (k q last : ℕ)
+pub runs_passed : (lists : List (List Run)) (members : MemberSets) (dir : Dir) (rules : List Rule) (i rest : Image) (k q last : ℕ)
     → ((h : Header) → holds h i.part ≡ true → q ≤ (header_at i h).q) → last < q → EndBy last (run_of k rules)
     → IsInRuns lists members dir rules i k rest → IsInRuns lists members dir rules i (k + 1) rest
 runs_passed lists members dir rules i rest k q last above before ends r = record {
@@ -219,7 +219,7 @@ runs_passed lists members dir rules i rest k q last above before ends r = record
 }
 
 -- the first runs of a number, which end before the ports of all headers, are left behind
-pub runs_ended : (lists : List (List Run)) (members : List ℕ) (dir : Dir) (rules : List Rule) (lasts : List ℕ) (i : Image) (q n : ℕ) → IsValidImage i → IsImageOfWalk i
+pub runs_ended : (lists : List (List Run)) (members : MemberSets) (dir : Dir) (rules : List Rule) (lasts : List ℕ) (i : Image) (q n : ℕ) → IsValidImage i → IsImageOfWalk i
     → ((h : Header) → holds h i.part ≡ true → q ≤ (header_at i h).q) → AreLasts rules lasts → AreEnded lasts q n → (m : ℕ) → m ≤ n → IsInRuns lists members dir rules i m i
 runs_ended lists members dir rules lasts i q n v w above are ended zero below = runs_first lists members dir rules i v w
 runs_ended lists members dir rules lasts i q n v w above are ended (suc m) below =
@@ -229,7 +229,7 @@ runs_ended lists members dir rules lasts i q n v w above are ended (suc m) below
     (runs_passed lists members dir rules i i m q (get_or lasts m 0) above (ended.before m (omega arith)) (are.ends m (omega arith))
     (runs_ended lists members dir rules lasts i q n v w above are ended m (omega arith)))
 
-pub runs_allow : (lists : List (List Run)) (members : List ℕ) (dir : Dir) (rules : List Rule) (i rest : Image) (k : ℕ) (x : Part Bool)
+pub runs_allow : (lists : List (List Run)) (members : MemberSets) (dir : Dir) (rules : List Rule) (i rest : Image) (k : ℕ) (x : Part Bool)
     → x.told ≡ true → IsInRuns lists members dir rules i k rest
     → Answers (DivideRules lists members (run_of k rules)) (λ h. any_allows lists members dir (run_of k rules) (header_at rest h)) rest.part x
     → Answers (DivideRules lists members rules) (λ h. any_allows lists members dir rules (header_at i h)) i.part (record { body = x.body; told = true })
@@ -242,7 +242,7 @@ runs_allow lists members dir rules i rest k x passes r a =
     (λ h e. run-parts (allows lists members dir (header_at i h)) rules k ∙ ap (λ b. b || any_allows lists members dir (drop (16 * (k + 1)) rules) (header_at i h)) e)
     r.left (run_asked lists members dir rules i rest k x r.image a))
 
-pub runs_none : (lists : List (List Run)) (members : List ℕ) (dir : Dir) (rules : List Rule) (i rest : Image) (k : ℕ) → length rules ≤ 16 * k
+pub runs_none : (lists : List (List Run)) (members : MemberSets) (dir : Dir) (rules : List Rule) (i rest : Image) (k : ℕ) → length rules ≤ 16 * k
     → IsInRuns lists members dir rules i k rest
     → Answers (DivideRules lists members rules) (λ h. any_allows lists members dir rules (header_at i h)) i.part (record { body = rest.part; told = false })
 runs_none lists members dir rules i rest k ended r =
@@ -258,7 +258,7 @@ pub few-begun : (table asked rules : List Rule) (q : ℕ) → asked ≡ table �
 few-begun table asked rules q same are = subst (λ (rs : List Rule). length rules ≤ length rs) (sym same) are.few
 
 -- the rules that begin at or before a port, on the body where the others aren't had
-pub any-allows : (lists : List (List Run)) (members : List ℕ) (dir : Dir) (table asked rules : List Rule) (q : ℕ) (i rest : Image) (body : Box5) (x : Part Bool)
+pub any-allows : (lists : List (List Run)) (members : MemberSets) (dir : Dir) (table asked rules : List Rule) (q : ℕ) (i rest : Image) (body : Box5) (x : Part Bool)
     → asked ≡ table → AreBegun table q rules → IsLeftWith lists members dir asked (take (length rules) asked) i body → rest ≡ record i { part = body }
     → Answers (DivideRules lists members rules) (λ h. any_allows lists members dir rules (header_at rest h)) rest.part x
     → Answers (DivideRules lists members table) (λ h. any_allows lists members dir table (header_at i h)) i.part x

@@ -5,13 +5,13 @@ use Rattle.vpc_base.proofs.Lemmas.{cases_lt, list_any-append, list_any_at, or-fa
 use Rattle.address_sets.specs.Runs.{IsStretch, is_in}
 use Rattle.image_tests.specs.Types.{Image, Run, Side}
 use Rattle.box_images.specs.Terms.{Answers, IsBody, field_of, greatest_of, header_at, number_of}
-use Rattle.cut_laws.specs.Dividing.{CutOut, DivideTurns}
+use Rattle.cut_laws.specs.Dividing.{DivideTurns}
 use Rattle.vpc_laws.specs.Types.{Box5, Dir, Header}
 use Rattle.image_tests.proofs.Lemmas.{least-number, number-greatest, stretch-cut}
 use Rattle.image_tests.specs.Keys.{EndsBy, IsKeyStretch, low_on}
 use Rattle.vpc_base.specs.Cuts.{CutLists}
 use Rattle.vpc_model.specs.Filter.{far_address, is_between, matches_proto}
-use Rattle.security_groups.specs.Terms.{AllowsNone, DivideRule, IsStretchOf, Rule, allows, has_member, names}
+use Rattle.security_groups.specs.Terms.{AllowsNone, DivideMember, DivideRule, IsStretchOf, MemberSets, Rule, allows, has_block, has_entry, has_key, names}
 
 -- ---- one test
 
@@ -23,10 +23,19 @@ stretch-set set a x s = record { from = s.from; alike = s.alike; cut = λ cuts d
     turn cuts divide below (inl e) = absurd (omega arith)
     turn cuts divide below (inr e) = divide x.0 below (e ∙ ap not (sym (s.alike x.0 s.from (omega arith))))
 
--- of the members of a group
-pub stretch-members : (members : List ℕ) (g a : ℕ) (x : ℕ × Bool) → IsKeyStretch members g a x
-    → IsStretchOf (CutOut (λ b. has_member members b g)) (λ b. has_member members b g) a x
-stretch-members members g a x s = record { from = s.from; alike = s.alike; cut = λ cuts divide below. stretch-cut members g a x cuts s divide below }
+-- of the keys of a group
+pub stretch-keys : (members : MemberSets) (keys : List ℕ) (g a : ℕ) (x : ℕ × Bool) → keys ≡ members.keys → IsKeyStretch keys g a x
+    → IsStretchOf (DivideMember members g) (λ b. has_key members b g) a x
+stretch-keys members keys g a x is found =
+    let s = subst (λ (ks : List ℕ). IsKeyStretch ks g a x) is found in
+    record { from = s.from; alike = s.alike; cut = λ cuts divide below. stretch-cut members.keys g a x cuts s divide.keys below }
+
+-- of the blocks of a group
+pub stretch-blocks : (members : MemberSets) (blocks : List (List Run)) (g a : ℕ) (x : ℕ × Bool) → blocks ≡ members.blocks
+    → IsStretchOf (DivideTurns (λ b. has_entry blocks b g)) (λ b. has_entry blocks b g) a x → IsStretchOf (DivideMember members g) (λ b. has_block members b g) a x
+stretch-blocks members blocks g a x is found =
+    let s = subst (λ (bs : List (List Run)). IsStretchOf (DivideTurns (λ b. has_entry bs b g)) (λ b. has_entry bs b g) a x) is found in
+    record { from = s.from; alike = s.alike; cut = λ cuts divide below. s.cut cuts divide.blocks below }
 
 -- that no address passes
 pub stretch-none : (enough : CutLists → Type 0) (test : ℕ → Bool) (a : ℕ) → a ≤ 4294967295 → ((b : ℕ) → test b ≡ false) → IsStretchOf enough test a (4294967295, false)
@@ -124,7 +133,7 @@ pub low-of-rest : (i rest : Image) (b : Box5) (s : Side) → IsBody b i.part →
 low-of-rest i rest b s body image =
     ap (λ (h : Header). number_of (header_at i h) s) (sym body.low) ∙ sym (ap (λ (j : Image). low_on j s) image)
 
-pub not-named : (lists : List (List Run)) (members : List ℕ) (dir : Dir) (h : Header) (r : Rule) → names lists members (far_address dir h) r ≡ false → allows lists members dir h r ≡ false
+pub not-named : (lists : List (List Run)) (members : MemberSets) (dir : Dir) (h : Header) (r : Rule) → names lists members (far_address dir h) r ≡ false → allows lists members dir h r ≡ false
 not-named lists members dir h r fails =
     ap (λ b. matches_proto r.proto h.proto && (is_between r.q_from r.q_to h.q && b)) fails ∙ nowhere (is_between r.q_from r.q_to h.q) (matches_proto r.proto h.proto)
   where
@@ -135,7 +144,7 @@ not-named lists members dir h r fails =
     nowhere false false = refl
 
 -- a rule that names none of its far addresses allows none of its headers
-pub names-none : (lists : List (List Run)) (members : List ℕ) (dir : Dir) (r : Rule) (i : Image) (s : Side) (low most : ℕ) (x : ℕ × Bool) → ((h : Header) → number_of h s ≡ far_address dir h)
+pub names-none : (lists : List (List Run)) (members : MemberSets) (dir : Dir) (r : Rule) (i : Image) (s : Side) (low most : ℕ) (x : ℕ × Bool) → ((h : Header) → number_of h s ≡ far_address dir h)
     → low ≡ low_on i s → most ≡ greatest_of (field_of i s) i.part → x.1 ≡ false → most ≤ x.0
     → IsStretchOf (DivideRule lists members r) (λ a. names lists members a r) low x → AllowsNone lists members dir i r
 names-none lists members dir r i s low most x far is ends fails reaches stretch h t =

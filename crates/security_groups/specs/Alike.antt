@@ -7,7 +7,7 @@ use Rattle.vpc_model.specs.Filter.{far_address}
 use Rattle.security_groups.specs.Dividing.{rules_in}
 use Rattle.security_groups.specs.Index.{GroupLists, allowed}
 use Rattle.security_groups.specs.Joined.{AreAlike}
-use Rattle.security_groups.specs.Rules.{any_allows, has_entry, has_member, names}
+use Rattle.security_groups.specs.Rules.{any_allows, has_block, has_entry, has_key, has_member, names}
 use Rattle.security_groups.specs.declared.rules.Rule.{Rule}
 
 -- what two networks' groups are resolved to
@@ -18,6 +18,14 @@ pub record BothGroups : Type 0 where
 -- a prefix list of one network has the addresses of one of the other
 abbrev pub IsSameList : GroupLists → GroupLists → ℕ → ℕ → Type 0
 IsSameList one other l k = (a : ℕ) → has_entry one.lists a l ≡ has_entry other.lists a k
+
+-- a group of one has the assigned members of one of the other
+abbrev pub HasSameKeys : GroupLists → GroupLists → ℕ → ℕ → Type 0
+HasSameKeys one other g k = (a : ℕ) → a < 2 ^ 32 → has_key one.members a g ≡ has_key other.members a k
+
+-- and the blocks
+abbrev pub HasSameBlocks : GroupLists → GroupLists → ℕ → ℕ → Type 0
+HasSameBlocks one other g k = (a : ℕ) → has_block one.members a g ≡ has_block other.members a k
 
 -- a group of one has the members of one of the other
 abbrev pub HasSameMembers : GroupLists → GroupLists → ℕ → ℕ → Type 0

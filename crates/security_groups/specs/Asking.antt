@@ -9,6 +9,7 @@ use Rattle.vpc_model.specs.Choice.{or_else}
 use Rattle.security_groups.specs.declared.groups.GroupRules.{GroupRules}
 use Rattle.security_groups.specs.declared.rules.Rule.{Rule}
 use Rattle.security_groups.specs.Rules.{allows}
+use Rattle.security_groups.specs.Members.{MemberSets}
 
 -- the rules of a direction
 abbrev pub rules_of : Dir → GroupRules → List Rule
@@ -30,12 +31,12 @@ least p [] = None
 least p (r ∷ rs) = lesser (if p r then Some r.number else None) (least p rs)
 
 -- the rule of a set with the least number that allows the packet, as a rule of its group
-abbrev pub first_in_group : List (List Run) → List ℕ → List GroupRules → Dir → Header → ℕ → Option RuleRef
+abbrev pub first_in_group : List (List Run) → MemberSets → List GroupRules → Dir → Header → ℕ → Option RuleRef
 first_in_group lists members groups dir h n =
     let set = slice_index_or groups n no_rules in
     option_map (λ k. record { group = set.group; dir = dir; number = k }) (least (allows lists members dir h) (rules_of dir set))
 
 -- the first rule of some groups that does, in their order
-abbrev pub first_of : List (List Run) → List ℕ → List GroupRules → Dir → Header → List ℕ → Option RuleRef
+abbrev pub first_of : List (List Run) → MemberSets → List GroupRules → Dir → Header → List ℕ → Option RuleRef
 first_of lists members groups dir h [] = None
 first_of lists members groups dir h (n ∷ ns) = or_else (first_in_group lists members groups dir h n) (first_of lists members groups dir h ns)

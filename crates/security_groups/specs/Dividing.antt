@@ -16,9 +16,10 @@ use Rattle.security_groups.specs.Rules.{DivideRules, allows, any_allows, has_ent
 use Rattle.security_groups.specs.Index.{GroupLists}
 use Rattle.security_groups.specs.declared.groups.GroupRules.{GroupRules}
 use Rattle.security_groups.specs.declared.rules.Rule.{Rule}
+use Rattle.security_groups.specs.Members.{MemberSets}
 
 -- a prefix list or a group that the rule names has the address
-abbrev pub lists_name : List (List Run) → List ℕ → ℕ → Rule → Bool
+abbrev pub lists_name : List (List Run) → MemberSets → ℕ → Rule → Bool
 lists_name lists members a r = list_any (has_entry lists a) r.lists || list_any (has_member members a) r.groups
 
 -- a test of addresses gives one answer from an address up to the last one, past which the cuts divide
@@ -37,16 +38,16 @@ FindsOne test rules None = list_any test rules ≡ false
 FindsOne test rules (Some k) = (k < length rules) × (test (rule_at rules k) ≡ true)
 
 -- the rule allows none of an image's headers
-abbrev pub AllowsNone : List (List Run) → List ℕ → Dir → Image → Rule → Type 0
+abbrev pub AllowsNone : List (List Run) → MemberSets → Dir → Image → Rule → Type 0
 AllowsNone lists members dir i r = (h : Header) → holds h i.part ≡ true → allows lists members dir (header_at i h) r ≡ false
 
 -- of the headers of a body, an image's are allowed by one of all rules where they are by one of the first ones
-abbrev pub IsLeftWith : List (List Run) → List ℕ → Dir → List Rule → List Rule → Image → Box5 → Type 0
+abbrev pub IsLeftWith : List (List Run) → MemberSets → Dir → List Rule → List Rule → Image → Box5 → Type 0
 IsLeftWith lists members dir rules first i body =
     Reduces (DivideRules lists members rules) (λ h. any_allows lists members dir rules (header_at i h)) (λ h. any_allows lists members dir first (header_at i h)) i.part body
 
 -- one of them allows all headers of a body
-abbrev pub IsAllowedOn : List (List Run) → List ℕ → Dir → List Rule → Image → Box5 → Type 0
+abbrev pub IsAllowedOn : List (List Run) → MemberSets → Dir → List Rule → Image → Box5 → Type 0
 IsAllowedOn lists members dir rules i body =
     Answers (DivideRules lists members rules) (λ h. any_allows lists members dir rules (header_at i h)) i.part (record { body = body; told = true })
 
@@ -55,11 +56,11 @@ abbrev pub rules_in : List GroupRules → Dir → ℕ → List Rule
 rules_in groups dir n = rules_of dir (slice_index_or groups n no_rules)
 
 -- those of some groups' rules
-abbrev pub DivideGroups : List (List Run) → List ℕ → List GroupRules → Dir → List ℕ → CutLists → Type 0
+abbrev pub DivideGroups : List (List Run) → MemberSets → List GroupRules → Dir → List ℕ → CutLists → Type 0
 DivideGroups lists members groups dir named cuts = All (λ n. DivideRules lists members (rules_in groups dir n) cuts) named
 
 -- a rule of one of some groups allows the packet
-abbrev pub any_group_allows : List (List Run) → List ℕ → List GroupRules → Dir → List ℕ → Header → Bool
+abbrev pub any_group_allows : List (List Run) → MemberSets → List GroupRules → Dir → List ℕ → Header → Bool
 any_group_allows lists members groups dir named h = list_any (λ n. any_allows lists members dir (rules_in groups dir n) h) named
 
 -- the cuts of an interface's groups, as the index has them

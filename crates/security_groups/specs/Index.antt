@@ -12,12 +12,13 @@ use Rattle.vpc_model.specs.Lookup.{interface_at}
 use Rattle.vpc_model.specs.Sound.{is_eni}
 use Rattle.security_groups.specs.declared.groups.GroupRules.{GroupRules}
 use Rattle.security_groups.specs.Asking.{first_of}
+use Rattle.security_groups.specs.Members.{MemberSets}
 
--- the entries of each prefix list, the members of groups as numbers, the rules of each group, and the groups of
+-- the entries of each prefix list, the members of groups, the rules of each group, and the groups of
 -- each interface
 pub record GroupLists : Type 0 where
   pub lists : List (List Run)
-  pub members : List ℕ
+  pub members : MemberSets
   pub groups : List GroupRules
   pub interfaces : List (List ℕ)
 

@@ -6,6 +6,7 @@ pub mod Lists
 pub mod Members
 pub mod Ids
 pub mod NumberKeys
+pub mod Sharing
 pub mod Naming
 pub mod Sets
 pub mod Index

@@ -1,39 +1,16 @@
 -- Which groups rules may name, by numbers (VPC User Guide, "Security group referencing").
 use Rattle.std.specs.List.{All, AllZip, list_any}
-use Rattle.std.specs.Prelude.{◌&&◌, ◌<◌, ◌==◌, ◌≡◌, ◌^◌, ◌≤◌, [], Bool, List, None, Option, Some, bytes_eq, filter, false, length, map, slice_index_or, true, ℕ}
+use Rattle.std.specs.Prelude.{◌&&◌, ◌<◌, ◌≡◌, ◌^◌, [], Bool, List, Some, bytes_eq, filter, length, map, slice_index_or, ℕ}
 use Rattle.vpc_base.specs.declared.headers.Dir.{Dir}
 use Rattle.vpc_model.specs.declared.rows.Description.{Description}
 use Rattle.vpc_model.specs.declared.rows.Group.{Group}
 use Rattle.vpc_model.specs.declared.rows.GroupVpc.{GroupVpc}
 use Rattle.vpc_model.specs.Groups.{are_over_transit, are_peers, is_inward, lets_name}
 use Rattle.vpc_model.specs.Lookup.{group_at}
-use Rattle.number_tables.specs.Keys.{key_of}
 use Rattle.security_groups.specs.Ids.{HasIds, is_number, place_of}
+use Rattle.security_groups.specs.Sharing.{has_pair}
 use Rattle.security_groups.specs.declared.naming.Naming.{Naming}
 use Rattle.security_groups.specs.declared.vpcs.GroupVpcs.{GroupVpcs}
-
--- the set has two numbers as a key
-abbrev pub has_pair : List ℕ → ℕ → ℕ → Bool
-has_pair keys high low = list_any (λ n. n == key_of high low) keys
-
--- a number of 32 bits makes a key of one set with x, and one of the other with y
-pub record Shares (keys : List ℕ) (x : ℕ) (others : List ℕ) (y : ℕ) : Type 0 where
-  pub number : ℕ
-  pub fits : number < 2 ^ 32
-  pub one : has_pair keys x number ≡ true
-  pub other : has_pair others y number ≡ true
-
--- the least number from low on that makes a key with the high one
-abbrev pub IsLowFrom : List ℕ → ℕ → ℕ → Option ℕ → Type 0
-IsLowFrom keys high low None = (k : ℕ) → low ≤ k → k < 2 ^ 32 → has_pair keys high k ≡ false
-IsLowFrom keys high low (Some n) = (low ≤ n) × (n < 2 ^ 32) × (has_pair keys high n ≡ true) × ((k : ℕ) → low ≤ k → k < n → has_pair keys high k ≡ false)
-
--- one of the numbers that make keys with x shares one with y in the other set
-pub record AnyShares (keys : List ℕ) (x : ℕ) (others : List ℕ) (y : ℕ) : Type 0 where
-  pub number : ℕ
-  pub fits : number < 2 ^ 32
-  pub has : has_pair keys x number ≡ true
-  pub shares : Shares others number others y
 
 -- the VPCs of a group beside its own (EC2 API, DescribeSecurityGroupVpcAssociations)
 abbrev pub further_of : Description → Group → List (List ℕ)

@@ -5,13 +5,14 @@ pub use Rattle.security_groups.specs.Dividing.{AllowsNone, DivideAt, DivideGroup
 pub use Rattle.security_groups.specs.Index.{GroupLists, HasRulesOf, allowed}
 pub use Rattle.security_groups.specs.Joined.{AreAlike, IsJoint, SayTheSame}
 pub use Rattle.security_groups.specs.Lists.{HasEntriesOf}
-pub use Rattle.security_groups.specs.Members.{AreFit, HasGroupsOf, HasMembersOf, all_members, groups_with, key_with, keys_with, number_of}
+pub use Rattle.security_groups.specs.Members.{AreDelegated, AreFit, AreMore, HasBlocksOf, HasGroupsOf, HasMembersOf, MemberSets, all_members, groups_with, holds_for, key_with, keys_with, number_of}
 pub use Rattle.security_groups.specs.Once.{once}
 pub use Rattle.security_groups.specs.Ids.{HasIds, KeepsNumbers, is_number, place_of}
-pub use Rattle.security_groups.specs.Naming.{AnyShares, ArePeers, AreAttached, HasOwn, HasPlace, HasVpcsOf, IsNaming, IsVpcNumber, Shares, TellsOfGroup, TellsOfVpcs, further_of, has_pair, over_transit}
+pub use Rattle.security_groups.specs.Naming.{ArePeers, AreAttached, HasOwn, HasPlace, HasVpcsOf, IsNaming, IsVpcNumber, TellsOfGroup, TellsOfVpcs, further_of, over_transit}
+pub use Rattle.security_groups.specs.Sharing.{AnyShares, Shares, has_pair}
 pub use Rattle.security_groups.specs.Sets.{AreSetKeys, AreSetsFor, IsFurther, IsSetFor, IsSetKey, IsSetNumber, KeepsSets}
 pub use Rattle.security_groups.specs.Resolved.{AreAsked, AreRulesOf, AreSets, HasListsOf, HasRulesFor, HasRulesIn, IsResolved, IsRuleOf, IsSetOf, counted, list_no}
-pub use Rattle.security_groups.specs.Rules.{DivideRule, DivideRules, allows, any_allows, has_entry, has_member, names}
+pub use Rattle.security_groups.specs.Rules.{DivideMember, DivideRule, DivideRules, allows, any_allows, has_block, has_entry, has_key, has_member, names}
 pub use Rattle.security_groups.specs.Tables.{AreBegun, AreEnded, AreLasts, BeginAfter, EndBy, run_of}
 pub use Rattle.security_groups.specs.declared.groups.GroupRules.{GroupRules}
 pub use Rattle.security_groups.specs.declared.rules.Rule.{Rule}

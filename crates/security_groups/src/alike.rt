@@ -1,9 +1,10 @@
 // Groups that let in the same in two networks.
-ghost use Rattle.std.specs.Prelude.{◌≡◌, IfOk, IfSome, IsTrue, None, slice_index_or};
+ghost use Rattle.std.specs.Prelude.{◌≡◌, IfOk, IfSome, IsTrue, None, slice_index_or, ℕ};
 ghost use Rattle.std.specs.List.{AllZip};
 ghost use Rattle.vpc_base.specs.declared.headers.Dir.TheVariants as dirs;
-ghost use Rattle.security_groups.specs.Alike.{AreTwins, HasSameMembers, IsSameList, IsTwin, LetsInSame, MatchesSame};
+ghost use Rattle.security_groups.specs.Alike.{AreTwins, HasSameBlocks, HasSameKeys, HasSameMembers, IsSameList, IsTwin, LetsInSame, MatchesSame};
 ghost use Rattle.security_groups.specs.Dividing.{rules_in};
+ghost use Rattle.security_groups.specs.Rules.{has_entry};
 
 use crate::building::list_no;
 use crate::groups::{GroupRules, rules_of};
@@ -11,6 +12,7 @@ use crate::index::GroupIndex;
 use crate::joined_rules::are_alike;
 use crate::lists::numbers_of_lists;
 use crate::rules::Rule;
+use address_sets::AddressSet;
 use number_tables::key_of;
 use reference_check::Network;
 use std::alloc::{AllocError, Global};
@@ -56,13 +58,17 @@ fn are_twins(twins: &[Option<u32>], numbers: &[u32], others: &[u32]) -> bool
 
 // ---- prefix lists
 
+// Whether two of some sets are there and have the same addresses.
+fn is_same_set(lists: &[AddressSet], list: usize, others: &[AddressSet], twin: usize) -> bool
+    ensures { IsTrue result → (a : ℕ) → has_entry lists.now a list ≡ has_entry others.now a twin }
+{
+    list < lists.len() && twin < others.len() && lists[list].is_same(&others[twin])
+}
+
 fn is_same_list(one: &GroupIndex, other: &GroupIndex, list: usize, twin: u32) -> bool
     ensures { IsTrue result → IsSameList one.now other.now list twin }
 {
-    let lists = one.lists();
-    let others = other.lists();
-    let twin = twin as usize;
-    list < lists.len() && twin < others.len() && lists[list].is_same(&others[twin])
+    is_same_set(one.lists(), list, other.lists(), twin as usize)
 }
 
 fn twin_of_list(one: &GroupIndex, other: &GroupIndex, list: usize, twin: Option<u32>) -> Option<u32>
@@ -98,12 +104,28 @@ fn twins_of_lists(
 
 // ---- members
 
+fn has_same_keys(one: &GroupIndex, other: &GroupIndex, group: u32, twin: u32) -> bool
+    ensures { IsTrue result → HasSameKeys one.now other.now group twin }
+{
+    let most = u64::from(u32::MAX);
+    let others = other.members().keys();
+    one.members()
+        .keys()
+        .is_same_above(key_of(group, 0), others, key_of(twin, 0), most)
+}
+
+fn has_same_blocks(one: &GroupIndex, other: &GroupIndex, group: u32, twin: u32) -> bool
+    ensures { IsTrue result → HasSameBlocks one.now other.now group twin }
+{
+    let blocks = one.members().blocks();
+    let others = other.members().blocks();
+    is_same_set(blocks, group as usize, others, twin as usize)
+}
+
 fn has_same_members(one: &GroupIndex, other: &GroupIndex, group: u32, twin: u32) -> bool
     ensures { IsTrue result → HasSameMembers one.now other.now group twin }
 {
-    let most = u64::from(u32::MAX);
-    one.members()
-        .is_same_above(key_of(group, 0), other.members(), key_of(twin, 0), most)
+    has_same_keys(one, other, group, twin) && has_same_blocks(one, other, group, twin)
 }
 
 fn twin_of_members(

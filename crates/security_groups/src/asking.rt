@@ -4,9 +4,10 @@ ghost use Rattle.std.specs.List.{list_any};
 ghost use Rattle.address_sets.specs.Runs.{is_in};
 ghost use Rattle.security_groups.specs.Rules.{allows, has_entry, has_member, names};
 
+use crate::members::Members;
 use crate::rules::Rule;
 use address_sets::AddressSet;
-use number_tables::{NumberSet, key_of};
+use number_tables::key_of;
 use vpc_base::{Dir, Header};
 use vpc_model::{far_address, is_between, matches_proto};
 
@@ -32,13 +33,13 @@ fn any_entry(lists: &[AddressSet], named: &[u32], a: u32) -> bool
     false
 }
 
-fn has_member(members: &NumberSet, group: u32, a: u32) -> bool
+fn has_member(members: &Members, group: u32, a: u32) -> bool
     ensures { result ≡ has_member members.now a group }
 {
-    members.has(key_of(group, a))
+    members.keys().has(key_of(group, a)) || has_entry(members.blocks(), group, a)
 }
 
-fn any_member(members: &NumberSet, named: &[u32], a: u32) -> bool
+fn any_member(members: &Members, named: &[u32], a: u32) -> bool
     ensures { result ≡ list_any (has_member members.now a) named.now }
 {
     for group in named {
@@ -50,7 +51,7 @@ fn any_member(members: &NumberSet, named: &[u32], a: u32) -> bool
 }
 
 // Whether a rule names an address.
-fn names(lists: &[AddressSet], members: &NumberSet, rule: &Rule, a: u32) -> bool
+fn names(lists: &[AddressSet], members: &Members, rule: &Rule, a: u32) -> bool
     ensures { result ≡ names lists.now members.now a rule.now }
 {
     rule.blocks.has(a)
@@ -59,7 +60,7 @@ fn names(lists: &[AddressSet], members: &NumberSet, rule: &Rule, a: u32) -> bool
 }
 
 /// Whether a rule allows a packet.
-pub fn allows(lists: &[AddressSet], members: &NumberSet, rule: &Rule, dir: Dir, h: &Header) -> bool
+pub fn allows(lists: &[AddressSet], members: &Members, rule: &Rule, dir: Dir, h: &Header) -> bool
     ensures { result ≡ allows lists.now members.now dir h.now rule.now }
 {
     matches_proto(rule.proto, h.proto)

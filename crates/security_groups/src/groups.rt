@@ -6,11 +6,11 @@ ghost use Rattle.security_groups.specs.Asking.{first_in_group, first_of, rules_o
 ghost use Rattle.security_groups.specs.Dividing.{DivideGroups, IsAllowedOn, any_group_allows, rules_in};
 ghost use Rattle.security_groups.specs.Rules.{DivideRules, any_allows};
 
+use crate::members::Members;
 use crate::tables::RuleTable;
 use address_sets::AddressSet;
 use box_images::{Image, Part};
 use header_boxes::Box5;
-use number_tables::NumberSet;
 use vpc_base::{Dir, Header};
 use vpc_model::{GroupNo, RuleRef};
 
@@ -46,7 +46,7 @@ pub fn rules_of(rules: &GroupRules, dir: Dir) -> &RuleTable
 // The first rule of a group that allows the packet.
 fn first_in_group(
     lists: &[AddressSet],
-    members: &NumberSet,
+    members: &Members,
     groups: &[GroupRules],
     group: u32,
     dir: Dir,
@@ -72,7 +72,7 @@ fn first_in_group(
 /// The first rule of some groups that allows the packet, in their order and that of their rules.
 pub fn first_of(
     lists: &[AddressSet],
-    members: &NumberSet,
+    members: &Members,
     groups: &[GroupRules],
     named: &[u32],
     dir: Dir,
@@ -92,7 +92,7 @@ pub fn first_of(
 // Whether one of a group's rules allows the headers of an image. A group that isn't described leaves the body as it is.
 fn any_in_group_on(
     lists: &[AddressSet],
-    members: &NumberSet,
+    members: &Members,
     groups: &[GroupRules],
     group: u32,
     dir: Dir,
@@ -117,7 +117,7 @@ fn any_in_group_on(
 // The body on which rules of the group allow the headers of an image, where they allow the low corner.
 fn body_by_group(
     lists: &[AddressSet],
-    members: &NumberSet,
+    members: &Members,
     groups: &[GroupRules],
     group: u32,
     dir: Dir,
@@ -137,7 +137,7 @@ fn body_by_group(
 // A body on which some rule of some of the groups allows all headers, if one is found.
 fn body_by_groups(
     lists: &[AddressSet],
-    members: &NumberSet,
+    members: &Members,
     groups: &[GroupRules],
     named: &[u32],
     dir: Dir,
@@ -162,7 +162,7 @@ fn body_by_groups(
 // Whether one of some groups' rules allows them, on a body of all groups.
 fn each_group_on(
     lists: &[AddressSet],
-    members: &NumberSet,
+    members: &Members,
     groups: &[GroupRules],
     named: &[u32],
     dir: Dir,
@@ -195,7 +195,7 @@ fn each_group_on(
 /// body is as large as that rule leaves it, with those of its group, protocol and ports.
 pub fn any_of_on(
     lists: &[AddressSet],
-    members: &NumberSet,
+    members: &Members,
     groups: &[GroupRules],
     named: &[u32],
     dir: Dir,

@@ -3,14 +3,14 @@ ghost use Rattle.std.specs.Prelude.{◌≡◌, IfOk};
 ghost use Rattle.security_groups.specs.Members.{HasGroupsOf};
 ghost use Rattle.security_groups.specs.Resolved.{AreAsked, HasListsOf};
 
+use crate::asked::asked_pairs;
 use crate::building::{Named, rule_sets};
 use crate::groups::{GroupRules, any_of_on, first_of};
 use crate::lists::entries_of;
-use crate::members::Membership;
+use crate::members::{Members, Membership};
 use crate::sets::{FurtherSets, place_all};
 use address_sets::AddressSet;
 use box_images::{Image, Part};
-use number_tables::NumberSet;
 use reference_check::Network;
 use std::alloc::{AllocError, Global};
 use std::marker::Model;
@@ -26,9 +26,11 @@ fn resolved_rules(
     requires { HasGroupsOf n.now interfaces.old.items }
     ensures { IfOk result (λ v. AreAsked n.now interfaces.new.items v.items) }
 {
-    let named = Named::of(alloc, n)?;
+    let mut named = Named::of(alloc, n)?;
     let mut further = FurtherSets::none(alloc);
     place_all(alloc, n, &named.naming.vpcs, &mut further, interfaces)?;
+    let asked = asked_pairs(alloc, n, &named.naming.vpcs, &further)?;
+    named.naming.attached.remember(alloc, asked)?;
     let sets = rule_sets(alloc, n, &named, &further)?;
     Ok(sets)
 }
@@ -153,7 +155,7 @@ impl GroupIndex {
         self.rules.lists.as_slice()
     }
 
-    pub(crate) fn members(&self) -> &NumberSet
+    pub(crate) fn members(&self) -> &Members
         ensures { result.now ≡ self.now.members }
     {
         &self.membership.members

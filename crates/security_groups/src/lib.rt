@@ -3,8 +3,11 @@
 #![tactic(auto)]
 
 mod alike;
+mod asked;
 mod asking;
+mod attached;
 mod building;
+mod delegated;
 mod groups;
 mod ids;
 mod index;

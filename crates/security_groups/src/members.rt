@@ -1,12 +1,16 @@
 // The groups of interfaces, and the members of groups.
 ghost use Rattle.std.specs.Prelude.{◌≡◌, ◌<◌, ◌^◌, ◌++◌, ◌∷◌, [], IfOk, OnOk, map, option_to_list};
 ghost use Rattle.std.specs.List.{filter_map};
-ghost use Rattle.security_groups.specs.Members.{AreFit, HasGroupsOf, HasMembersOf, groups_with, key_with, keys_with, number_of};
+ghost use Rattle.security_groups.specs.Members.{AreFit, AreMore, HasGroupsOf, HasMembersOf, groups_with, key_with, keys_with, number_of};
 
+use crate::delegated::{add_to_each, no_blocks, sets_of};
 use crate::once::once;
+use address_sets::AddressSet;
 use number_tables::{NumberSet, key_of};
+use prefix_text::Prefix;
 use reference_check::Network;
 use std::alloc::{AllocError, Global};
+use std::marker::Model;
 use vpc_base::OwnList;
 use vpc_model::{Id, Interface};
 
@@ -85,31 +89,76 @@ fn add_members(
     Ok(())
 }
 
-// Adds the groups of an interface, and its addresses as their members.
+// Adds the groups of an interface, its addresses as their members, and its blocks to those of each.
 fn add_interface(
     alloc: Global,
     n: &Network,
     interface: &Interface,
     interfaces: &mut Vec<OwnList<u32>>,
     keys: &mut Vec<u64>,
+    blocks: &mut Vec<Vec<Prefix>>,
 ) -> Result<(), AllocError>
     ensures named { OnOk result
         (interfaces.new.items ≡ interfaces.old.items ++ groups_with n.now interface.now ∷ []) }
     ensures added { OnOk result (keys.new.items
         ≡ keys.old.items ++ keys_with (groups_with n.now interface.now) interface.now.addresses) }
     ensures fit { OnOk result (AreFit interface.now.addresses) }
+    ensures delegated { OnOk result (AreMore (map (λ b. b.items) blocks.old.items)
+        (map (λ b. b.items) blocks.new.items) (groups_with n.now interface.now) interface.now.prefixes) }
 {
     let groups = groups_with(alloc, n, interface)?;
     add_members(keys, groups.as_slice(), interface.addresses.as_slice())?;
+    add_to_each(blocks, groups.as_slice(), interface.prefixes.as_slice())?;
     interfaces.push(groups)?;
     Ok(())
+}
+
+/// The members of groups: the keys of the groups and of the private addresses that are assigned to the interfaces that have them, and
+/// for each described group the addresses of the blocks that are delegated to these. Contracts see both.
+pub struct Members {
+    keys: NumberSet,
+    blocks: Vec<AddressSet>,
+}
+
+impl Drop for Members {
+    fn drop(self) {
+        let Members { keys, blocks } = self;
+        drop(keys);
+        drop(blocks);
+    }
+}
+
+impl Model for Members {
+    ghost use Rattle.security_groups.specs.Members.{MemberSets};
+
+    ghost Value = { MemberSets };
+
+    ghost view = { λ m. record { keys = m.keys; blocks = m.blocks.items } };
+}
+
+impl Members {
+    ghost use Rattle.std.specs.Prelude.{◌≡◌};
+
+    /// The keys of groups and assigned addresses.
+    pub fn keys(&self) -> &NumberSet
+        ensures { result.now ≡ self.now.keys }
+    {
+        &self.keys
+    }
+
+    /// The addresses of each group's blocks.
+    pub fn blocks(&self) -> &[AddressSet]
+        ensures { result.now ≡ self.now.blocks }
+    {
+        self.blocks.as_slice()
+    }
 }
 
 /// The groups of each interface, by their numbers, each once; and the private addresses of the interfaces that
 /// have each group, as its members.
 pub struct Membership {
     pub interfaces: Vec<OwnList<u32>>,
-    pub members: NumberSet,
+    pub members: Members,
 }
 
 impl Drop for Membership {
@@ -130,10 +179,20 @@ impl Membership {
     {
         let mut interfaces = Vec::new(alloc);
         let mut keys = Vec::new(alloc);
+        let mut delegated = no_blocks(alloc, n.description().groups.as_slice())?;
         for interface in n.description().interfaces.as_slice() {
-            add_interface(alloc, n, interface, &mut interfaces, &mut keys)?;
+            add_interface(
+                alloc,
+                n,
+                interface,
+                &mut interfaces,
+                &mut keys,
+                &mut delegated,
+            )?;
         }
-        let members = NumberSet::of(keys);
+        let blocks = sets_of(alloc, delegated.as_slice())?;
+        let keys = NumberSet::of(keys);
+        let members = Members { keys, blocks };
         Ok(Membership {
             interfaces,
             members,

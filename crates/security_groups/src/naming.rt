@@ -5,6 +5,7 @@ ghost use Rattle.vpc_model.specs.Groups.{may_name, vpcs_of_group};
 ghost use Rattle.vpc_model.specs.Lookup.{group_at};
 ghost use Rattle.security_groups.specs.Naming.{IsNaming, IsVpcNumber, TellsOfGroup, TellsOfVpcs, further_of, over_transit};
 
+use crate::attached::Attached;
 use crate::peers::peers_of;
 use crate::sharing::{any_shares, share};
 use crate::transit::attached_of;
@@ -18,7 +19,7 @@ use vpc_base::Dir;
 pub struct Naming {
     pub vpcs: GroupVpcs,
     pub peers: NumberSet,
-    pub attached: NumberSet,
+    pub attached: Attached,
 }
 
 impl Drop for Naming {
@@ -54,7 +55,7 @@ fn over_transit(named: &Naming, dir: Dir, vpc: u32, own: u32) -> bool
     ensures { TellsOfVpcs (over_transit dir) named.now vpc own result }
 {
     match dir {
-        Dir::Inward => share(&named.attached, own, &named.attached, vpc),
+        Dir::Inward => named.attached.share(own, vpc),
         Dir::Outward => false,
     }
 }
@@ -71,7 +72,7 @@ fn over_further_transit(named: &Naming, dir: Dir, vpc: u32, group: u32) -> bool
     ensures { TellsOfGroup (over_transit dir) further_of named.now vpc group result }
 {
     match dir {
-        Dir::Inward => any_shares(&named.vpcs.pairs, group, &named.attached, vpc),
+        Dir::Inward => any_shares(&named.vpcs.pairs, group, named.attached.keys(), vpc),
         Dir::Outward => false,
     }
 }
@@ -85,8 +86,8 @@ fn may_name_further(named: &Naming, dir: Dir, vpc: u32, group: u32) -> bool
         || (share(&named.peers, vpc, pairs, group) || over_further_transit(named, dir, vpc, group))
 }
 
-/// Whether rules that count in a VPC may name a group. For each VPC of the group the transit gateways of both are gone through at
-/// once, no longer than those of the one that has fewer.
+/// Whether rules that count in a VPC may name a group. For each further VPC of the group the transit gateways of both are gone through
+/// at once, no longer than those of the one that has fewer.
 pub fn may_name(n: &Network, named: &Naming, dir: Dir, vpc: u32, group: u32) -> bool
     requires naming { IsNaming n.now named.now }
     requires vpc { IsVpcNumber named.now.vpcs.ids vpc }

@@ -4,18 +4,18 @@ ghost use Rattle.std.specs.List.{list_any};
 ghost use Rattle.box_images.specs.Answers.{Answers};
 ghost use Rattle.box_images.specs.Fields.{number_of};
 ghost use Rattle.box_images.specs.Images.{IsImageOfWalk, IsValidImage, header_at};
-ghost use Rattle.cut_laws.specs.Dividing.{CutOut, DivideTurns};
+ghost use Rattle.cut_laws.specs.Dividing.{DivideTurns};
 ghost use Rattle.header_boxes.specs.Boxes.{holds};
 ghost use Rattle.image_tests.specs.Tests.{IsAddressSide};
 ghost use Rattle.vpc_base.specs.declared.headers.Header.{Header};
 ghost use Rattle.security_groups.specs.Dividing.{AllowsNone, IsStretchOf, lists_name};
-ghost use Rattle.security_groups.specs.Rules.{DivideRule, allows, has_entry, has_member, names};
+ghost use Rattle.security_groups.specs.Rules.{DivideMember, DivideRule, allows, has_entry, has_member, names};
 
+use crate::members::Members;
 use crate::rules::Rule;
 use address_sets::AddressSet;
 use box_images::{Image, Part, Side};
 use image_tests::{far_side, low_on, members_from, proto_on, rule_on, up_to};
-use number_tables::NumberSet;
 use vpc_base::Dir;
 
 // How far from an address on a prefix list has all addresses, or none.
@@ -46,13 +46,29 @@ fn any_entry_from(lists: &[AddressSet], named: &[u32], address: u32) -> (u32, bo
     (last, false)
 }
 
-fn any_member_from(members: &NumberSet, named: &[u32], address: u32) -> (u32, bool)
-    ensures { IsStretchOf (λ cuts. All (λ g. CutOut (λ a. has_member members.now a g) cuts) named.now)
+// How far from an address on a group has all addresses as members, or none.
+fn member_from(members: &Members, group: u32, address: u32) -> (u32, bool)
+    ensures { IsStretchOf (DivideMember members.now group)
+        (λ a. has_member members.now a group) address result }
+{
+    let key = members_from(members.keys(), group, address);
+    if key.1 {
+        return key;
+    }
+    let block = entries_from(members.blocks(), group, address);
+    if block.1 {
+        return block;
+    }
+    (key.0.min(block.0), false)
+}
+
+fn any_member_from(members: &Members, named: &[u32], address: u32) -> (u32, bool)
+    ensures { IsStretchOf (λ cuts. All (λ g. DivideMember members.now g cuts) named.now)
         (λ a. list_any (has_member members.now a) named.now) address result }
 {
     let mut last = u32::MAX;
     for group in named {
-        let has = members_from(members, *group, address);
+        let has = member_from(members, *group, address);
         if has.1 {
             return has;
         }
@@ -62,7 +78,7 @@ fn any_member_from(members: &NumberSet, named: &[u32], address: u32) -> (u32, bo
 }
 
 // Whether the prefix lists or groups of a rule name an address, and how far the addresses from there on are alike.
-fn listed_from(lists: &[AddressSet], members: &NumberSet, rule: &Rule, address: u32) -> (u32, bool)
+fn listed_from(lists: &[AddressSet], members: &Members, rule: &Rule, address: u32) -> (u32, bool)
     ensures { IsStretchOf (DivideRule lists.now members.now rule.now)
         (λ a. lists_name lists.now members.now a rule.now) address result }
 {
@@ -78,7 +94,7 @@ fn listed_from(lists: &[AddressSet], members: &NumberSet, rule: &Rule, address: 
 }
 
 // How far from an address on a rule names all addresses, or none.
-fn named_from(lists: &[AddressSet], members: &NumberSet, rule: &Rule, address: u32) -> (u32, bool)
+fn named_from(lists: &[AddressSet], members: &Members, rule: &Rule, address: u32) -> (u32, bool)
     ensures { IsStretchOf (DivideRule lists.now members.now rule.now)
         (λ a. names lists.now members.now a rule.now) address result }
 {
@@ -94,7 +110,7 @@ fn named_from(lists: &[AddressSet], members: &NumberSet, rule: &Rule, address: u
 }
 
 // Whether a rule could name a far address of an image.
-fn could_name(lists: &[AddressSet], members: &NumberSet, rule: &Rule, dir: Dir, i: &Image) -> bool
+fn could_name(lists: &[AddressSet], members: &Members, rule: &Rule, dir: Dir, i: &Image) -> bool
     requires { IsValidImage i.now }
     ensures { result ≡ false → AllowsNone lists.now members.now dir i.now rule.now }
 {
@@ -117,7 +133,7 @@ fn none_passes(answer: &Part<bool>, i: &Image) -> bool
 /// addresses, or where no header has its protocol.
 pub fn could_allow(
     lists: &[AddressSet],
-    members: &NumberSet,
+    members: &Members,
     rule: &Rule,
     dir: Dir,
     i: &Image,
@@ -137,7 +153,7 @@ pub fn could_allow(
 /// the lowest address, is told so of all protocols and ports.
 pub fn allows_on(
     lists: &[AddressSet],
-    members: &NumberSet,
+    members: &Members,
     rule: &Rule,
     dir: Dir,
     q: u16,

@@ -6,13 +6,13 @@ ghost use Rattle.security_groups.specs.Rules.{allows};
 ghost use Rattle.security_groups.specs.Tables.{AreBegun, AreEnded, AreLasts, AreTops, EndBy, run_of};
 
 use crate::asking::allows;
+use crate::members::Members;
 use crate::on_images::allows_on;
 use crate::rules::Rule;
 use crate::runs_on::{BegunRules, allowing_in_runs, any_in_runs_on, before_next};
 use address_sets::AddressSet;
 use box_images::{Image, Part};
 use header_boxes::Box5;
-use number_tables::NumberSet;
 use std::alloc::{AllocError, Global};
 use std::marker::Model;
 use vpc_base::{Dir, Header};
@@ -87,7 +87,7 @@ fn lesser(one: Option<u32>, other: Option<u32>) -> Option<u32>
 // The least number of a rule that allows the packet.
 fn least_in(
     lists: &[AddressSet],
-    members: &NumberSet,
+    members: &Members,
     rules: &[Rule],
     dir: Dir,
     h: &Header,
@@ -106,7 +106,7 @@ fn least_in(
 // The least number of a rule that allows the header, among the runs that don't end before the port: the first ones do.
 fn least_in_runs(
     lists: &[AddressSet],
-    members: &NumberSet,
+    members: &Members,
     begun: &BegunRules,
     dir: Dir,
     h: &Header,
@@ -203,7 +203,7 @@ impl PortTable {
     pub fn least_allowing(
         &self,
         lists: &[AddressSet],
-        members: &NumberSet,
+        members: &Members,
         dir: Dir,
         h: &Header,
     ) -> Option<u32>
@@ -217,7 +217,7 @@ impl PortTable {
     fn allowing(
         &self,
         lists: &[AddressSet],
-        members: &NumberSet,
+        members: &Members,
         dir: Dir,
         h: &Header,
     ) -> Option<usize>
@@ -231,7 +231,7 @@ impl PortTable {
         &self,
         number: usize,
         lists: &[AddressSet],
-        members: &NumberSet,
+        members: &Members,
         dir: Dir,
         i: &Image,
     ) -> Option<Part<bool>>
@@ -250,7 +250,7 @@ impl PortTable {
     pub fn allowed_on(
         &self,
         lists: &[AddressSet],
-        members: &NumberSet,
+        members: &Members,
         dir: Dir,
         i: &Image,
     ) -> Option<Box5>
@@ -274,7 +274,7 @@ impl PortTable {
     pub fn any_allows_on(
         &self,
         lists: &[AddressSet],
-        members: &NumberSet,
+        members: &Members,
         dir: Dir,
         i: &Image,
     ) -> Part<bool>

@@ -10,6 +10,7 @@ ghost use Rattle.security_groups.specs.Rules.{DivideRules, allows, any_allows};
 ghost use Rattle.security_groups.specs.Tables.{AreEnded, AreLasts, BeginAfter};
 
 use crate::asking::allows;
+use crate::members::Members;
 use crate::on_images::{allows_on, could_allow};
 use crate::port_tables::run_of;
 use crate::rules::Rule;
@@ -17,13 +18,12 @@ use address_sets::AddressSet;
 use box_images::{Image, Part, Side};
 use header_boxes::Box5;
 use image_tests::begins_on;
-use number_tables::NumberSet;
 use vpc_base::{Dir, Header};
 
 // The rules have begun at a port that no header is below.
 fn any_in_on(
     lists: &[AddressSet],
-    members: &NumberSet,
+    members: &Members,
     rules: &[Rule],
     dir: Dir,
     q: u16,
@@ -67,7 +67,7 @@ pub struct BegunRules<'a> {
 /// below, as the first ones do, aren't asked.
 pub fn any_in_runs_on(
     lists: &[AddressSet],
-    members: &NumberSet,
+    members: &Members,
     begun: &BegunRules,
     dir: Dir,
     q: u16,
@@ -108,7 +108,7 @@ const MOST_PASSED: u8 = 64;
 /// the low corner. It ends before the first port of the first one that could allow a header, if one comes to that port.
 pub fn before_next(
     lists: &[AddressSet],
-    members: &NumberSet,
+    members: &Members,
     rules: &[Rule],
     begun: usize,
     dir: Dir,
@@ -137,7 +137,7 @@ pub fn before_next(
 }
 
 // Whether a rule allows the packet, where most rules end before its port: that is asked first and in place.
-fn allows_at(lists: &[AddressSet], members: &NumberSet, rule: &Rule, dir: Dir, h: &Header) -> bool
+fn allows_at(lists: &[AddressSet], members: &Members, rule: &Rule, dir: Dir, h: &Header) -> bool
     ensures { result ≡ allows lists.now members.now dir h.now rule.now }
 {
     if rule.q_to < h.q {
@@ -148,7 +148,7 @@ fn allows_at(lists: &[AddressSet], members: &NumberSet, rule: &Rule, dir: Dir, h
 
 fn allowing_in(
     lists: &[AddressSet],
-    members: &NumberSet,
+    members: &Members,
     rules: &[Rule],
     dir: Dir,
     h: &Header,
@@ -166,7 +166,7 @@ fn allowing_in(
 /// The number of a rule that allows the packet, if one does, by runs, of which the first ones end before its port.
 pub fn allowing_in_runs(
     lists: &[AddressSet],
-    members: &NumberSet,
+    members: &Members,
     begun: &BegunRules,
     dir: Dir,
     h: &Header,

@@ -1,6 +1,6 @@
 // What two sets of keys have in common.
 ghost use Rattle.std.specs.Prelude.{◌≡◌, ◌↔◌, IsTrue};
-ghost use Rattle.security_groups.specs.Naming.{AnyShares, IsLowFrom, Shares};
+ghost use Rattle.security_groups.specs.Sharing.{AnyShares, IsLowFrom, Shares};
 
 use number_tables::{NumberSet, key_of};
 

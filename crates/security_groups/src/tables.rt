@@ -3,12 +3,12 @@ ghost use Rattle.std.specs.Prelude.{IfOk, IfSome, IsPermutation};
 ghost use Rattle.security_groups.specs.Joined.{SayTheSame};
 
 use crate::joined_rules::{has_alike, joined};
+use crate::members::Members;
 use crate::port_tables::PortTable;
 use crate::rules::Rule;
 use address_sets::AddressSet;
 use box_images::{Image, Part};
 use header_boxes::Box5;
-use number_tables::NumberSet;
 use std::alloc::{AllocError, Global};
 use std::marker::Model;
 use vpc_base::{Dir, Header};
@@ -90,7 +90,7 @@ impl RuleTable {
     pub fn least_allowing(
         &self,
         lists: &[AddressSet],
-        members: &NumberSet,
+        members: &Members,
         dir: Dir,
         h: &Header,
     ) -> Option<u32>
@@ -104,7 +104,7 @@ impl RuleTable {
     pub fn allowed_on(
         &self,
         lists: &[AddressSet],
-        members: &NumberSet,
+        members: &Members,
         dir: Dir,
         i: &Image,
     ) -> Option<Box5>
@@ -122,7 +122,7 @@ impl RuleTable {
     pub fn any_allows_on(
         &self,
         lists: &[AddressSet],
-        members: &NumberSet,
+        members: &Members,
         dir: Dir,
         i: &Image,
     ) -> Part<bool>

@@ -4,6 +4,7 @@ ghost use Rattle.security_groups.specs.Ids.{HasIds};
 ghost use Rattle.security_groups.specs.Naming.{AreAttached};
 ghost use Rattle.security_groups.specs.NumberKeys.{attached_keys};
 
+use crate::attached::Attached;
 use crate::ids::IdNumbers;
 use crate::vpcs::push_key;
 use number_tables::NumberSet;
@@ -64,7 +65,7 @@ fn add_attachment(
 }
 
 /// The numbered VPCs with the transit gateways to which they are attached, where rules may name groups over both.
-pub fn attached_of(alloc: Global, n: &Network, ids: &IdNumbers) -> Result<NumberSet, AllocError>
+pub fn attached_of(alloc: Global, n: &Network, ids: &IdNumbers) -> Result<Attached, AllocError>
     requires { length ids.now < 2 ^ 32 }
     ensures { IfOk result (AreAttached n.now ids.now) }
 {
@@ -73,5 +74,6 @@ pub fn attached_of(alloc: Global, n: &Network, ids: &IdNumbers) -> Result<Number
     for attachment in n.description().attachments.as_slice() {
         add_attachment(&mut keys, &letting, ids, attachment)?;
     }
-    Ok(NumberSet::of(keys))
+    let attached = Attached::of(alloc, NumberSet::of(keys))?;
+    Ok(attached)
 }

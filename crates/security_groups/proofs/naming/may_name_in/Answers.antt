@@ -1,7 +1,8 @@
 use Rattle.std.proofs.Common.{◌∙◌, ◌==◌, ◌||◌, ap, refl}
 use Rattle.std.specs.List.{list_any}
 use Rattle.std.proofs.lemmas.Bool.{eq-eqb, ne_eqb}
-use Rattle.security_groups.specs.Naming.{has_pair, over_transit}
+use Rattle.security_groups.specs.Naming.{over_transit}
+use Rattle.security_groups.specs.Sharing.{has_pair}
 use Rattle.security_groups.proofs.NamingLemmas.{first-of-three, last-of-three, own-named, second-of-three}
 use Rattle.security_groups.proofs.naming.may_name_in.Goals as goal
 

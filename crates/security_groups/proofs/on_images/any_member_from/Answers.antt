@@ -1,8 +1,7 @@
 use Rattle.std.proofs.Common.{arith, false, get_or}
-use Rattle.cut_laws.specs.Dividing.{CutOut}
-use Rattle.security_groups.specs.Rules.{has_member}
+use Rattle.security_groups.specs.Rules.{DivideMember, has_member}
 use Rattle.security_groups.proofs.AskingOn.{DivideMembers}
-use Rattle.security_groups.proofs.Stretching.{any-all, any-first, any-found, any-next, stretch-members, stretch-more}
+use Rattle.security_groups.proofs.Stretching.{any-all, any-first, any-found, any-next, stretch-more}
 use Rattle.security_groups.proofs.on_images.any_member_from.Goals as goal
 
 pub loop-group-init : goal.loop-group-init
@@ -15,10 +14,9 @@ loop-group-preserved c =
     let a = c.args.address in
     let k = c.loop-group.group-index in
     let g = get_or named k 0 in
-    let x = c.members_from-has.result in
+    let x = c.member_from-has.result in
     any-next (DivideMembers members named) (has_member members) named a k c.loop-group.last c.min-last.result x (omega arith) c.if-has.false c.min-last.ensures c.loop-group.invariant
-    (stretch-more (CutOut (λ b. has_member members b g)) (DivideMembers members named) (λ b. has_member members b g) a x (λ cuts all. all k 0 (omega arith))
-    (stretch-members members g a x c.members_from-has.ensures))
+    (stretch-more (DivideMember members g) (DivideMembers members named) (λ b. has_member members b g) a x (λ cuts all. all k 0 (omega arith)) c.member_from-has.ensures)
 
 pub returns-then-has : goal.returns-then-has
 returns-then-has c =
@@ -27,10 +25,9 @@ returns-then-has c =
     let a = c.args.address in
     let k = c.loop-group.group-index in
     let g = get_or named k 0 in
-    let x = c.members_from-has.result in
+    let x = c.member_from-has.result in
     any-found (DivideMembers members named) (has_member members) named a k x (omega arith) c.if-has.true
-    (stretch-more (CutOut (λ b. has_member members b g)) (DivideMembers members named) (λ b. has_member members b g) a x (λ cuts all. all k 0 (omega arith))
-    (stretch-members members g a x c.members_from-has.ensures))
+    (stretch-more (DivideMember members g) (DivideMembers members named) (λ b. has_member members b g) a x (λ cuts all. all k 0 (omega arith)) c.member_from-has.ensures)
 
 pub returns : goal.returns
 returns c =
