@@ -5,6 +5,7 @@ pub mod Staying
 pub mod RouteAnswers
 pub mod ToldOfSome
 pub mod OwnAnswers
+pub mod Delegated
 pub mod HostAnswers
 pub mod RouterAnswers
 pub mod PeeringAnswers

@@ -6,7 +6,7 @@ use Rattle.vpc_base.specs.declared.headers.Label.TheVariants as labels
 use Rattle.image_tests.specs.Types.{Part}
 use Rattle.vpc_laws.proofs.Lemmas.{nat_addresses_are_interfaces}
 use Rattle.vpc_laws.specs.Types.{Description, Header, Interface, Label, NatLife, NatNo, Place}
-use Rattle.vpc_model.specs.Terms.{Appliances, IsAccepted, Translation, addresses_in, both_addresses, eni_no, has_address, interface_at, is_live, is_nat, is_sound, nat_at, no_interface, own_address, step_at}
+use Rattle.vpc_model.specs.Terms.{Appliances, IsAccepted, Translation, addresses_in, both_addresses, eni_no, interface_at, is_assigned, is_live, is_nat, is_sound, nat_at, no_interface, own_address, step_at}
 use Rattle.vpc_model.specs.declared.places.Place.TheVariants as places
 use Rattle.vpc_model.specs.declared.rows.NatLife.TheVariants as lives
 use Rattle.vpc_model.specs.declared.stops.Stop.TheVariants as stops
@@ -72,7 +72,7 @@ pub works_at : (d : Description) (label : Label) (n : NatNo) (old : BoxMoment) �
 works_at d label n old moment (inl is) = let row = nat_at d n in and_parts (is_nat d n) (is_live row.life) (ap (is_sound d) (sym is) ∙ moment.sound)
 works_at d label n old moment (inr is) = let row = nat_at d n in and_parts (is_nat d n) (is_live row.life) (ap (is_sound d) (sym is) ∙ moment.sound)
 
-address-listed : (d : Description) (e : Interface) (a : ℕ) → Contains d.interfaces e → has_address e a ≡ true → Contains (addresses_in d) a
+address-listed : (d : Description) (e : Interface) (a : ℕ) → Contains d.interfaces e → is_assigned e a ≡ true → Contains (addresses_in d) a
 address-listed d e a listed has =
     let found = list_any-member (λ (x : ℕ × Option ℕ). x.0 == a) e.addresses has in
     let pair = found.0 in

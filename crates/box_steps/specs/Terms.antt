@@ -5,7 +5,7 @@ pub use Rattle.box_images.specs.Images.{IsImageOfOpen, IsValidImage, KeepsKind, 
 pub use Rattle.box_images.specs.declared.images.Image.{Image}
 pub use Rattle.box_images.specs.declared.images.Part.{Part}
 pub use Rattle.box_steps.specs.Cuts.{AtPlace, Standing}
-pub use Rattle.box_steps.specs.Hosts.{DivideAddress, DivideOwn, own_address}
+pub use Rattle.box_steps.specs.Hosts.{DivideAddress, DivideBlocks, DivideOwn, own_address}
 pub use Rattle.box_steps.specs.Missing.{HoldsOver, is_away, is_elsewhere, misses, misses_at}
 pub use Rattle.box_steps.specs.Moments.{AreApart, CanRemember, IsBoxMoment, IsImageOf, IsLetIn, IsNarrowed, IsOpenOver, IsRewritten, IsStepOn, IsStepTo, IsTranslatedOver, IsTurned, RemembersMore, comes_to, entry_over, has_conn, has_left, has_nat, image_over, moment_at, nat_over, next_at, remembers, translation_at, translations_at}
 pub use Rattle.box_steps.specs.Onward.{after_carry, onward_of}

@@ -5,7 +5,7 @@ use Rattle.vpc_base.specs.Cuts.{CutLists}
 use Rattle.cut_laws.proofs.Lemmas.{among_through, blocks-divide, interfaces_are_standing, on_sides_among, vpcs_are_standing}
 use Rattle.cut_laws.specs.Dividing.{Divide, DivideTurns}
 use Rattle.vpc_laws.proofs.Numbering.{ids_are_found}
-use Rattle.vpc_model.specs.Terms.{address_cuts, cuts_of_blocks, cuts_of_interface, cuts_of_vpc, has_block, is_in_vpc, is_vpc, on_sides, owned_by, owner_of, pair_cuts, pair_of, pairs_in, pairs_of, public_of, standing_cuts, vpc_at, vpc_no, vpc_of_interface}
+use Rattle.vpc_model.specs.Terms.{address_cuts, block_cuts, cuts_of_blocks, cuts_of_interface, cuts_of_vpc, has_block, is_in_vpc, is_vpc, on_sides, owned_by, owner_of, pair_cuts, pair_of, pairs_in, pairs_of, public_of, standing_cuts, vpc_at, vpc_no, vpc_of_interface}
 use Rattle.vpc_laws.specs.Types.{Description, Interface, VpcNo}
 use Rattle.edge_gateways.specs.Terms.{AreEdgesOf, EdgeLists, OwnersAreCutOut, PublicsAreCutOut, Sides, SidesAreDivided, has_address, other_of, owner_at}
 use Rattle.edge_gateways.proofs.Carrying.{has_address-is, numbers_of, sides-at}
@@ -37,13 +37,14 @@ flat_map-has f [] x c (k, below, e) has = absurd (omega arith)
 flat_map-has f (y ∷ ys) x c (zero, below, e) has = Contains-append_left (f y) (flat_map f ys) c (subst (λ z. Contains (f z) c) (sym e) has)
 flat_map-has f (y ∷ ys) x c (suc k, below, e) has = Contains-append_right (f y) (flat_map f ys) c (flat_map-has f ys x c (k, omega arith, e) has)
 
--- an address whose cuts are among an interface's is cut out by standing cuts
+-- an address whose cuts are among those of an interface's addresses is cut out by standing cuts
 cut-out : (d : Description) (e : Interface) (a : ℕ) → Contains d.interfaces e
     → ((c : ℕ) → Contains (address_cuts a) c → Contains (flat_map pair_cuts e.addresses) c) → Divide (cuts_of_blocks (address_cuts a)) (standing_cuts d)
 cut-out d e a has within =
     let few : CutLists = cuts_of_blocks (address_cuts a) in
     among_through (on_sides few) (on_sides (cuts_of_interface e)) (standing_cuts d)
-    (on_sides_among few (cuts_of_interface e) (record { proto = λ c k. k; addr = within; p = λ c k. k; q = λ c k. k }))
+    (on_sides_among few (cuts_of_interface e)
+    (record { proto = λ c k. k; addr = λ c k. Contains-append_left (flat_map pair_cuts e.addresses) (flat_map block_cuts e.prefixes) c (within c k); p = λ c k. k; q = λ c k. k }))
     (interfaces_are_standing d e has)
 
 own-cut-out : (d : Description) (e : Interface) (own public : ℕ) → Contains d.interfaces e → Contains (pairs_of e) (own, public)

@@ -1,4 +1,4 @@
--- Interfaces by their VPCs and private addresses.
+-- Interfaces by their VPCs and the private addresses that are assigned to them.
 use Rattle.std.proofs.Common.{◌≡◌, ◌∙◌, ◌++◌, ◌+◌, ◌<◌, ◌==◌, ◌&&◌, ◌||◌, ◌∷◌, ◌^◌, [], ℕ, All, Bool, List, Option, Some, ap, append_assoc, arith, cond, drop, false, find, get_or, length, map, option_map, refl, sym, take, true}
 use Rattle.std.specs.List.{AllByRecursion, list_any, position_from}
 use Rattle.std.proofs.lemmas.Iterator.Adapters.{position_from-zero}
@@ -14,7 +14,7 @@ use Rattle.number_tables.specs.declared.tables.Entry.{Entry}
 use Rattle.vpc_laws.proofs.Lengths.{accepted_has_short_lists}
 use Rattle.vpc_laws.specs.Types.{Description, EniNo, Interface, VpcNo}
 use Rattle.vpc_model.specs.Accepted.{IsAccepted}
-use Rattle.vpc_model.specs.Lookup.{has_address, is_in_vpc, vpc_no, vpc_of_interface}
+use Rattle.vpc_model.specs.Lookup.{is_assigned, is_in_vpc, vpc_no, vpc_of_interface}
 use Rattle.fabric.specs.Hosts.{AreHosts, HasFit, host_entries, host_entry, hosts_from}
 
 abbrev numbered : ℕ → EniNo
@@ -46,17 +46,17 @@ abbrev Agrees : Description → VpcNo → Interface → Type 0
 Agrees d v e = is_in_vpc d v e ≡ ((vpc_no d (vpc_of_interface d e)).0 == v.0)
 
 hosts_from-found : (d : Description) (v : VpcNo) (a : ℕ) → a < 2 ^ 32 → (k : ℕ) (rows : List Interface) → AllByRecursion (Agrees d v) rows → AllByRecursion HasFit rows
-    → value_at (key_of v.0 a) (hosts_from d k rows) ≡ option_map numbered (position_from (λ e. has_address e a && is_in_vpc d v e) k rows)
+    → value_at (key_of v.0 a) (hosts_from d k rows) ≡ option_map numbered (position_from (λ e. is_assigned e a && is_in_vpc d v e) k rows)
 hosts_from-found d v a below k [] agree fit = refl
 hosts_from-found d v a below k (e ∷ rows) agree fit =
     entries-tell (vpc_no d (vpc_of_interface d e)) v (numbered k) a e.addresses (hosts_from d (k + 1) rows) below (recursion_from_All (λ (x : ℕ × Option ℕ). x.0 < 2 ^ 32) e.addresses fit.0)
-    ∙ ap (λ b. cond (has_address e a && b) (Some (numbered k)) (value_at (key_of v.0 a) (hosts_from d (k + 1) rows))) (sym agree.0)
-    ∙ by (has_address e a && is_in_vpc d v e) (hosts_from-found d v a below (k + 1) rows agree.1 fit.1)
+    ∙ ap (λ b. cond (is_assigned e a && b) (Some (numbered k)) (value_at (key_of v.0 a) (hosts_from d (k + 1) rows))) (sym agree.0)
+    ∙ by (is_assigned e a && is_in_vpc d v e) (hosts_from-found d v a below (k + 1) rows agree.1 fit.1)
   where
     by : (b : Bool)
-        → value_at (key_of v.0 a) (hosts_from d (k + 1) rows) ≡ option_map numbered (position_from (λ e. has_address e a && is_in_vpc d v e) (k + 1) rows)
+        → value_at (key_of v.0 a) (hosts_from d (k + 1) rows) ≡ option_map numbered (position_from (λ e. is_assigned e a && is_in_vpc d v e) (k + 1) rows)
         → cond b (Some (numbered k)) (value_at (key_of v.0 a) (hosts_from d (k + 1) rows))
-        ≡ option_map numbered (cond b (Some k) (position_from (λ e. has_address e a && is_in_vpc d v e) (k + 1) rows))
+        ≡ option_map numbered (cond b (Some k) (position_from (λ e. is_assigned e a && is_in_vpc d v e) (k + 1) rows))
     by true told = refl
     by false told = told
 
@@ -67,7 +67,7 @@ are_hosts d table accepted fit values = λ v a lies below.
     ∙ hosts_from-found d v a below 0 d.interfaces
     (all_members (Agrees d v) d.interfaces (λ e member. ids_agree d v (vpc_of_interface d e) accepted lies (vpc_described d e accepted member)))
     (recursion_from_All HasFit d.interfaces fit)
-    ∙ ap (option_map numbered) (sym (position_from-zero (λ e. has_address e a && is_in_vpc d v e) d.interfaces))
+    ∙ ap (option_map numbered) (sym (position_from-zero (λ e. is_assigned e a && is_in_vpc d v e) d.interfaces))
 
 -- an accepted description has few
 pub few-interfaces : (d : Description) (interfaces : List Interface) (k : ℕ) → IsAccepted d → interfaces ≡ d.interfaces → k < length interfaces → k < 2 ^ 32

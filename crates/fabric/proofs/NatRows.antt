@@ -12,7 +12,7 @@ use Rattle.vpc_laws.proofs.Lengths.{accepted_has_short_lists}
 use Rattle.vpc_laws.proofs.Numbering.{accepted_numbers_are_own, ids_are_found}
 use Rattle.vpc_laws.specs.Types.{Description, EniNo, NatGateway, NatNo}
 use Rattle.vpc_model.specs.Accepted.{IsAccepted}
-use Rattle.vpc_model.specs.Lookup.{eni_no, has_address, has_interface, interface_at, no_interface}
+use Rattle.vpc_model.specs.Lookup.{eni_no, has_interface, interface_at, is_assigned, no_interface}
 use Rattle.vpc_model.specs.Sound.{is_eni}
 use Rattle.vpc_model.specs.Step.Crossing.{is_eni_of}
 use Rattle.vpc_model.specs.declared.rows.NatLife.{NatLife}
@@ -61,7 +61,7 @@ pub nat-interface : (d : Description) (n : NatGateway) (subnet eni : List ℕ) (
 nat-interface d n subnet eni address accepted listed is =
     let e = interface_at d (eni_no d eni) in
     let place = (accepted_has_all_named d accepted).place_of_nat n subnet eni address listed is in
-    (and_parts (has_interface d eni) (bytes_eq e.subnet subnet && has_address e address) place.1).0
+    (and_parts (has_interface d eni) (bytes_eq e.subnet subnet && is_assigned e address) place.1).0
 
 nat_entries-found : (d : Description) (i : EniNo) → IsAccepted d → is_eni d i ≡ true → (k : ℕ) (rows : List NatGateway) → ((n : NatGateway) → Contains rows n → Contains d.nats n)
     → value_at i.0 (nat_entries d k rows) ≡ option_map numbered (position_from (λ n. is_eni_of (interface_at d i).id n.life) k rows)

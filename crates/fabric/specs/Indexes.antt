@@ -30,7 +30,7 @@ abbrev pub IsAclIndex : Acl → TriedRows → Type 0
 IsAclIndex a x = SortsRows a.rows x
 
 -- the indexes of all ACLs, groups and route tables, of the edges, of the transit gateways, NAT gateways by their interfaces, interfaces by
--- their addresses, where interfaces, subnets and NAT gateways lie, the modes of subnets, which VPCs peerings join, and what routes lead to
+-- their assigned addresses, where interfaces, subnets and NAT gateways lie, the modes of subnets, which VPCs peerings join, and what routes lead to
 pub record IndexLists : Type 0 where
   pub acls : List TriedRows
   pub groups : GroupLists

@@ -1,4 +1,4 @@
-// Interfaces by their VPCs and private addresses.
+// Interfaces by their VPCs and the private addresses that are assigned to them.
 ghost use Rattle.std.specs.Prelude.{◌≡◌, ◌++◌, ◌<◌, ◌^◌, All, Contains, IfOk, OnOk, map};
 ghost use Rattle.fabric.specs.Hosts.{AreHosts, HasFit, host_entries, host_entry, hosts_from};
 
@@ -18,7 +18,7 @@ fn entry_of(v: VpcNo, i: EniNo, own: u32) -> Entry<EniNo>
     }
 }
 
-// Adds an interface in a VPC by each of its private addresses.
+// Adds an interface in a VPC by each of the addresses that are assigned to it.
 fn add_addresses(
     entries: &mut Vec<Entry<EniNo>>,
     v: VpcNo,
@@ -63,7 +63,7 @@ fn entries_of(alloc: Global, n: &Network) -> Result<Vec<Entry<EniNo>>, AllocErro
     Ok(entries)
 }
 
-/// The interface of each private address in each VPC. It takes time n log n in all private addresses.
+/// The interface to which each private address is assigned in each VPC. It takes time n log n in all of them.
 pub fn hosts_by_address(alloc: Global, n: &Network) -> Result<NumberTable<EniNo>, NoMemory>
     ensures { IfOk result (AreHosts n.now) }
 {

@@ -332,8 +332,9 @@ impl Fabric {
         self.indexes.nat_of(i)
     }
 
-    /// The interfaces by the keys of their VPCs and private addresses: a look-up reads about log2 n entries
-    /// where a search goes through all interfaces, and the next key says up to where an address is nobody's.
+    /// The interfaces by the keys of their VPCs and the private addresses that are assigned to them: a look-up
+    /// reads about log2 n entries where a search goes through all interfaces, and the next key says up to
+    /// where none is assigned.
     pub fn hosts(&self) -> &NumberTable<EniNo>
         ensures { AreHosts self.now result.now }
     {

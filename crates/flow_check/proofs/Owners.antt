@@ -1,70 +1,26 @@
 -- What the interface that has an address tells of it.
-use Rattle.std.proofs.Common.{◌&&◌, ◌++◌, ◌<◌, ◌==◌, ◌≡◌, ◌∙◌, ◌∷◌, [], Bool, IfSome, List, None, Option, Some, ap, arith, bytes_eq, cond, false, get_or, inl, inr, length, map, nat_lt, option_map, position, refl, subst, suc, sym, true, zero, ℕ}
-use Rattle.std.specs.List.{Contains, IsDistinct, flat_map, list_any, position_or_len}
-use Rattle.std.proofs.lemmas.Bool.{and_from, and_parts, both_ways, cases_Bool, cond-true, eq-eqb, eqb-true, false_from_ne_true, lt-ltb, ltb-true, or_cases}
+use Rattle.std.proofs.Common.{◌&&◌, ◌<◌, ◌==◌, ◌≡◌, ◌∙◌, Bool, IfSome, List, None, Option, Some, ap, arith, bytes_eq, cond, false, get_or, inl, inr, length, nat_lt, option_map, position, refl, subst, sym, true, ℕ}
+use Rattle.std.specs.List.{position_or_len}
+use Rattle.std.proofs.lemmas.Bool.{and_from, and_parts, both_ways, cases_Bool, cond-true, eq-eqb, false_from_ne_true, lt-ltb, ltb-true}
 use Rattle.std.proofs.lemmas.List.{get_or_default}
-use Rattle.std.proofs.lemmas.List.Elements.{Contains-append_left, Contains-append_right}
 use Rattle.std.proofs.lemmas.List.Sums.{position_or_len_is}
 use Rattle.std.proofs.lemmas.Option.{none-some, same_Some}
+use Rattle.std.proofs.lemmas.Map.Keys.{apart_from_distinct}
 use Rattle.vpc_base.proofs.Bytes.{bytes_self, same_bytes}
-use Rattle.vpc_base.proofs.Members.{AllByRecursion-at, Contains-cases, Contains-here, Contains-later, Contains-none, list_any-member, member-list_any, row-member}
+use Rattle.vpc_base.proofs.Members.{list_any-member, member-list_any, row-member}
 use Rattle.vpc_base.proofs.Positions.{position-at}
 use Rattle.vpc_laws.proofs.Accepting.{accepted_has_all_named, accepted_has_nothing_twice}
 use Rattle.vpc_laws.proofs.Numbering.{accepted_numbers_are_in_range, ids_are_found}
 use Rattle.vpc_laws.proofs.Same.{EniNo-same}
+use Rattle.vpc_laws.specs.Accepted.{both_have}
 use Rattle.vpc_laws.specs.Types.{Description, EniNo, Interface, VpcNo}
-use Rattle.vpc_model.specs.Accepted.{IsAccepted, same_address}
+use Rattle.vpc_model.specs.Accepted.{IsAccepted}
 use Rattle.vpc_model.specs.Lookup.{has_address, host_of, interface_at, is_in_vpc, no_interface, no_subnet, subnet_at, subnet_no, subnet_of, vpc_at, vpc_of_interface, vpc_of_subnet}
 use Rattle.vpc_model.specs.Sound.{is_eni}
 use Rattle.flow_check.specs.Owners.{is_near, is_own}
 use Rattle.flow_check.specs.Rules.{is_neighbour}
 
--- ---- lists of which no two items are alike
-
--- an item of the first list is like none of the second
-apart-across : {X : Type 0} (alike : X → X → Bool) (xs ys : List X) → IsDistinct alike (xs ++ ys) → (x y : X) → Contains xs x → Contains ys y → alike x y ≡ false
-unfolding IsDistinct
-apart-across alike [] ys distinct x y has_x has_y = absurd (Contains-none x has_x)
-apart-across alike (z ∷ zs) ys distinct x y has_x has_y =
-    elim (Contains-cases z x zs has_x) [
-      | inl same ↦ subst (λ w. alike w y ≡ false) same (AllByRecursion-at (λ w. alike z w ≡ false) (zs ++ ys) y distinct.0 (Contains-append_right zs ys y has_y))
-      | inr later ↦ apart-across alike zs ys distinct.1 x y later has_y
-    ]
-
-apart-after : {X : Type 0} (alike : X → X → Bool) (xs ys : List X) → IsDistinct alike (xs ++ ys) → IsDistinct alike ys
-unfolding IsDistinct
-apart-after alike [] ys distinct = distinct
-apart-after alike (x ∷ xs) ys distinct = apart-after alike xs ys distinct.1
-
-member-of-later : {X E : Type 0} (f : E → List X) (es : List E) (k : ℕ) (d : E) (y : X) → k < length es → Contains (f (get_or es k d)) y → Contains (flat_map f es) y
-member-of-later f [] k d y below has = absurd (omega arith)
-member-of-later f (e ∷ es) zero d y below has = Contains-append_left (f e) (flat_map f es) y has
-member-of-later f (e ∷ es) (suc k) d y below has = Contains-append_right (f e) (flat_map f es) y (member-of-later f es k d y (omega arith) has)
-
--- the lists of two items are alike nowhere
-apart-at : {X E : Type 0} (alike : X → X → Bool) (f : E → List X) (es : List E) → IsDistinct alike (flat_map f es) → (j k : ℕ) (d : E) (x y : X) → j < k → k < length es
-    → Contains (f (get_or es j d)) x → Contains (f (get_or es k d)) y → alike x y ≡ false
-apart-at alike f [] distinct j k d x y less below has_x has_y = absurd (omega arith)
-apart-at alike f (e ∷ es) distinct j zero d x y less below has_x has_y = absurd (omega arith)
-apart-at alike f (e ∷ es) distinct zero (suc k) d x y less below has_x has_y =
-    apart-across alike (f e) (flat_map f es) distinct x y has_x (member-of-later f es k d y (omega arith) has_y)
-apart-at alike f (e ∷ es) distinct (suc j) (suc k) d x y less below has_x has_y =
-    apart-at alike f es (apart-after alike (f e) (flat_map f es) distinct) j k d x y (omega arith) (omega arith) has_x has_y
-
 -- ---- private addresses
-
--- the addresses of an interface with its VPC
-abbrev addresses_of : Description → Interface → List (List ℕ × ℕ)
-addresses_of d e = map (λ x. (vpc_of_interface d e, x.0)) e.addresses
-
-has-key : (vpc : List ℕ) (a : ℕ) (xs : List (ℕ × Option ℕ)) → list_any (λ x. x.0 == a) xs ≡ true → Contains {X = List ℕ × ℕ} (map (λ (x : ℕ × Option ℕ). (vpc, x.0)) xs) (vpc, a)
-has-key vpc a [] has = absurd (both_ways false refl has)
-has-key vpc a (x ∷ xs) has =
-    let keyed : List (List ℕ × ℕ) = map (λ (y : ℕ × Option ℕ). (vpc, y.0)) xs in
-    elim (or_cases (x.0 == a) (list_any (λ y. y.0 == a) xs) has) [
-      | inl here ↦ subst (λ (n : ℕ). Contains {X = List ℕ × ℕ} ((vpc, x.0) ∷ keyed) (vpc, n)) (eqb-true x.0 a here) (Contains-here (vpc, x.0) keyed)
-      | inr later ↦ Contains-later (vpc, x.0) keyed (vpc, a) (has-key vpc a xs later)
-    ]
 
 -- an interface of the VPC that has the address
 abbrev is_host : Description → VpcNo → ℕ → Interface → Bool
@@ -82,10 +38,9 @@ not-before d v a j k accepted less below late =
     (λ early.
     let here = and_parts (has_address e a) (is_in_vpc d v e) early in
     let same : vpc_of_interface d e ≡ vpc_of_interface d o = same_bytes (vpc_of_interface d e) (vpc_at d v).id here.1 ∙ sym (same_bytes (vpc_of_interface d o) (vpc_at d v).id there.1) in
-    let apart = apart-at same_address (addresses_of d) d.interfaces twice.addresses j k no_interface (vpc_of_interface d e, a) (vpc_of_interface d o, a) less below
-    (has-key (vpc_of_interface d e) a e.addresses here.0) (has-key (vpc_of_interface d o) a o.addresses there.0) in
-    both_ways (same_address (vpc_of_interface d e, a) (vpc_of_interface d o, a)) apart
-    (and_from (bytes_eq (vpc_of_interface d e) (vpc_of_interface d o)) (a == a) (subst (λ (id : List ℕ). bytes_eq (vpc_of_interface d e) id ≡ true) same (bytes_self (vpc_of_interface d e))) (eq-eqb a a refl)))
+    both_ways (both_have d a e o) (apart_from_distinct (both_have d a) d.interfaces j k no_interface (twice.hosts a) less below)
+    (and_from (bytes_eq (vpc_of_interface d e) (vpc_of_interface d o)) (has_address e a && has_address o a)
+    (subst (λ (id : List ℕ). bytes_eq (vpc_of_interface d e) id ≡ true) same (bytes_self (vpc_of_interface d e))) (and_from (has_address e a) (has_address o a) here.0 there.0)))
 
 abbrev numbered : ℕ → EniNo
 numbered k = record { 0 = k }

@@ -1,11 +1,12 @@
 -- Interfaces that let in the same.
-use Rattle.std.proofs.Common.{Bool, IfSome, List, None, Option, Some, [], ap, cond, is_some, not, refl, subst, sym, true, ℕ, ◌&&◌, ◌==◌, ◌∙◌, ◌∷◌, ◌≡◌}
+use Rattle.std.proofs.Common.{Bool, IfSome, List, None, Option, Some, [], ap, ap₂, cond, is_some, not, refl, subst, sym, true, ℕ, ◌&&◌, ◌==◌, ◌||◌, ◌∙◌, ◌∷◌, ◌≡◌}
 use Rattle.std.specs.List.{list_any}
 use Rattle.box_steps.specs.Passing.{is_passed}
 use Rattle.box_walk.specs.Terms.{AreArrivals, journey_of, reached_end, starting}
 use Rattle.box_walk.specs.declared.arriving.Arrivals.{Arrivals}
 use Rattle.box_walk.specs.declared.journeys.Journey.{Journey}
 use Rattle.box_walk.specs.declared.journeys.Journey.TheVariants as journeys
+use Rattle.prefix_text.specs.Block.{Block, holds}
 use Rattle.security_groups.specs.Terms.{BothGroups, GroupLists, GroupsLetInSame, HasRulesOf}
 use Rattle.vpc_base.specs.declared.headers.Dir.TheVariants as dirs
 use Rattle.vpc_base.specs.declared.headers.Label.TheVariants as labels
@@ -62,7 +63,7 @@ pub lets_alike : (d c : Description) (e i : EniNo) (both : BothGroups) → AskAl
 lets_alike d c e i both rows one other there here same h fits =
     let row = interface_at d e in
     let far = interface_at c i in
-    let addressed : has_address row h.dst ≡ has_address far h.dst = among row far rows.addresses in
+    let addressed : has_address row h.dst ≡ has_address far h.dst = among row far rows.addresses rows.prefixes in
     let ruled : is_some (first_rule d row dirs.Inward h) ≡ is_some (first_rule c far dirs.Inward h)
     = ap is_some (sym (one.rules e dirs.Inward h there fits.src)) ∙ same h fits.src ∙ ap is_some (other.rules i dirs.Inward h here fits.src) in
     ap (λ (x : Bool). not row.idle && (not (row.checked && not (has_address row h.dst)) && x)) (passes d e h row.groups)
@@ -70,5 +71,6 @@ lets_alike d c e i both rows one other there here same h fits =
     (is_some (first_rule d row dirs.Inward h)) (is_some (first_rule c far dirs.Inward h)) true true rows.idle rows.checked addressed rows.groups ruled
     ∙ ap (λ (x : Bool). not far.idle && (not (far.checked && not (has_address far h.dst)) && x)) (sym (passes c i h far.groups)))
   where
-    among : (row far : Interface) → row.addresses ≡ far.addresses → has_address row h.dst ≡ has_address far h.dst
-    among row far is = ap (λ (all : List (ℕ × Option ℕ)). list_any (λ x. x.0 == h.dst) all) is
+    among : (row far : Interface) → row.addresses ≡ far.addresses → row.prefixes ≡ far.prefixes → has_address row h.dst ≡ has_address far h.dst
+    among row far is same =
+        ap₂ (λ (p q : Bool). p || q) (ap (λ (all : List (ℕ × Option ℕ)). list_any (λ x. x.0 == h.dst) all) is) (ap (λ (all : List Block). list_any (holds h.dst) all) same)

@@ -37,4 +37,5 @@ pub record AskAlike (one other : Interface) : Type 0 where
   pub idle : one.idle ≡ other.idle
   pub checked : one.checked ≡ other.checked
   pub addresses : one.addresses ≡ other.addresses
+  pub prefixes : one.prefixes ≡ other.prefixes
   pub groups : has_groups one.groups ≡ has_groups other.groups

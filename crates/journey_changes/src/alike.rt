@@ -6,6 +6,7 @@ ghost use Rattle.vpc_model.specs.Sound.{is_eni};
 
 use fabric::Fabric;
 use fabric::rows::interface_at;
+use prefix_text::Prefix;
 use security_groups::AlikeGroups;
 use vpc_model::{EniNo, Interface};
 
@@ -38,6 +39,26 @@ fn same_addresses(one: &[(u32, Option<u32>)], other: &[(u32, Option<u32>)]) -> b
     true
 }
 
+fn same_block(one: &Prefix, other: &Prefix) -> bool
+    ensures { IsTrue result → one.now ≡ other.now }
+{
+    one.first() == other.first() && one.length() == other.length()
+}
+
+fn same_blocks(one: &[Prefix], other: &[Prefix]) -> bool
+    ensures { IsTrue result → one.now ≡ other.now }
+{
+    if one.len() != other.len() {
+        return false;
+    }
+    for k in 0..one.len() {
+        if !same_block(&one[k], &other[k]) {
+            return false;
+        }
+    }
+    true
+}
+
 fn ask_alike(one: &Interface, other: &Interface) -> bool
     ensures { IsTrue result → AskAlike one.now other.now }
 {
@@ -45,6 +66,9 @@ fn ask_alike(one: &Interface, other: &Interface) -> bool
         return false;
     }
     if has_groups(one) != has_groups(other) {
+        return false;
+    }
+    if !same_blocks(one.prefixes.as_slice(), other.prefixes.as_slice()) {
         return false;
     }
     same_addresses(one.addresses.as_slice(), other.addresses.as_slice())

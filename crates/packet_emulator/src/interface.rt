@@ -1,6 +1,8 @@
 // Out of an interface and into one, which may be that of an appliance.
 ghost use Rattle.std.specs.Prelude.{◌≡◌, ◌≤◌, ◌<◌, ◌+◌, IsTrue, List};
-ghost use Rattle.vpc_model.specs.Lookup.{has_address};
+ghost use Rattle.std.specs.List.{list_any};
+ghost use Rattle.prefix_text.specs.Block.{holds};
+ghost use Rattle.vpc_model.specs.Lookup.{has_address, is_assigned};
 ghost use Rattle.vpc_model.specs.Nat.{Translation};
 ghost use Rattle.vpc_model.specs.Sound.{is_eni};
 ghost use Rattle.vpc_model.specs.Step.Interface.{step_into, step_out, taken_in};
@@ -17,11 +19,24 @@ use fabric::rows::{interface_at, subnet_of};
 use vpc_base::{Dir, Header, Label};
 use vpc_model::{By, Came, End, EniNo, Interface, Place, Stop};
 
+fn is_assigned(e: &Interface, address: u32) -> bool
+    ensures { result ≡ is_assigned e.now address }
+{
+    e.addresses.as_slice().iter().any(|x| x.0 == address)
+}
+
+// Whether a block holds the address that is delegated to the interface.
+fn is_delegated(e: &Interface, address: u32) -> bool
+    ensures { result ≡ list_any (holds address) e.now.prefixes }
+{
+    e.prefixes.as_slice().iter().any(|b| b.holds(address))
+}
+
 // Whether the private address is one of the interface's.
 fn has_address(e: &Interface, address: u32) -> bool
     ensures { result ≡ has_address e.now address }
 {
-    e.addresses.as_slice().iter().any(|x| x.0 == address)
+    is_assigned(e, address) || is_delegated(e, address)
 }
 
 /// Out of an interface: attached, source check, groups (EC2 API, DescribeNetworkInterfaces).

@@ -10,7 +10,7 @@ use Rattle.copied_rows.specs.Filters.{with_filters}
 use Rattle.vpc_laws.specs.Types.{Acl, Appliance, Association, Attachment, Description, Group, Interface, InternetGateway, NatGateway, Peering, Permission, PrefixList, RouteTable, Subnet, TgwTable, Vpc}
 use Rattle.vpc_laws.proofs.Accepting.{AreEmpty, accepted_is_faultless, faultless_is_accepted}
 use Rattle.vpc_laws.proofs.Lengths.{none-too_long, too_long-none, too_long_by_list}
-use Rattle.vpc_model.specs.Accepted.{IsAccepted, duplicates_in, holds_twice, ids_by_list, is_long, is_long_group, is_long_rule, missing_of_acl, missing_of_appliance, missing_of_attachment, missing_of_group, missing_of_igw, missing_of_interface, missing_of_life, missing_of_subnet, missing_of_table, missing_references, too_long, too_many_rows, two_acls, wanted, without_acl}
+use Rattle.vpc_model.specs.Accepted.{Claim, IsAccepted, claims_of, clashes_after, duplicates_in, holds_twice, ids_by_list, interface_clashes, is_long, is_long_group, is_long_rule, missing_of_acl, missing_of_appliance, missing_of_attachment, missing_of_group, missing_of_igw, missing_of_interface, missing_of_life, missing_of_subnet, missing_of_table, missing_references, too_long, too_many_rows, two_acls, wanted, without_acl}
 use Rattle.vpc_model.specs.Lookup.{has_group, is_listed}
 use Rattle.vpc_model.specs.declared.refusals.ListName.{ListName}
 use Rattle.vpc_model.specs.declared.refusals.ListName.TheVariants as lists
@@ -178,6 +178,12 @@ lengths-same d acls groups rows rules none = by (none-too_long d none)
           ),
         )
 
+addresses-same : (d : Description) (acls : List Acl) (groups : List Group) (earlier : List Claim) (es : List Interface)
+    → clashes_after (with_filters d acls groups) earlier es ≡ clashes_after d earlier es
+addresses-same d acls groups earlier [] = refl
+addresses-same d acls groups earlier (e ∷ es) =
+    ap (λ (rest : List Refusal). interface_clashes d earlier e ++ rest) (addresses-same d acls groups (earlier ++ claims_of d e) es)
+
 -- ---- all of it
 
 pub accepted_with_fewer : (d : Description) (acls : List Acl) (groups : List Group) → Alike FewerRows d.acls acls → Alike FewerRules d.groups groups
@@ -187,7 +193,7 @@ accepted_with_fewer d acls groups rows rules accepted =
     faultless_is_accepted (with_filters d acls groups) (record {
       ids = ap (flat_map duplicates_in) (ids-same d acls groups rows rules) ∙ right.ids;
       references = references-same d acls groups rows rules right.references;
-      addresses = right.addresses;
+      addresses = addresses-same d acls groups [] d.interfaces ∙ right.addresses;
       publics = right.publics;
       tables = right.tables;
       acls = without_acl-same d acls groups rows ∙ right.acls;
