@@ -4,28 +4,30 @@ use Rattle.command_job.proofs.Devices.{no_device, no_is_none, query_is_none, yes
 use Rattle.command_job.specs.Status.{IsOfDevice}
 use Rattle.command_job.specs.declared.status.Status.{Status}
 use Rattle.command_job.specs.declared.status.Status.TheVariants as ends
-use Rattle.listing_text.proofs.Decided.{same_alone, told_decides, told_is_none}
+use Rattle.listing_text.proofs.Decided.{same_sides, told_decides, told_is_none}
 use Rattle.listing_text.proofs.Orders.{AreAlike, alike-after, alike-kept, alike-orders, alike-same}
+use Rattle.prefix_text.specs.Block.{Block}
 use Rattle.query_words.specs.ChangeQuery.{change_query_of, internet_in_both}
 use Rattle.query_words.specs.declared.changes.ChangeQuery.{ChangeQuery}
 use Rattle.query_words.specs.declared.changes.ChangedEnd.{ChangedEnd}
 use Rattle.vpc_laws.specs.Types.{Description}
 use Rattle.change_report.specs.Answered.{IsDecided, IsDiffAnswered, IsDiffDecided, IsToldUnlessTooMany, IsTooMany}
 use Rattle.change_report.specs.Answered as answered
-use Rattle.changed_ends.specs.Asked.{AreAllOrAlone, AreStarts, AreTargets, Comparison, StartAt, TargetsAre, addresses_in_either, comparison, hosts_of_either, is_goal, is_internet, is_start}
+use Rattle.changed_ends.specs.Asked.{AreAllOrSides, AreStarts, AreTargets, Comparison, StartAt, TargetsAre, addresses_in_either, comparison, hosts_of_either, is_goal, is_internet, is_start, prefixes_in_either}
 use Rattle.change_report.specs.Texts.{lines_at, part_text, whole_text}
 use Rattle.change_report.specs.Told.{wanted}
 
 -- ---- one list of destinations
 
-same_own : (net : Bool) (addresses : List ℕ) (xs ys : List (ℕ × ℕ)) → AreAllOrAlone net addresses xs → AreAllOrAlone net addresses ys → xs ≡ ys
-same_own true addresses xs ys a b = a ∙ sym b
-same_own false addresses xs ys a b = same_alone addresses xs ys a b
+same_own : (net : Bool) (addresses : List ℕ) (blocks : List Block) (xs ys : List (ℕ × ℕ)) → AreAllOrSides net addresses blocks xs → AreAllOrSides net addresses blocks ys → xs ≡ ys
+same_own true addresses blocks xs ys a b = a ∙ sym b
+same_own false addresses blocks xs ys a b = same_sides addresses blocks xs ys a b
 
 pub same_targets : (before after : Description) (given : Option (ℕ × ℕ)) (goal : Option ChangedEnd) (xs ys : List (ℕ × ℕ)) → TargetsAre before after given goal xs → TargetsAre before after given goal ys → xs ≡ ys
 same_targets before after (Some side) goal xs ys a b = a ∙ sym b
 same_targets before after None None xs ys a b = a ∙ sym b
-same_targets before after None (Some goal) xs ys a b = same_own (is_internet goal.before) (addresses_in_either before after goal) xs ys a b
+same_targets before after None (Some goal) xs ys a b =
+    same_own (is_internet goal.before) (addresses_in_either before after goal) (prefixes_in_either before after goal) xs ys a b
 
 -- ---- starts, in whatever order
 

@@ -7,8 +7,9 @@ use Rattle.vpc_base.proofs.Pairs.{AllPairs-joined}
 use Rattle.header_boxes.proofs.Held.{in_from_holds}
 use Rattle.header_boxes.specs.Boxes.{AreDisjoint, IsValid}
 use Rattle.header_boxes.specs.declared.boxes.Box5.{Box5}
-use Rattle.listing_text.proofs.SideLemmas.{AreApart, AreSides, all_side, ascending_sides, boxes_to-disjoint, boxes_to-valid, one_side}
+use Rattle.listing_text.proofs.SideLemmas.{AreApart, AreSides, all_side, boxes_to-disjoint, boxes_to-valid, one_side, sides_of-sides}
 use Rattle.listing_text.specs.Sides.{alone, sides_between}
+use Rattle.prefix_text.specs.Block.{Block}
 use Rattle.query_words.specs.ChangeQuery.{primary_in}
 use Rattle.query_words.specs.Pairs.{IsSide}
 use Rattle.query_words.specs.ReachQuery.{AreReachPairs}
@@ -17,7 +18,7 @@ use Rattle.query_words.specs.declared.changes.ChangeQuery.{ChangeQuery}
 use Rattle.query_words.specs.declared.changes.ChangedEnd.{ChangedEnd}
 use Rattle.query_words.specs.declared.reaches.ReachPairs.{ReachPairs}
 use Rattle.vpc_laws.specs.Types.{Description}
-use Rattle.changed_ends.specs.Asked.{AreAllOrAlone, AreTargets, Comparison, TargetsAre, addresses_in_either, boxes_at, boxes_between, each_once, is_internet, sources_of}
+use Rattle.changed_ends.specs.Asked.{AreAllOrSides, AreTargets, Comparison, TargetsAre, addresses_in_either, boxes_at, boxes_between, each_once, is_internet, prefixes_in_either, sources_of}
 
 -- ---- sources
 
@@ -55,15 +56,16 @@ sources_are_sides before after None start valid = own_sides before after start (
 
 -- ---- destinations
 
-all_or_alone : (net : Bool) (addresses : List ℕ) (sides : List (ℕ × ℕ)) → AreAllOrAlone net addresses sides → AreSides sides
-all_or_alone true addresses sides is = subst AreSides (sym is) (one_side all_addresses all_side)
-all_or_alone false addresses sides is = subst AreSides (sym is.are) (ascending_sides is.order is.ascending)
+all_or_sides : (net : Bool) (addresses : List ℕ) (blocks : List Block) (sides : List (ℕ × ℕ)) → AreAllOrSides net addresses blocks sides → AreSides sides
+all_or_sides true addresses blocks sides is = subst AreSides (sym is) (one_side all_addresses all_side)
+all_or_sides false addresses blocks sides is = sides_of-sides addresses blocks sides is
 
 targets_are_sides : (before after : Description) (given : Option (ℕ × ℕ)) (goal : Option ChangedEnd) (targets : List (ℕ × ℕ)) → IfSome given IsSide
     → TargetsAre before after given goal targets → AreSides targets
 targets_are_sides before after (Some side) goal targets valid are = subst AreSides (sym are) (one_side side valid)
 targets_are_sides before after None None targets valid are = subst AreSides (sym are) (one_side all_addresses all_side)
-targets_are_sides before after None (Some goal) targets valid are = all_or_alone (is_internet goal.before) (addresses_in_either before after goal) targets are
+targets_are_sides before after None (Some goal) targets valid are =
+    all_or_sides (is_internet goal.before) (addresses_in_either before after goal) (prefixes_in_either before after goal) targets are
 
 -- ---- boxes
 

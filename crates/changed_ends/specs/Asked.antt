@@ -6,7 +6,8 @@ use Rattle.std.specs.Ordering.{nat_cmp}
 use Rattle.std.specs.Prelude.{◌≡◌, ◌==◌, ◌&&◌, ◌++◌, ◌∷◌, [], if◌then◌else◌, Bool, List, None, Option, Some, false, filter, is_some, map, not, true, ℕ}
 use Rattle.described_hosts.specs.Hosts.{hosts_of, id_of, is_host}
 use Rattle.header_boxes.specs.declared.boxes.Box5.{Box5}
-use Rattle.listing_text.specs.Sides.{AreEachAlone, alone, sides_between}
+use Rattle.listing_text.specs.Sides.{AreSidesOf, alone, sides_between}
+use Rattle.prefix_text.specs.Block.{Block}
 use Rattle.query_words.specs.ChangeQuery.{AreChangedEnds, has_source, internet_in_both, primary_in}
 use Rattle.query_words.specs.Sides.{all_addresses}
 use Rattle.query_words.specs.declared.changes.ChangeQuery.{ChangeQuery}
@@ -148,14 +149,24 @@ addresses_of d (Some (ends.Interface i)) = let e = interface_at d i in flat_map 
 abbrev pub addresses_in_either : Description → Description → ChangedEnd → List ℕ
 addresses_in_either before after e = addresses_of before e.before ++ addresses_of after e.after
 
--- all of the internet, else each of some addresses
-abbrev pub AreAllOrAlone : Bool → List ℕ → List (ℕ × ℕ) → Type 0
-AreAllOrAlone true addresses sides = sides ≡ all_addresses ∷ []
-AreAllOrAlone false addresses sides = AreEachAlone addresses sides
+-- the blocks that are delegated to an end
+abbrev pub prefixes_of : Description → Option End → List Block
+prefixes_of d None = []
+prefixes_of d (Some ends.Internet) = []
+prefixes_of d (Some (ends.Interface i)) = let e = interface_at d i in e.prefixes
 
--- those of a goal: each address that it has in either network
+abbrev pub prefixes_in_either : Description → Description → ChangedEnd → List Block
+prefixes_in_either before after e = prefixes_of before e.before ++ prefixes_of after e.after
+
+-- all of the internet, else the sides of some addresses and blocks
+abbrev pub AreAllOrSides : Bool → List ℕ → List Block → List (ℕ × ℕ) → Type 0
+AreAllOrSides true addresses blocks sides = sides ≡ all_addresses ∷ []
+AreAllOrSides false addresses blocks sides = AreSidesOf addresses blocks sides
+
+-- those of a goal: the addresses and the runs of the prefixes that it has in either network
 abbrev pub AreOwnTargets : Description → Description → ChangedEnd → List (ℕ × ℕ) → Type 0
-AreOwnTargets before after goal targets = AreAllOrAlone (is_internet goal.before) (addresses_in_either before after goal) targets
+AreOwnTargets before after goal targets =
+    AreAllOrSides (is_internet goal.before) (addresses_in_either before after goal) (prefixes_in_either before after goal) targets
 
 -- those that are asked for: those that are given; else the goal's own, and all where there is none
 abbrev pub TargetsAre : Description → Description → Option (ℕ × ℕ) → Option ChangedEnd → List (ℕ × ℕ) → Type 0

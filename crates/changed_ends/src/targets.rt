@@ -1,9 +1,10 @@
 // The destinations that are asked for.
 ghost use Rattle.std.specs.Prelude.{◌≡◌, ◌++◌, IfOk, OnOk};
-ghost use Rattle.listing_text.specs.Sides.{AreEachAlone};
-ghost use Rattle.changed_ends.specs.Asked.{AreOwnTargets, TargetsAre, addresses_in_either, addresses_of, is_internet};
+ghost use Rattle.listing_text.specs.Sides.{AreSidesOf};
+ghost use Rattle.changed_ends.specs.Asked.{AreOwnTargets, TargetsAre, addresses_in_either, addresses_of, is_internet, prefixes_in_either, prefixes_of};
 
-use listing_text::{ALL, add_pairs, ascending_alone, only};
+use listing_text::{ALL, add_pairs, ascending_sides, only};
+use prefix_text::Prefix;
 use query_words::ChangedEnd;
 use reference_check::Network;
 use std::alloc::Global;
@@ -39,6 +40,45 @@ fn addresses_in_either(
     Ok(addresses)
 }
 
+// Adds blocks as they are.
+fn add_all(blocks: &mut Vec<Prefix>, others: &[Prefix]) -> Result<(), NoMemory>
+    ensures { OnOk result (blocks.new.items ≡ blocks.old.items ++ others.now) }
+{
+    for block in others {
+        blocks.push(*block)?;
+    }
+    Ok(())
+}
+
+// Adds the blocks that are delegated to an end in a network.
+fn add_prefixes(blocks: &mut Vec<Prefix>, n: &Network, end: Option<End>) -> Result<(), NoMemory>
+    ensures { OnOk result (blocks.new.items ≡ blocks.old.items ++ prefixes_of n.now end) }
+{
+    match end {
+        Some(End::Interface(eni)) => {
+            match n.description().interfaces.as_slice().get(eni.0 as usize) {
+                Some(interface) => add_all(blocks, interface.prefixes.as_slice()),
+                None => Ok(()),
+            }
+        }
+        _ => Ok(()),
+    }
+}
+
+fn prefixes_in_either(
+    alloc: Global,
+    before: &Network,
+    after: &Network,
+    end: ChangedEnd,
+) -> Result<Vec<Prefix>, NoMemory>
+    ensures { IfOk result (λ v. v.items ≡ prefixes_in_either before.now after.now end) }
+{
+    let mut blocks = Vec::new(alloc);
+    add_prefixes(&mut blocks, before, end.before)?;
+    add_prefixes(&mut blocks, after, end.after)?;
+    Ok(blocks)
+}
+
 /// An end that is the internet.
 pub fn is_internet(end: Option<End>) -> bool
     ensures { result ≡ is_internet end }
@@ -49,15 +89,18 @@ pub fn is_internet(end: Option<End>) -> bool
     }
 }
 
-fn addresses_alone(
+fn sides_in_either(
     alloc: Global,
     before: &Network,
     after: &Network,
     goal: ChangedEnd,
 ) -> Result<Vec<(u32, u32)>, NoMemory>
-    ensures { IfOk result (λ v. AreEachAlone (addresses_in_either before.now after.now goal) v.items) }
+    ensures { IfOk result (λ v. AreSidesOf (addresses_in_either before.now after.now goal)
+        (prefixes_in_either before.now after.now goal) v.items) }
 {
-    ascending_alone(alloc, addresses_in_either(alloc, before, after, goal)?)
+    let addresses = addresses_in_either(alloc, before, after, goal)?;
+    let blocks = prefixes_in_either(alloc, before, after, goal)?;
+    ascending_sides(alloc, addresses, blocks.as_slice())
 }
 
 fn own_targets(
@@ -71,12 +114,12 @@ fn own_targets(
     if is_internet(goal.before) {
         only(alloc, ALL)
     } else {
-        addresses_alone(alloc, before, after, goal)
+        sides_in_either(alloc, before, after, goal)
     }
 }
 
-/// The destinations that are asked for: those that are given; else each address that the goal has in either network, and
-/// all where there is none.
+/// The destinations that are asked for: those that are given; else the addresses and the runs of the prefixes that the goal
+/// has in either network, and all where there is none.
 pub fn targets_of(
     alloc: Global,
     before: &Network,

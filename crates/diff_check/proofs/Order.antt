@@ -13,7 +13,7 @@ use Rattle.vpc_laws.proofs.Numbering.{accepted_numbers_are_own}
 use Rattle.vpc_laws.specs.Types.{Description, EniNo, Interface}
 use Rattle.vpc_model.specs.Terms.{IsAccepted, eni_no, has_interface, interface_at, is_eni, no_interface}
 use Rattle.vpc_model.specs.declared.places.End.TheVariants as ends
-use Rattle.end_reach.proofs.Same.{same_in_order}
+use Rattle.listing_text.proofs.Same.{same_in_order}
 
 -- ---- the hosts of one network
 

@@ -13,7 +13,7 @@ ghost use Rattle.diff_check.specs.Diffs.{all_asked, told_in, told_or_same};
 ghost use Rattle.diff_check.specs.Starts.{origin_from};
 ghost use Rattle.std.proofs.Props.{props};
 
-use crate::starts::StartChanges;
+use crate::starts::{StartChanges, put_once};
 use change_report::Asked;
 use changed_ends::{Compared, boxes_at, changed_id};
 use command_job::Answer;
@@ -97,7 +97,7 @@ fn put_told_from(
     ensures { OnOk result (out.new.items ≡ out.old.items ++ told_or_same (told_in
         asked.now.compared start.now h.now)) }
 {
-    StartChanges::of(asked, start).put_told(out, h)
+    put_once(out, StartChanges::of(asked, start), h)
 }
 
 // ---- all starts

@@ -110,12 +110,28 @@ impl<'a> StartChanges<'a> {
         let (_, change) = self.walks.probe(&only(h));
         change
     }
+}
 
-    /// Appends what changes for a request, or that it is the same.
-    pub fn put_told(&self, out: &mut Vec<u8>, h: &Header) -> Result<(), NoMemory>
-        ensures { OnOk result (out.new.items ≡ out.old.items ++ told_or_same (told_of self.now.id.now
-            self.now.walks.before.sent self.now.walks.after.sent h.now)) }
-    {
+// ---- one request
+
+/// What is told of the requests from one start, as a text that is put.
+pub trait PutTold {
+    ghost use Rattle.std.specs.Prelude.{◌≡◌, ◌++◌, List, OnOk, Option, ℕ};
+    ghost use Rattle.vpc_base.specs.declared.headers.Header.{Header};
+    ghost use Rattle.diff_check.specs.Diffs.{told_or_same};
+
+    /// The text that is told of a request, if anything is.
+    ghost told: { Self → Header → Option (List ℕ) };
+
+    /// Appends what is told of a request, or that it is the same.
+    fn put_told(&self, out: &mut Vec<u8>, h: &Header) -> Result<(), NoMemory>
+        ensures { OnOk result (out.new.items ≡ out.old.items ++ told_or_same (told self.now h.now)) };
+}
+
+impl<'a> PutTold for StartChanges<'a> {
+    ghost told = { λ l. told_of l.id.now l.walks.before.sent l.walks.after.sent };
+
+    fn put_told(&self, out: &mut Vec<u8>, h: &Header) -> Result<(), NoMemory> {
         match self.change_at(h) {
             None => put(out, b"same"),
             Some(change) => put_change(
@@ -127,6 +143,17 @@ impl<'a> StartChanges<'a> {
             ),
         }
     }
+}
+
+/// Appends what is told of a request by what isn't needed any more.
+pub fn put_once<T: PutTold + Drop>(
+    out: &mut Vec<u8>,
+    telling: T,
+    h: &Header,
+) -> Result<(), NoMemory>
+    ensures { OnOk result (out.new.items ≡ out.old.items ++ told_or_same (T.told telling h.now)) }
+{
+    telling.put_told(out, h)
 }
 
 // ---- what is wanted

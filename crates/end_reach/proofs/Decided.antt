@@ -5,7 +5,7 @@ use Rattle.command_job.specs.Status.{IsOfDevice}
 use Rattle.command_job.specs.declared.status.Status.{Status}
 use Rattle.command_job.specs.declared.status.Status.TheVariants as ends
 use Rattle.described_hosts.specs.Hosts.{hosts_of}
-use Rattle.listing_text.proofs.Decided.{same_alone, told_decides, told_is_none}
+use Rattle.listing_text.proofs.Decided.{same_sides, told_decides, told_is_none}
 use Rattle.listing_text.proofs.Orders.{AreAlike, alike-after, alike-kept, alike-mapped, alike-orders, alike-same}
 use Rattle.query_words.specs.ReachQuery.{reach_query_of}
 use Rattle.query_words.specs.declared.reaches.ReachQuery.{ReachQuery}
@@ -24,7 +24,7 @@ pub same_targets : (d : Description) (given : Option (ℕ × ℕ)) (goal : Optio
 same_targets d (Some side) goal xs ys a b = a ∙ sym b
 same_targets d None None xs ys a b = a ∙ sym b
 same_targets d None (Some places.Internet) xs ys a b = a ∙ sym b
-same_targets d None (Some (places.Interface i)) xs ys a b = same_alone (own_addresses (interface_at d i)) xs ys a b
+same_targets d None (Some (places.Interface i)) xs ys a b = let e = interface_at d i in same_sides (own_addresses e) e.prefixes xs ys a b
 
 -- ---- starts, in whatever order
 

@@ -1,51 +1,13 @@
--- Lists that are in one order and have the same members are the same.
-use Rattle.std.proofs.Common.{◌≡◌, ◌∙◌, ◌∷◌, ◌⊎◌, [], AllPairs, Contains, List, None, Option, Some, ap, arith, inl, inr, refl, subst, suc, sym, ℕ}
+-- Starts of one question are one list.
+use Rattle.std.proofs.Common.{◌≡◌, ◌∙◌, Contains, List, None, Option, Some, ap, sym, ℕ}
 use Rattle.std.specs.Ordering.{ordering_reverse}
 use Rattle.std.specs.declared.cmp.Ordering.TheVariants.{Greater, Less}
 use Rattle.std.proofs.lemmas.Cmp.{nat_list_cmp_total}
 use Rattle.std.proofs.lemmas.List.Sorted.{Contains-permutation, IsPermutation-sym}
-use Rattle.vpc_base.proofs.Members.{Contains-cases, Contains-later, Contains-none}
-use Rattle.vpc_base.proofs.Pairs.{AllPairs-tail}
+use Rattle.listing_text.proofs.Same.{same_in_order}
 use Rattle.described_hosts.specs.Hosts.{AreHostsById, ComesBefore, hosts_of, id_of}
 use Rattle.end_reach.specs.Asked.{AreStarts, starts_among}
 use Rattle.vpc_laws.specs.Types.{Description, End, EniNo}
-
--- ---- any list
-
-first_before_later : {X : Type 0} (R : X → X → Type 0) (x z : X) (xs : List X) → AllPairs R (x ∷ xs) → Contains xs z → R x z
-first_before_later R x z xs order (k, below, is) = subst (R x) is (order 0 (suc k) z (omega arith) (omega arith))
-
-module _ {X : Type 0} (R : X → X → Type 0) (one_way : (a b : X) → R a b → R b a → ⊥) where
-  -- each first member is the other's
-  same_first : (x y : X) (xs ys : List X) → AllPairs R (x ∷ xs) → AllPairs R (y ∷ ys) → Contains (y ∷ ys) x → Contains (x ∷ xs) y → x ≡ y
-  same_first x y xs ys up_x up_y in_y in_x = by (Contains-cases y x ys in_y) (Contains-cases x y xs in_x)
-    where
-      by : (y ≡ x) ⊎ Contains ys x → (x ≡ y) ⊎ Contains xs y → x ≡ y
-      by (inl is) other = sym is
-      by (inr later) (inl is) = is
-      by (inr later) (inr other) = absurd (one_way x y (first_before_later R x y xs up_x other) (first_before_later R y x ys up_y later))
-
-  -- a member that comes after the first one
-  still_later : (x y z : X) (xs ys : List X) → x ≡ y → AllPairs R (x ∷ xs) → Contains xs z → (y ≡ z) ⊎ Contains ys z → Contains ys z
-  still_later x y z xs ys first up later (inr in_y) = in_y
-  still_later x y z xs ys first up later (inl is) =
-      let itself : R x x = subst (R x) (sym (first ∙ is)) (first_before_later R x z xs up later) in
-      absurd (one_way x x itself itself)
-
-  pub same_in_order : (xs ys : List X) → AllPairs R xs → AllPairs R ys → ((z : X) → Contains xs z → Contains ys z) → ((z : X) → Contains ys z → Contains xs z) → xs ≡ ys
-  same_in_order [] [] up_x up_y there back = refl
-  same_in_order [] (y ∷ ys) up_x up_y there back = absurd (Contains-none y (back y (0, omega arith, refl)))
-  same_in_order (x ∷ xs) [] up_x up_y there back = absurd (Contains-none x (there x (0, omega arith, refl)))
-  same_in_order (x ∷ xs) (y ∷ ys) up_x up_y there back =
-      let first : x ≡ y = same_first x y xs ys up_x up_y (there x (0, omega arith, refl)) (back y (0, omega arith, refl)) in
-      let rest : xs ≡ ys =
-      same_in_order xs ys (AllPairs-tail R x xs up_x) (AllPairs-tail R y ys up_y)
-      (λ z later. still_later x y z xs ys first up_x later (Contains-cases y z ys (there z (Contains-later x xs z later))))
-      (λ z later. still_later y x z ys xs (sym first) up_y later (Contains-cases x z xs (back z (Contains-later y ys z later))))
-      in
-      ap (λ (l : List X). x ∷ l) rest ∙ ap (λ (z : X). z ∷ ys) first
-
--- ---- starts
 
 comes_one_way : (d : Description) (i j : EniNo) → ComesBefore d i j → ComesBefore d j i → ⊥
 comes_one_way d i j first second =

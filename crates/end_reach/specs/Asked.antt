@@ -2,7 +2,7 @@
 use Rattle.std.specs.List.{flat_map}
 use Rattle.std.specs.Prelude.{◌≡◌, ◌&&◌, ◌++◌, ◌∷◌, [], if◌then◌else◌, Bool, List, None, Option, Some, false, filter, is_some, map, not, option_map, true, ℕ}
 use Rattle.header_boxes.specs.declared.boxes.Box5.{Box5}
-use Rattle.listing_text.specs.Sides.{AreEachAlone, alone, sides_between}
+use Rattle.listing_text.specs.Sides.{AreSidesOf, alone, sides_between}
 use Rattle.query_words.specs.Sides.{all_addresses}
 use Rattle.query_words.specs.declared.reaches.ReachPairs.{ReachPairs}
 use Rattle.query_words.specs.declared.reaches.ReachQuery.{ReachQuery}
@@ -30,12 +30,13 @@ sources_of d None start = own_sources d start
 abbrev pub own_addresses : Interface → List ℕ
 own_addresses e = flat_map both_addresses e.addresses
 
--- those that are asked for: those that are given; else each address of an interface that is the goal, and all where none is
+-- those that are asked for: those that are given; else the addresses of an interface that is the goal and the runs of its prefixes, and all where
+-- none is
 abbrev pub AreTargets : Description → Option (ℕ × ℕ) → Option End → List (ℕ × ℕ) → Type 0
 AreTargets d (Some side) goal targets = targets ≡ side ∷ []
 AreTargets d None None targets = targets ≡ all_addresses ∷ []
 AreTargets d None (Some ends.Internet) targets = targets ≡ all_addresses ∷ []
-AreTargets d None (Some (ends.Interface i)) targets = AreEachAlone (own_addresses (interface_at d i)) targets
+AreTargets d None (Some (ends.Interface i)) targets = let e = interface_at d i in AreSidesOf (own_addresses e) e.prefixes targets
 
 -- ---- boxes
 

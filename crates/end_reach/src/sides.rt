@@ -1,14 +1,14 @@
 // The boxes of requests that are asked for.
 ghost use Rattle.std.specs.Prelude.{◌≡◌, All, AllPairs, IfOk, IfSome, IsTrue, map, option_map};
 ghost use Rattle.header_boxes.specs.Boxes.{AreDisjoint, IsValid};
-ghost use Rattle.listing_text.specs.Sides.{AreEachAlone, alone, sides_between};
+ghost use Rattle.listing_text.specs.Sides.{AreSidesOf, alone, sides_between};
 ghost use Rattle.query_words.specs.Pairs.{IsSide};
 ghost use Rattle.query_words.specs.ReachQuery.{AreReachPairs};
 ghost use Rattle.vpc_model.specs.Sound.{is_end};
 ghost use Rattle.end_reach.specs.Asked.{AreTargets, boxes_at, own_addresses, own_sources, sources_of};
 
 use header_boxes::Box5;
-use listing_text::{ALL, add_boxes, add_pairs, ascending_alone, only};
+use listing_text::{ALL, add_boxes, add_pairs, ascending_sides, only};
 use query_words::{ReachPairs, ReachQuery};
 use reference_check::Network;
 use std::alloc::Global;
@@ -61,15 +61,15 @@ fn sources_of(n: &Network, given: Option<(u32, u32)>, start: End) -> Option<(u32
 // ---- destinations
 
 fn own_targets(alloc: Global, interface: &Interface) -> Result<Vec<(u32, u32)>, NoMemory>
-    ensures { IfOk result (λ v. AreEachAlone (own_addresses interface.now) v.items) }
+    ensures { IfOk result (λ v. AreSidesOf (own_addresses interface.now) interface.now.prefixes v.items) }
 {
     let mut addresses = Vec::new(alloc);
     add_pairs(&mut addresses, interface.addresses.as_slice())?;
-    ascending_alone(alloc, addresses)
+    ascending_sides(alloc, addresses, interface.prefixes.as_slice())
 }
 
-/// The destinations that are asked for: those that are given; else each address of an interface that is the goal, and all
-/// where none is.
+/// The destinations that are asked for: those that are given; else each address of an interface that is the goal and the
+/// runs of its prefixes, and all where none is.
 pub fn targets_of(
     alloc: Global,
     n: &Network,

@@ -1,8 +1,9 @@
 -- The boxes that a question of `diff` is about hold numbers of their fields.
 use Rattle.std.proofs.Common.{◌==◌, ◌<◌, ◌^◌, ◌∷◌, [], All, Bool, IfSome, List, None, Option, Some, false, if◌then◌else◌, map, true, ℕ}
 use Rattle.std.proofs.lemmas.List.Elements.{All-append, All-cons, All-head, All-map, All-nil, All-tail}
-use Rattle.changed_ends.specs.Asked.{AreAllOrAlone, TargetsAre, addresses_in_either, addresses_of, boxes_between, each_once, is_internet, sources_of}
+use Rattle.changed_ends.specs.Asked.{AreAllOrSides, TargetsAre, addresses_in_either, addresses_of, boxes_between, each_once, is_internet, prefixes_in_either, prefixes_of, sources_of}
 use Rattle.listing_text.specs.Sides.{alone, sides_between}
+use Rattle.prefix_text.specs.Block.{Block}
 use Rattle.query_words.specs.ChangeQuery.{primary_in}
 use Rattle.query_words.specs.Sides.{all_addresses}
 use Rattle.query_words.specs.declared.changes.ChangedEnd.{ChangedEnd}
@@ -12,7 +13,8 @@ use Rattle.vpc_laws.specs.Types.{Description, End}
 use Rattle.vpc_model.specs.declared.places.End.TheVariants as ends
 use Rattle.listing_laws.specs.Typed.{HasTypedInterfaces}
 use Rattle.listing_laws.proofs.PairsRead.{ArePairsFit}
-use Rattle.listing_laws.proofs.ReachBoxes.{FitsRange, all_fits, between_fits, each_fits, one_fits}
+use Rattle.listing_laws.proofs.ReachBoxes.{FitsRange, all_fits, between_fits, one_fits, sides_fit}
+use Rattle.listing_laws.proofs.ReadRows.{FitsBlock}
 use Rattle.listing_laws.proofs.Readers.{FitsSide}
 use Rattle.listing_laws.proofs.Typing.{known}
 
@@ -56,10 +58,15 @@ addresses_fit d None typed = All-nil FitsAddress
 addresses_fit d (Some ends.Internet) typed = All-nil FitsAddress
 addresses_fit d (Some (ends.Interface i)) typed = let k = known d i typed in k.addresses
 
-own_targets_fit : (internet : Bool) (addresses : List ℕ) (targets : List (ℕ × ℕ)) → All FitsAddress addresses
-    → AreAllOrAlone internet addresses targets → All FitsRange targets
-own_targets_fit true addresses targets all are = one_fits all_addresses targets all_fits are
-own_targets_fit false addresses targets all are = each_fits addresses are.order targets all are.members are.are
+prefixes_fit : (d : Description) (end : Option End) → HasTypedInterfaces d → All FitsBlock (prefixes_of d end)
+prefixes_fit d None typed = All-nil FitsBlock
+prefixes_fit d (Some ends.Internet) typed = All-nil FitsBlock
+prefixes_fit d (Some (ends.Interface i)) typed = let k = known d i typed in k.prefixes
+
+own_targets_fit : (internet : Bool) (addresses : List ℕ) (blocks : List Block) (targets : List (ℕ × ℕ)) → All FitsAddress addresses
+    → All FitsBlock blocks → AreAllOrSides internet addresses blocks targets → All FitsRange targets
+own_targets_fit true addresses blocks targets all fit are = one_fits all_addresses targets all_fits are
+own_targets_fit false addresses blocks targets all fit are = sides_fit addresses blocks targets all fit are
 
 pub targets_fit : (before after : Description) (given : Option (ℕ × ℕ)) (goal : Option ChangedEnd) (targets : List (ℕ × ℕ))
     → HasTypedInterfaces before → HasTypedInterfaces after → FitsSide given
@@ -67,9 +74,12 @@ pub targets_fit : (before after : Description) (given : Option (ℕ × ℕ)) (go
 targets_fit before after (Some side) goal targets first second fits are = one_fits side targets fits are
 targets_fit before after None None targets first second fits are = one_fits all_addresses targets all_fits are
 targets_fit before after None (Some goal) targets first second fits are =
-    own_targets_fit (is_internet goal.before) (addresses_in_either before after goal) targets
+    own_targets_fit (is_internet goal.before) (addresses_in_either before after goal) (prefixes_in_either before after goal) targets
     (All-append FitsAddress (addresses_of before goal.before) (addresses_of after goal.after) (addresses_fit before goal.before first)
-    (addresses_fit after goal.after second)) are
+    (addresses_fit after goal.after second))
+    (All-append FitsBlock (prefixes_of before goal.before) (prefixes_of after goal.after) (prefixes_fit before goal.before first)
+    (prefixes_fit after goal.after second))
+    are
 
 -- ---- boxes
 

@@ -13,12 +13,12 @@ use Rattle.prefix_text.specs.Block.{Block}
 use Rattle.read_filters.specs.Acls.{acl_of, associated_subnet, entry_of}
 use Rattle.read_gateways.specs.Terms.{attached_vpc, attachment_of, destination_of, first_attachment, head_of, id_item, internet_gateway_of, ipv4_route_of, is_active_of, is_usable_of, life_if, named_attachment, nat_gateway_of, pair_if, peering_of, text_is, tgw_route_of, tgw_table_of}
 use Rattle.read_network.specs.Access.{access_at}
-use Rattle.read_network.specs.Terms.{Choice, addresses_of, associated_block, choices, first_target, gateway_target, interface_of, is_listed, manner_of, private_address, reach_by_block, reach_by_list, reach_of, route_if, route_of, route_to, subnet_of, table_association, table_of, target_of, target_or, vpc_of, with_primary}
+use Rattle.read_network.specs.Terms.{Choice, addresses_of, associated_block, choices, delegated_prefix, first_target, gateway_target, interface_of, is_listed, manner_of, private_address, reach_by_block, reach_by_list, reach_of, route_if, route_of, route_to, subnet_of, table_association, table_of, target_of, target_or, vpc_of, with_primary}
 use Rattle.vpc_laws.specs.Types.{Acl, Attachment, InternetGateway, NatGateway, Peering, Reach, Route, Subnet, Target, Vpc}
 use Rattle.vpc_model.specs.Terms.{both_addresses, target_id}
 use Rattle.vpc_model.specs.declared.rows.Target.TheVariants as targets
 use Rattle.listing_laws.specs.Typed.{HasListId, IsTyped, IsTypedRoute, IsTypedTable, IsTypedTgwRoute, IsTypedTgwTable}
-use Rattle.listing_laws.proofs.ReadRows.{IsAddress, IsId, addr_if_read, addr_read, any_then, each_item_read, each_kept_item_read, id_if_read, id_read, read_then, there_then}
+use Rattle.listing_laws.proofs.ReadRows.{FitsBlock, IsAddress, IsId, addr_if_read, addr_read, any_then, each_item_read, each_kept_item_read, id_if_read, id_read, prefix_read, read_then, there_then}
 
 -- ---- VPCs and subnets
 
@@ -90,7 +90,10 @@ interface_read row path =
     read_then (id_of row path (codes "NetworkInterfaceId")) _ IsId IsTyped (id_read row path (codes "NetworkInterfaceId")) (λ id is.
     any_then (id_of row path (codes "SubnetId")) _ IsTyped (λ subnet.
     read_then (addresses_of row path) _ _ IsTyped (addresses_read row path) (λ addresses own.
-    any_then (manner_of row path) _ IsTyped (λ manner. record { id = is; primary = own.0; addresses = all_addresses _ own.1 }))))
+    any_then (manner_of row path) _ IsTyped (λ manner.
+    read_then (each_item delegated_prefix row path (codes "Ipv4Prefixes")) _ (All FitsBlock) IsTyped
+    (each_item_read delegated_prefix FitsBlock row path (codes "Ipv4Prefixes") (λ item at. prefix_read item at (codes "Ipv4Prefix")))
+    (λ prefixes fit. record { id = is; primary = own.0; addresses = all_addresses _ own.1; prefixes = fit })))))
 
 -- ---- route tables
 

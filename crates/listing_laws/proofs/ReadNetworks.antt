@@ -86,7 +86,7 @@ gateways_read bundle =
 -- an interface is as its type allows whatever its instance does
 idle_all : (stopped : List (List ℕ)) (interfaces : List Interface) → All IsTyped interfaces → All IsTyped (map (idle_by stopped) interfaces)
 idle_all stopped interfaces all =
-    All-map IsTyped (idle_by stopped) interfaces (λ k e less. let typed = all k e less in record { id = typed.id; primary = typed.primary; addresses = typed.addresses })
+    All-map IsTyped (idle_by stopped) interfaces (λ k e less. let typed = all k e less in record { id = typed.id; primary = typed.primary; addresses = typed.addresses; prefixes = typed.prefixes })
 
 instances_read : (bundle : Data) (interfaces : List Interface) → All IsTyped interfaces → IfOk (instances_of bundle interfaces) (All IsTyped)
 instances_read bundle interfaces all = any_then (stopped_of bundle) _ (All IsTyped) (λ stopped. idle_all stopped interfaces all)

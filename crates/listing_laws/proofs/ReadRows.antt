@@ -5,12 +5,14 @@ use Rattle.std.proofs.lemmas.List.Elements.{All-cons, All-filter, All-head, All-
 use Rattle.serde_json.specs.Data.{Data}
 use Rattle.json_fields.specs.Bundle.{rows_of}
 use Rattle.json_fields.specs.FieldFault.{and_then, each_from, each_row, if_there, in_grammar, in_shape}
-use Rattle.json_fields.specs.Fields.{addr_of_field, id_if_of, id_in, id_of, list_of, needed, text_in, text_of}
+use Rattle.json_fields.specs.Fields.{addr_of_field, id_if_of, id_in, id_of, list_of, needed, prefix_of_field, text_in, text_of}
 use Rattle.json_fields.specs.Kept.{each_item, each_kept, each_kept_item, each_kept_of, each_of, first_of_each, firsts_by, those_there, with_another}
 use Rattle.json_fields.specs.Paths.{at_member, at_row}
 use Rattle.json_fields.specs.declared.fault.FieldFault.{FieldFault}
 use Rattle.prefix_text.proofs.AddrLaws.{addr_of-Some}
+use Rattle.prefix_text.proofs.BlockLaws.{prefix_of-Some}
 use Rattle.prefix_text.specs.Addr.{addr_of}
+use Rattle.prefix_text.specs.Block.{Block, last_of, prefix_of}
 use Rattle.vpc_model.specs.Id.{is_id}
 
 -- ---- one after another
@@ -82,6 +84,15 @@ addr_if_read row path field = text_read addr_of IsAddress row path field (λ tex
 
 pub addr_read : (row : Data) (path field : List ℕ) → IfOk (needed addr_of_field row path field) IsAddress
 addr_read row path field = needed_read addr_of_field IsAddress row path field (addr_if_read row path field)
+
+-- a block of addresses of 32 bits
+abbrev pub FitsBlock : Block → Type 0
+FitsBlock b = last_of b < 2 ^ 32
+
+pub prefix_read : (row : Data) (path field : List ℕ) → IfOk (needed prefix_of_field row path field) FitsBlock
+prefix_read row path field =
+    needed_read prefix_of_field FitsBlock row path field
+    (text_read prefix_of FitsBlock row path field (λ text b is. let read = prefix_of-Some text b is in read.1.fits))
 
 -- ---- rows
 

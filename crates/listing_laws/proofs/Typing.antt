@@ -2,6 +2,7 @@
 use Rattle.std.proofs.Common.{◌≡◌, ◌<◌, ◌^◌, ◌∷◌, [], All, IfSome, List, codes, refl, subst, suc, true, zero, ℕ}
 use Rattle.std.specs.List.{flat_map, slice_index_or}
 use Rattle.std.proofs.lemmas.List.Elements.{All-head, All-nil, All-tail}
+use Rattle.prefix_text.specs.Block.{last_of}
 use Rattle.vpc_laws.proofs.Numbering.{ids_are_found}
 use Rattle.vpc_laws.specs.Types.{Description, End, EniNo, Interface}
 use Rattle.vpc_model.specs.Lookup.{both_addresses, eni_no, has_interface, interface_at, no_interface}
@@ -15,19 +16,21 @@ pub record HasKnown (e : Interface) : Type 0 where
   pub id : IsShortWord e.id
   pub primary : IfSome e.primary (λ a. a < 2 ^ 32)
   pub addresses : All (λ a. a < 2 ^ 32) (flat_map both_addresses e.addresses)
+  pub prefixes : All (λ b. last_of b < 2 ^ 32) e.prefixes
 
 none_known : HasKnown no_interface
 none_known = record {
   id = IsShortWord-nil;
   primary = tt;
   addresses = All-nil _;
+  prefixes = All-nil _;
 }
 
 known_at : (rows : List Interface) (k : ℕ) → All IsTyped rows → HasKnown (slice_index_or rows k no_interface)
 known_at [] k typed = none_known
 known_at (e ∷ rows) zero typed =
     let first = All-head IsTyped e rows typed in
-    record { id = IsShortWord-id e.id first.id; primary = first.primary; addresses = first.addresses }
+    record { id = IsShortWord-id e.id first.id; primary = first.primary; addresses = first.addresses; prefixes = first.prefixes }
 known_at (e ∷ rows) (suc k) typed = known_at rows k (All-tail IsTyped e rows typed)
 
 pub known : (d : Description) (i : EniNo) → HasTypedInterfaces d → HasKnown (interface_at d i)

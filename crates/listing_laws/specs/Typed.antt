@@ -1,6 +1,7 @@
 -- What the types of rows alone know of a description: ids are visible, and addresses have 32 bits.
 use Rattle.std.specs.List.{flat_map}
 use Rattle.std.specs.Prelude.{◌≡◌, ◌<◌, ◌^◌, All, IfSome, true}
+use Rattle.prefix_text.specs.Block.{last_of}
 use Rattle.vpc_laws.specs.Types.{Description, Interface, Reach, Route, RouteTable, TgwRoute, TgwTable}
 use Rattle.vpc_model.specs.Id.{is_id}
 use Rattle.vpc_model.specs.Lookup.{both_addresses}
@@ -13,6 +14,7 @@ pub record IsTyped (e : Interface) : Type 0 where
   pub id : is_id e.id ≡ true
   pub primary : IfSome e.primary (λ a. a < 2 ^ 32)
   pub addresses : All (λ a. a < 2 ^ 32) (flat_map both_addresses e.addresses)
+  pub prefixes : All (λ b. last_of b < 2 ^ 32) e.prefixes
 
 abbrev pub HasTypedInterfaces : Description → Type 0
 HasTypedInterfaces d = All IsTyped d.interfaces

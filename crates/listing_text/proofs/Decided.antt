@@ -1,12 +1,11 @@
 -- What is told of starts decides the status, whatever order they are asked in.
-use Rattle.std.proofs.Common.{◌≡◌, ◌≢◌, ◌∙◌, ◌<◌, ◌≤◌, ◌+◌, ◌∷◌, [], All, Contains, List, None, ap, arith, inl, inr, length, map, refl, subst, suc, sum_by, sym, true, zero, ℕ}
+use Rattle.std.proofs.Common.{◌≡◌, ◌≢◌, ◌<◌, ◌≤◌, ◌+◌, ◌∷◌, [], All, AllPairs, Contains, List, None, ap, arith, get_or, inl, inr, length, map, refl, subst, suc, sum_by, sym, true, zero, ℕ}
 use Rattle.vpc_base.proofs.Lemmas.{All-contains, All-head, All-tail, Contains-map, list_any_at, some_not_none, sum_by-append, sum_by-cons}
 use Rattle.box_gather.specs.Over.{IsPartOf, cells_over, is_in}
 use Rattle.command_job.proofs.Devices.{more_is_none, no_device}
 use Rattle.command_job.specs.Status.{IsOfDevice}
 use Rattle.command_job.specs.declared.status.Status.{Status}
 use Rattle.command_job.specs.declared.status.Status.TheVariants as ends
-use Rattle.cut_points.proofs.Increasing.{same_list}
 use Rattle.header_boxes.proofs.Held.{holds_low, holds_whole, valid_if_within}
 use Rattle.header_boxes.specs.Terms.{HasWord, holds, is_covered, low_of}
 use Rattle.header_boxes.specs.declared.boxes.Box5.{Box5}
@@ -15,14 +14,25 @@ use Rattle.vpc_base.specs.Cuts.{AreAmong, CutLists}
 use Rattle.vpc_base.specs.declared.headers.Header.{Header}
 use Rattle.listing_text.proofs.BodyLemmas.{last_among}
 use Rattle.listing_text.proofs.Orders.{AreAlike}
-use Rattle.listing_text.specs.Terms.{AreEachAlone, AreToldAll, AreToldInPart, FewCells, IsDecidedBy, IsTold, IsToldFrom, SomeTold, StartRows, Wanted, alone, row_count}
+use Rattle.listing_text.proofs.Same.{same_in_order}
+use Rattle.listing_text.proofs.SideLemmas.{sides_of-sides}
+use Rattle.prefix_text.specs.Block.{Block}
+use Rattle.query_words.specs.Pairs.{IsSide}
+use Rattle.listing_text.specs.Terms.{AreSidesOf, AreToldAll, AreToldInPart, FewCells, IsDecidedBy, IsTold, IsToldFrom, SomeTold, StartRows, Wanted, row_count}
 use Rattle.listing_text.specs.Answered as answered
 
--- addresses have one list of sides
-pub same_alone : (addresses : List ℕ) (xs ys : List (ℕ × ℕ)) → AreEachAlone addresses xs → AreEachAlone addresses ys → xs ≡ ys
-same_alone addresses xs ys a b =
-    let same : a.order ≡ b.order = same_list a.order b.order a.ascending b.ascending (λ c h. (b.members c).1 ((a.members c).0 h)) (λ c h. (a.members c).1 ((b.members c).0 h)) in
-    a.are ∙ (ap (map alone) same ∙ sym b.are)
+-- addresses and blocks have one list of sides
+begin_in_order : (addresses : List ℕ) (blocks : List Block) (sides : List (ℕ × ℕ)) → AreSidesOf addresses blocks sides → AllPairs (λ s t. s.0 < t.0) sides
+begin_in_order addresses blocks sides are i j d lt inside =
+    let rise = are.ascending i j d lt inside in
+    let some : IsSide (get_or sides i d) = (sides_of-sides addresses blocks sides are).each i d (omega (arith, lt, inside)) in
+    omega (arith, rise, some)
+
+pub same_sides : (addresses : List ℕ) (blocks : List Block) (xs ys : List (ℕ × ℕ)) → AreSidesOf addresses blocks xs → AreSidesOf addresses blocks ys → xs ≡ ys
+same_sides addresses blocks xs ys a b =
+    same_in_order (λ (s t : ℕ × ℕ). s.0 < t.0) (λ s t one other. omega (arith, one, other)) xs ys
+    (begin_in_order addresses blocks xs a) (begin_in_order addresses blocks ys b)
+    (λ s h. (b.members s).1 ((a.members s).0 h)) (λ s h. (a.members s).1 ((b.members s).0 h))
 
 -- ---- rows of one start
 

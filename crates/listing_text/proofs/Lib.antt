@@ -1,4 +1,6 @@
 pub mod WordLemmas
+pub mod Same
+pub mod Runs
 pub mod SideLemmas
 pub mod BodyLemmas
 pub mod Orders

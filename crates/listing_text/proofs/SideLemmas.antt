@@ -1,8 +1,6 @@
 -- Sides of addresses: none is empty, and no two share a number, nor do the boxes between them share a header.
-use Rattle.std.proofs.Common.{◌≤◌, ◌∷◌, [], All, AllPairs, List, arith, get_or, map, ℕ}
-use Rattle.std.proofs.lemmas.List.Elements.{All-cons, All-map, All-nil}
-use Rattle.std.proofs.lemmas.List.Kept.{AllPairs-from_increasing}
-use Rattle.std.specs.List.Sorted.{IsStrictlyIncreasing}
+use Rattle.std.proofs.Common.{◌≤◌, ◌⊎◌, ◌∷◌, [], All, AllPairs, List, arith, get_or, inl, inr, map, ℕ}
+use Rattle.std.proofs.lemmas.List.Elements.{All-cons, All-contains_itself, All-map, All-nil}
 use Rattle.vpc_base.proofs.Pairs.{AllPairs-map}
 use Rattle.header_boxes.proofs.Held.{in_from_holds}
 use Rattle.header_boxes.specs.Boxes.{AreDisjoint, IsValid}
@@ -10,7 +8,8 @@ use Rattle.query_words.specs.Pairs.{IsSide}
 use Rattle.query_words.specs.ReachQuery.{AreReachPairs}
 use Rattle.query_words.specs.Sides.{all_addresses}
 use Rattle.query_words.specs.declared.reaches.ReachPairs.{ReachPairs}
-use Rattle.listing_text.specs.Sides.{alone, sides_between}
+use Rattle.prefix_text.specs.Block.{Block}
+use Rattle.listing_text.specs.Sides.{AreSidesOf, IsLone, IsWholeRun, sides_between}
 
 -- no number is in both sides
 abbrev pub AreApart : ℕ × ℕ → ℕ × ℕ → Type 0
@@ -30,12 +29,16 @@ one_side s side = record {
 pub all_side : IsSide all_addresses
 all_side = omega arith
 
-pub alone_apart : (addresses : List ℕ) → AllPairs (λ a b. AreApart (alone a) (alone b)) addresses → AreSides (map alone addresses)
-alone_apart addresses apart = record { each = All-map IsSide alone addresses (λ k d lt. omega arith); apart = AllPairs-map AreApart alone addresses apart }
+-- the sides of some addresses and blocks
+is_some_side : (addresses : List ℕ) (blocks : List Block) (s : ℕ × ℕ) → IsLone addresses blocks s ⊎ IsWholeRun blocks s → IsSide s
+is_some_side addresses blocks s (inl lone) = let one = lone.one in omega (arith, one)
+is_some_side addresses blocks s (inr whole) = whole.some
 
-pub ascending_sides : (addresses : List ℕ) → IsStrictlyIncreasing addresses → AreSides (map alone addresses)
-ascending_sides addresses up =
-    alone_apart addresses (λ i j d lt inside x s0 s1 t0 t1. let rise = AllPairs-from_increasing addresses up i j d lt inside in absurd (omega (arith, rise, s0, s1, t0, t1)))
+pub sides_of-sides : (addresses : List ℕ) (blocks : List Block) (sides : List (ℕ × ℕ)) → AreSidesOf addresses blocks sides → AreSides sides
+sides_of-sides addresses blocks sides are = record {
+  each = λ k d lt. is_some_side addresses blocks (get_or sides k d) ((are.members (get_or sides k d)).0 (All-contains_itself sides k d lt));
+  apart = λ i j d lt inside x s0 s1 t0 t1. let rise = are.ascending i j d lt inside in absurd (omega (arith, rise, s1, t0));
+}
 
 -- ---- boxes
 

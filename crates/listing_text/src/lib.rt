@@ -7,4 +7,4 @@ mod sides;
 mod words;
 
 pub use answers::{Listing, answer_part, answer_whole, is_many, status_by};
-pub use sides::{ALL, add_boxes, add_pairs, ascending_alone, each_alone, only};
+pub use sides::{ALL, add_boxes, add_pairs, ascending_sides, each_alone, only};

@@ -1,13 +1,16 @@
 // Sides of addresses, and the boxes of requests between them.
-ghost use Rattle.std.specs.Prelude.{◌≡◌, ◌↔◌, ◌++◌, ◌∷◌, [], Contains, IfOk, OnOk, map, ℕ};
+ghost use Rattle.std.specs.Prelude.{◌≡◌, ◌↔◌, ◌++◌, ◌∷◌, [], Contains, IfOk, IsPermutation, OnOk, filter, map, not, ℕ};
 ghost use Rattle.std.specs.List.{flat_map};
-ghost use Rattle.std.specs.List.Sorted.{IsStrictlyIncreasing};
+ghost use Rattle.std.specs.List.Sorted.{IsNonDecreasingBy, IsStrictlyIncreasing};
+ghost use Rattle.address_sets.specs.Runs.{is_in};
 ghost use Rattle.vpc_model.specs.Lookup.{both_addresses};
-ghost use Rattle.listing_text.specs.Sides.{AreEachAlone, alone, sides_between};
+ghost use Rattle.listing_text.specs.Sides.{AreSidesOf, alone, side_of, sides_between};
 
+use address_sets::{AddressSet, Run};
 use header_boxes::Box5;
+use prefix_text::Prefix;
 use query_words::ReachPairs;
-use std::alloc::Global;
+use std::alloc::{AllocError, Global};
 use vpc_base::NoMemory;
 
 /// Every address.
@@ -68,12 +71,70 @@ fn ascending(mut addresses: Vec<u32>) -> Vec<u32>
     addresses
 }
 
-/// Each of these addresses once, alone, in ascending order.
-pub fn ascending_alone(alloc: Global, addresses: Vec<u32>) -> Result<Vec<(u32, u32)>, NoMemory>
-    ensures { IfOk result (λ v. AreEachAlone addresses.items v.items) }
+// Adds those of some addresses that a set lacks, each alone.
+fn add_lone(
+    sides: &mut Vec<(u32, u32)>,
+    set: &AddressSet,
+    addresses: &[u32],
+) -> Result<(), AllocError>
+    ensures { OnOk result (sides.new.items
+        ≡ sides.old.items ++ map alone (filter (λ a. not (is_in a set.now)) addresses.now)) }
+{
+    for address in addresses {
+        if !set.has(*address) {
+            sides.push((*address, *address))?;
+        }
+    }
+    Ok(())
+}
+
+fn add_runs(sides: &mut Vec<(u32, u32)>, runs: &[Run]) -> Result<(), AllocError>
+    ensures { OnOk result (sides.new.items ≡ sides.old.items ++ map side_of runs.now) }
+{
+    for run in runs {
+        sides.push((run.first, run.last))?;
+    }
+    Ok(())
+}
+
+fn sort(sides: &mut Vec<(u32, u32)>)
+    ensures same { IsPermutation sides.old.items sides.new.items }
+    ensures sorted { IsNonDecreasingBy (λ s. s.0) sides.new.items }
+{
+    sides.sort_unstable_by_key(|side| side.0);
+}
+
+// Addresses that a set lacks, each alone, and runs, in ascending order.
+fn merged(
+    alloc: Global,
+    set: &AddressSet,
+    runs: &[Run],
+    addresses: &[u32],
+) -> Result<Vec<(u32, u32)>, AllocError>
+    ensures same { IfOk result (λ v. IsPermutation
+        (map alone (filter (λ a. not (is_in a set.now)) addresses.now) ++ map side_of runs.now) v.items) }
+    ensures sorted { IfOk result (λ v. IsNonDecreasingBy (λ s. s.0) v.items) }
+{
+    let mut sides = Vec::new(alloc);
+    add_lone(&mut sides, set, addresses)?;
+    add_runs(&mut sides, runs)?;
+    sort(&mut sides);
+    Ok(sides)
+}
+
+/// These addresses and those of some blocks, in ascending order: each address that no block holds, alone, and the blocks'
+/// as runs. It takes time n log n.
+pub fn ascending_sides(
+    alloc: Global,
+    addresses: Vec<u32>,
+    blocks: &[Prefix],
+) -> Result<Vec<(u32, u32)>, NoMemory>
+    ensures { IfOk result (λ v. AreSidesOf addresses.items blocks.now v.items) }
 {
     let order = ascending(addresses);
-    each_alone(alloc, order.as_slice())
+    let set = AddressSet::of_blocks(alloc, blocks)?;
+    let runs = set.runs();
+    Ok(merged(alloc, &set, runs, order.as_slice())?)
 }
 
 // ---- boxes

@@ -1,7 +1,7 @@
 use Rattle.std.proofs.Common.{◌≡◌, ◌++◌, List, subst, ℕ}
 use Rattle.std.specs.Prelude.{OnOk}
 use Rattle.diff_check.proofs.Agreeing.{tellable-at, told-none, told-some}
-use Rattle.diff_check.proofs.starts.StartChanges.put_told.Goals as goal
+use Rattle.diff_check.proofs.starts.StartChangesPutTold.put_told.Goals as goal
 
 pub put_change-requires : goal.put_change-requires
 put_change-requires g c =
