@@ -11,6 +11,8 @@
                    table. Accepted
     joined N       the same, where rules name groups of another VPC over the transit gateway, and the first group of each VPC
                    belongs to the next one too, where some interfaces have it
+    delegated N    the same as account, where each host has 16 delegated prefixes of 16 addresses, as nodes of EKS have, in
+                   further blocks of its VPC: 100.64.0.0/16 and the seven behind it, in each VPC
     fit            an account as large as fits a file (64 MiB); with --indent it is indented as `aws` prints it
 
 --lean leaves out the members that aren't read. A full row is a kilobyte without blanks, so that 100,000 interfaces fit a
@@ -41,15 +43,15 @@ Hostile bundles, each of which a linear reader takes as easily as an account of 
     deep                 64 MiB of arrays, each nested 120 deep, in such a member: accepted
     escapes              64 MiB of escapes in a text that is read over: accepted
 
-The bundles of `all`: account-1000, account-10000, account-40000, account-100000 (lean), joined-10000, fit-indented, and
-each hostile kind with 100,000 rows (subnets with 30,000, associated with 50,000)."""
+The bundles of `all`: account-1000, account-10000, account-40000, account-100000 (lean), joined-10000, delegated-10000,
+fit-indented, and each hostile kind with 100,000 rows (subnets with 30,000, associated with 50,000)."""
 import json
 import os
 import sys
 
 LIMIT = 64 * 1024 * 1024
 OWNER, REGION = '111122223333', 'us-east-1'
-PER_VPC, SUBNETS, PER_GROUP = 2000, 8, 50
+PER_VPC, SUBNETS, PER_GROUP, PREFIXES = 2000, 8, 50, 16
 ANY = '0.0.0.0/0'
 
 
@@ -265,6 +267,24 @@ def joined(n, lean=False):
     return d
 
 
+def delegated(n, lean=False):
+    """An account whose hosts have prefixes. (Those of a subnet's hosts are of one further block of the VPC.)"""
+    d = account(n, lean)
+    further = [f'100.{64 + s}.0.0/16' for s in range(SUBNETS)]
+    for it in d['Vpcs']:
+        ties = [{'CidrBlock': block, 'CidrBlockState': {'State': 'associated'}} for block in further]
+        it['CidrBlockAssociationSet'] = it.get('CidrBlockAssociationSet', []) + [
+            tie if lean else dict(tie, AssociationId=f'{it["VpcId"].replace("vpc", "vpc-cidr-assoc")}-{k}') for k, tie in enumerate(ties)]
+    for it in d['RouteTables']:
+        it['Routes'] = [dict(it['Routes'][0], DestinationCidrBlock=block) for block in further] + it['Routes']
+    hosts = [it for it in d['NetworkInterfaces'] if it['InterfaceType'] == 'interface']
+    for k, it in enumerate(hosts):
+        place, s = divmod(k % (PER_VPC - 1), SUBNETS)
+        first = (100 << 24) + (64 + s << 16) + 16 * PREFIXES * place
+        it['Ipv4Prefixes'] = [{'Ipv4Prefix': f'{dotted(first + 16 * k)}/28'} for k in range(PREFIXES)]
+    return d
+
+
 # ---- hostile bundles
 
 def plain(subnets=1):
@@ -369,6 +389,7 @@ def filled(before, item, after):
     return before + ','.join([item] * count) + after
 
 
+WHOLE = {'account': account, 'joined': joined, 'delegated': delegated}
 HOSTILE = {
     'equal-ids': lambda n: {'Vpcs': [{'VpcId': 'vpc-1', 'CidrBlock': '10.0.0.0/16'}] * n},
     'equal-peerings': lambda n: {'VpcPeeringConnections': [{'VpcPeeringConnectionId': 'pcx-1', 'Status': {'Code': 'deleted'}}] * n},
@@ -401,8 +422,8 @@ def fit(indent, lean):
 
 
 def make(kind, n=None, indent=False, lean=False):
-    if kind in ('account', 'joined'):
-        return text_of((account if kind == 'account' else joined)(n or 1000, lean), indent)
+    if kind in WHOLE:
+        return text_of(WHOLE[kind](n or 1000, lean), indent)
     if kind == 'fit':
         return fit(indent, lean)
     if kind in TEXTS:
@@ -421,7 +442,8 @@ def make_all(folder):
     for n in (1000, 10_000, 40_000):
         write(os.path.join(folder, f'account-{n}.json'), make('account', n))
     write(os.path.join(folder, 'account-100000.json'), make('account', 100_000, lean=True))
-    write(os.path.join(folder, 'joined-10000.json'), make('joined', 10_000))
+    for kind in ('joined', 'delegated'):
+        write(os.path.join(folder, f'{kind}-10000.json'), make(kind, 10_000))
     write(os.path.join(folder, 'fit-indented.json'), make('fit', indent=True))
     for kind in (*HOSTILE, *TEXTS):
         write(os.path.join(folder, f'{kind}.json'), make(kind))
@@ -435,7 +457,7 @@ def main(words):
         make_all(words[1])
         return 0
     if words[0] == 'kinds':
-        for kind in ('account', 'joined', 'fit', *HOSTILE, *TEXTS):
+        for kind in (*WHOLE, 'fit', *HOSTILE, *TEXTS):
             print(f'{kind}\t{DUE.get(kind, "accepted")}')
         return 0
     out = words[words.index('-o') + 1] if '-o' in words else None

@@ -42,6 +42,11 @@ def joined(count):
     return with_rules(accounts.joined(count, True))
 
 
+def delegated(count):
+    """The same, whose hosts have 16 delegated prefixes each."""
+    return with_rules(accounts.delegated(count, True))
+
+
 def with_rules(whole):
     for group in whole["SecurityGroups"]:
         rules = group["IpPermissions"]
@@ -74,7 +79,7 @@ def row(count, made=account):
     theirs = used([sys.executable, "-c", f"import json; json.load(open({path!r}))"]) - used([sys.executable, "-c", "import json"])
     _, peak = measured([program(), "trace", path, *words], code=answered(path, words))
     size = os.path.getsize(path) / 2**20
-    print(f"| {count:,}{', joined' * (made is joined)} | {size:.1f} MiB | {whole * 1e3:.0f} ms | {whole / theirs:.2f} | {alone * 1e3:.0f} ms | {(rows - alone) * 1e3:.0f} ms"
+    print(f"| {count:,}{f', {made.__name__}' * (made is not account)} | {size:.1f} MiB | {whole * 1e3:.0f} ms | {whole / theirs:.2f} | {alone * 1e3:.0f} ms | {(rows - alone) * 1e3:.0f} ms"
           f" | {(whole - rows) * 1e3:.0f} ms | {(whole - alone) / alone:.2f} | {peak:.0f} MiB |", flush=True)
 
 
@@ -94,7 +99,8 @@ def main():
     os.makedirs(OUT, exist_ok=True)
     for count in (1_000, 10_000, 100_000):
         row(count)
-    row(10_000, joined)
+    for made in (joined, delegated):
+        row(10_000, made)
 
 
 if __name__ == "__main__":

@@ -163,13 +163,14 @@ class Home(NamedTuple):
 
 
 class Names:
-    """The names of components, and where interfaces are; `by` is what they are folded by, if that
-    was asked for."""
+    """The names of components, where interfaces are, and the prefixes that are delegated to them;
+    `by` is what they are folded by, if that was asked for."""
 
     def __init__(self, objects: Iterable[Row] = (), by: str = "") -> None:
         self.by = by
         self.names: dict[str, str] = {}
         self.homes: dict[str, Home] = {}
+        self.prefixes: dict[str, list[str]] = {}
         objects = list(objects)
         instances = dict(instance_names(objects))
         for it in objects:
@@ -204,6 +205,8 @@ class Names:
             description = ""
         vpc = vpcs.get(subnet) or word_of(row, "VpcId")
         self.homes.setdefault(own, Home(description, tuple(sorted(groups)), subnet, vpc))
+        found = (it.get("Ipv4Prefix") for it in rows(row, "Ipv4Prefixes"))
+        self.prefixes.setdefault(own, [it for it in found if isinstance(it, str)])
 
     def of(self, component: str) -> Optional[str]:
         """The name of a component, where it has one that its id doesn't end with."""

@@ -331,7 +331,7 @@ class Answer:
     def starts_of(self, h: Header) -> Iterator[str]:
         """The ends that may have sent a packet."""
         interfaces = self.network.interfaces.values()
-        yield from (it.id for it in interfaces if h.src in it.addresses and not it.is_gateway)
+        yield from (it.id for it in interfaces if it.has(h.src) and not it.is_gateway)
         yield "internet"
 
     def replay(self, answer: texts.Events) -> None:

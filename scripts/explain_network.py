@@ -30,7 +30,8 @@ class Subnet(NamedTuple):
 
 
 class Interface(NamedTuple):
-    """`addresses` are the private ones, each with its public one or None."""
+    """`addresses` are the private ones, each with its public one or None; `blocks` are delegated to
+    it."""
 
     id: str
     subnet: str
@@ -40,6 +41,38 @@ class Interface(NamedTuple):
     idle: bool
     is_gateway: bool
     kind: str
+    blocks: list[Block]
+
+    def has(self, number: int) -> bool:
+        """Whether an address is one of its own: it is assigned, or lies in one of its blocks."""
+        return number in self.addresses or any(it.holds(number) for it in self.blocks)
+
+    def block_with(self, number: int) -> Optional[Block]:
+        """The block by which an address is its own; None where it is assigned, or isn't."""
+        found = (it for it in self.blocks if it.holds(number))
+        return None if number in self.addresses else next(found, None)
+
+
+class Owners:
+    """Interfaces by their private addresses."""
+
+    def __init__(self) -> None:
+        self.assigned: dict[int, Interface] = {}
+        # (by the lengths of blocks and their first addresses)
+        self.delegated: dict[int, dict[int, Interface]] = {}
+
+    def add(self, interface: Interface) -> None:
+        self.assigned.update((it, interface) for it in interface.addresses)
+        for it in interface.blocks:
+            self.delegated.setdefault(it.length, {})[it.first] = interface
+
+    def of(self, number: int) -> Optional[Interface]:
+        """The interface that has an address, else the one with a block that holds it."""
+        found = [self.assigned.get(number)]
+        for length, owners in self.delegated.items():
+            size = 1 << 32 - length
+            found.append(owners.get(number // size * size))
+        return next((it for it in found if it), None)
 
 
 class Route(NamedTuple):
@@ -206,6 +239,7 @@ def interface_of(row: Row) -> Interface:
         row["NetworkInterfaceId"], row["SubnetId"], addresses,
         [it["GroupId"] for it in items(row, "Groups")], row.get("SourceDestCheck") is not False,
         row.get("Status") == "available", plain in ("natgateway", "transitgateway"), kind,
+        [block_of(it["Ipv4Prefix"]) for it in items(row, "Ipv4Prefixes")],
     )
 
 
@@ -467,18 +501,17 @@ class Network:
             self.transit_tables[table] = list(map(transit_route_of, routes))
 
     def index_addresses(self) -> None:
-        self.host_at: dict[tuple[str, int], Interface] = {}
+        self.hosts: dict[str, Owners] = {}
         self.owner_of: dict[int, tuple[Interface, int, str]] = {}
-        self.members: dict[str, dict[int, str]] = {}
+        self.members: dict[str, Owners] = {}
         for it in self.interfaces.values():
             vpc = self.subnets[it.subnet].vpc
+            self.hosts.setdefault(vpc, Owners()).add(it)
             for private, public in it.addresses.items():
-                self.host_at[vpc, private] = it
                 if public is not None:
                     self.owner_of[public] = (it, private, vpc)
             for group in it.groups:
-                own = ((private, it.id) for private in it.addresses)
-                self.members.setdefault(group, {}).update(own)
+                self.members.setdefault(group, Owners()).add(it)
 
     # -- what one component does with a header
 
@@ -549,7 +582,12 @@ class Network:
 
     def group_holds(self, side: Side, reference: str, far: int) -> bool:
         """Whether a group that a rule names has an address, and may be named there."""
-        return far in self.members.get(reference, {}) and self.counts(side, reference)
+        return bool(self.member_of(reference, far)) and self.counts(side, reference)
+
+    def member_of(self, group: str, number: int) -> Optional[Interface]:
+        """The interface of a group that has an address."""
+        found = self.members.get(group)
+        return found.of(number) if found else None
 
     def allows_far(self, side: Side, rule: Rule, far: int) -> bool:
         return (
@@ -597,7 +635,9 @@ class Network:
     # -- what leads where
 
     def host_of(self, vpc: str, number: int) -> Optional[Interface]:
-        return self.host_at.get((vpc, number))
+        """The interface of a VPC that has an address."""
+        found = self.hosts.get(vpc)
+        return found.of(number) if found else None
 
     def zone_subnet(self, attachment: Attachment, subnet: str) -> Optional[str]:
         zone = self.subnets[subnet].zone

@@ -254,7 +254,12 @@ class Why:
 
     @property
     def addresses(self) -> str:
-        return some([dotted(it) for it in self.interface.addresses]) or "it has none"
+        """Those of the interface, and its prefixes."""
+        own = some([dotted(it) for it in self.interface.addresses])
+        found = [str(it) for it in self.interface.blocks]
+        prefixes = f"the prefix{'es' * (len(found) > 1)} {some(found)}" if found else ""
+        both = [it for it in (own, prefixes) if it]
+        return (", and " if " and " in own else " and ").join(both) or "it has none"
 
     @property
     def forwarded(self) -> str:
@@ -270,7 +275,7 @@ class Why:
     @property
     def whose(self) -> str:
         host = self.facts.get("host")
-        return f", an address of {self.teller.named(host.id)}," if host else ""
+        return f", {self.teller.own_words(host, self.h.src)}," if host and self.h else ""
 
     @property
     def vpc(self) -> str:
@@ -378,7 +383,7 @@ class Why:
         network, named = self.network, self.teller.named
         found = [
             (side, it) for _, side, rule in rules for it in rule.groups
-            if network.allows_flow(rule, h) and far in network.members.get(it, {})
+            if network.allows_flow(rule, h) and network.member_of(it, far)
         ]
         for side, it in dict.fromkeys(found):
             if not network.counts(side, it):
@@ -537,7 +542,7 @@ class Why:
         start, wanted = self.facts["start"], self.facts["wanted"]
         name, arrived_as = self.teller.named(start), f" as {packet_words(self.h)}" if self.h else ""
         why = f"{arrived}{arrived_as}, and not at {name} as {packet_words(wanted)}."
-        if start != "internet" and wanted.dst not in self.network.interfaces[start].addresses:
+        if start != "internet" and not self.network.interfaces[start].has(wanted.dst):
             change = f"the request would have to come from an address of {name}"
             return why, f"{change}, or routes to lead its reply to {name}."
         back = WAY_BACK.replace("back ", f"back to {name} ", 1)

@@ -205,7 +205,7 @@ def may_stop(network: Network, stop: Stopped, h: Header) -> bool:
         return (str(row.number), row.allow) == (stop.rule, False) if row else stop.rule == "32767"
     if name in ("SourceCheck", "DestCheck"):
         own = h.src if name == "SourceCheck" else h.dst
-        return own not in network.interfaces[stop.id].addresses
+        return not network.interfaces[stop.id].has(own)
     if name in ("NoRoute", "Blackhole"):
         routes = network.tables[stop.id].routes
         held = [it.reach() for it in routes if network.holds(it, h.dst)]
@@ -221,6 +221,8 @@ def access_facts(network: Network, subnet: str, h: Header) -> dict[str, Any]:
     """The interface of a subnet, whose public access is blocked there, by whose public address a
     packet goes out, else comes in; nothing where there is none."""
     sender, owner = network.host_of(network.subnets[subnet].vpc, h.src), network.owner_of.get(h.dst)
+    if sender and sender.addresses.get(h.src) is None:
+        sender = None
     for outward, end in ((True, sender), (False, owner[0] if owner else None)):
         if end and end.subnet == subnet and network.is_blocked(end):
             return {"end": end, "outward": outward}

@@ -7,7 +7,7 @@ from typing import Any, Optional
 
 from scripts.bundles import harmless
 from scripts.explain_network import (
-    AclRow, Appliance, Network, Route, Rule, Side, is_unroutable,
+    AclRow, Appliance, Interface, Network, Route, Rule, Side, is_unroutable,
 )
 from scripts.explain_told import Decisions, chosen_at, entered_at, route_at
 from scripts.headers import Block, Box, Header, dotted
@@ -167,6 +167,11 @@ class Teller:
     def all_named(self, components: Iterable[str], word: str = "and") -> str:
         return list_words([self.named(it) for it in components], word)
 
+    def own_words(self, interface: Interface, number: int, word: str = "an address") -> str:
+        """What an address is to the interface that has it."""
+        block, whose = interface.block_with(number), f"of {self.named(interface.id)}"
+        return f"in the prefix {block} {whose}" if block else f"{word} {whose}"
+
     # -- rules and rows
 
     def far_words(self, rule: Rule) -> str:
@@ -188,10 +193,11 @@ class Teller:
         for it in rule.lists:
             if network.list_holds(it, far):
                 return f"; {self.named(it)} holds {dotted(far)}"
-        found = next((it for it in rule.groups if network.group_holds(side, it, far)), None)
-        if found is None:
+        found = (it for it in rule.groups if network.group_holds(side, it, far))
+        host = next((network.member_of(it, far) for it in found), None)
+        if host is None:
             raise NoText(f"rule {harmless(rule.name)} doesn't allow {dotted(far)}")
-        return f"; {dotted(far)} is that of {self.named(network.members[found][far])}"
+        return f"; {dotted(far)} is {self.own_words(host, far, 'that')}"
 
     def row_words(self, row: AclRow) -> str:
         verb, way = "allows" if row.allow else "denies", "to" if row.outward else "from"
@@ -276,7 +282,7 @@ class Teller:
         network, number = self.network, hop.header.dst
         vpc = network.subnets[hop.id].vpc if route else hop.id
         host = network.host_of(vpc, number)
-        return f"{dotted(number)} is an address of {self.named(host.id)}" if host else ""
+        return f"{dotted(number)} is {self.own_words(host, number)}" if host else ""
 
     def acl_words(self, it: AclVerdict, subnet: Optional[str]) -> str:
         outward = it.direction == "out"

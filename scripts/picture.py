@@ -6,7 +6,8 @@ file TEXT or comes on standard input:
     ./vpc ask shop.json from eni-web to eni-db port 5432-5432 | ./picture > answer.svg
 
   --names BUNDLE   labels components by their Name tags, an interface also by that of its instance,
-                   a group by its name; folds what is large by groups, subnets or VPCs
+                   a group by its name; folds what is large by groups, subnets or VPCs; prefixes
+                   that are delegated to an interface are addresses of it like others
   --by PART        folds the ends of matrix, reach and diff by group, subnet or vpc of BUNDLE; with
                    host only those that are alike are one
   --title WORDS    a title above the picture, or above the page

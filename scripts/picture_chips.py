@@ -4,8 +4,9 @@ share their addresses, however rows cut these."""
 from __future__ import annotations
 
 import collections
+import contextlib
 import functools
-from collections.abc import Iterable, Sequence
+from collections.abc import Iterable, Iterator, Mapping, Sequence
 from typing import NamedTuple, Optional
 
 from scripts.headers import ECHO_REQUEST, LAST, Box, Range, block_of, dotted
@@ -13,7 +14,7 @@ from scripts.picture_canvas import grouped, width_of
 from scripts.words import PROTOCOLS, counted
 
 # Of a row the protocols, destination ports, source ports, sources and destinations; None stands for
-# the own address of an end.
+# the own addresses of an end.
 Part = tuple[Range, Range, Range, Optional[Range], Optional[Range]]
 Sides = tuple[Range, Optional[Range], Optional[Range]]
 PING = ((ECHO_REQUEST, ECHO_REQUEST),)
@@ -50,6 +51,13 @@ def asked_of(query: str) -> Asked:
 def addresses_of(prefix: str) -> Range:
     block = block_of(prefix)
     return block.first, block.first + (1 << 32 - block.length) - 1
+
+
+def ranges_of(prefixes: Iterable[str]) -> Iterator[Range]:
+    """The addresses of each prefix. What is none has none."""
+    for it in prefixes:
+        with contextlib.suppress(ValueError):
+            yield addresses_of(it)
 
 
 def merged(ranges: Iterable[Range]) -> tuple[Range, ...]:
@@ -231,10 +239,12 @@ class Region(NamedTuple):
 
 
 class Teller:
-    """Chips of rows, each set of rows told once, and the regions that they have."""
+    """Chips of rows, each set of rows told once, and the regions that they have. `prefixes` are
+    those that are delegated to interfaces."""
 
-    def __init__(self, query: str) -> None:
-        self.asked = asked_of(query)
+    def __init__(self, query: str, prefixes: Optional[Mapping[str, Sequence[str]]] = None) -> None:
+        self.asked, self.prefixes = asked_of(query), prefixes or {}
+        self.delegated: dict[str, set[Range]] = {}
         self.known: dict[frozenset[Part], tuple[Chip, ...]] = {}
         # (of each region rows that have it, to be looked at where it is drawn)
         self.rows_of: dict[int, tuple[frozenset[Part], int, int]] = {}
@@ -242,9 +252,18 @@ class Teller:
     def part_of(self, box: Box, start: str, end: str) -> Part:
         """A row without what needs not be told."""
         protocols, src, dst, sports, ports = box
-        own_src = start != "internet" and src[0] == src[1]
-        own_dst = end != "internet" and dst[0] == dst[1]
+        own_src, own_dst = self.is_own(start, src), self.is_own(end, dst)
         return protocols, ports, sports, None if own_src else src, None if own_dst else dst
+
+    def is_own(self, end: str, ends: Range) -> bool:
+        """Whether a range is one address of an interface, or a prefix of it, or several prefixes
+        that touch."""
+        if end == "internet" or ends[0] == ends[1]:
+            return end != "internet"
+        if end not in self.delegated:
+            ranges = list(ranges_of(self.prefixes.get(end, ())))
+            self.delegated[end] = {*ranges, *merged(ranges)}
+        return ends in self.delegated[end]
 
     def chips(self, rows: frozenset[Part]) -> tuple[Chip, ...]:
         if rows not in self.known:

@@ -7,12 +7,12 @@ from collections.abc import Hashable, Iterable, Iterator, Mapping, Sequence
 from typing import NamedTuple, Optional, Union
 
 from scripts.bundles import Names
-from scripts.headers import Box, Range, dotted
+from scripts.headers import Range
 from scripts.picture_canvas import (
     GAP, MARGIN, Drawing, Run, first_of, grouped, number, shortened, width_of, wrapped,
 )
 from scripts.picture_chips import (
-    ALL_PORTS, SEPARATOR, Chip, Part, Teller, chip_order, mark, merged,
+    ALL_PORTS, SEPARATOR, Chip, Part, Teller, address_words, chip_order, mark, merged,
 )
 from scripts.picture_classes import (
     BY, KINDS, Label, Namer, Unit, fold, label_of_ids, label_of_units, natural, units_of,
@@ -92,20 +92,11 @@ def note_words(note: Note, start: str, end: str) -> str:
     return f"{when}: {words}{', not known' * is_unknown(name)}"
 
 
-def own_words(box: Box, start: str, end: str) -> list[str]:
-    """The addresses of a box that are an end's own."""
-    _, src, dst, _, _ = box
-    return [
-        f"{SIDES[side]} {dotted(low)}" for side, (low, high), of in ((1, src, start), (2, dst, end))
-        if of != "internet" and low == high
-    ]
-
-
 class Pairs:
     """What rows tell of each start and end, by their words."""
 
-    def __init__(self, found: Union[Reach, Diff]) -> None:
-        self.teller, self.is_cut = Teller(found.query), bool(found.next)
+    def __init__(self, found: Union[Reach, Diff], names: Names) -> None:
+        self.teller, self.is_cut = Teller(found.query, names.prefixes), bool(found.next)
         self.rows: dict[tuple[str, str, str], list[Union[ReachRow, DiffRow]]] = {}
         for it in found.rows:
             self.rows.setdefault((word_of(it), it.start, it.end), []).append(it)
@@ -121,6 +112,16 @@ class Pairs:
         return frozenset(
             (chip, note) for note, of in parts.items() for chip in self.teller.chips(frozenset(of))
         )
+
+    def own_words(self, key: tuple[str, str, str]) -> list[str]:
+        """The addresses from a start to an end that chips don't tell: those that are an end's own,
+        and all that it has beside them."""
+        words = []
+        for side, end in ((1, key[1]), (2, key[2])):
+            ranges = list(dict.fromkeys(it.box[side] for it in self.rows[key]))
+            if any(self.teller.is_own(end, it) for it in ranges):
+                words += [f"{SIDES[side]} {address_words(it)}" for it in ranges]
+        return words
 
     def count(self, ends: Iterable[tuple[str, str, str]]) -> int:
         return sum(len(self.rows[it]) for it in ends)
@@ -267,10 +268,7 @@ class Folded:
         notes = dict.fromkeys(
             note_words(it, start, end) for it in sorted({it for _, it in counts}) if it
         )
-        own: dict[str, None] = {}
-        if len(keys) == 1:
-            boxes = [it.box for it in self.pairs.rows[keys[0]]]
-            own = dict.fromkeys(it for box in boxes for it in own_words(box, start, end))
+        own = self.pairs.own_words(keys[0]) if len(keys) == 1 else []
         from_units, to_units = ([self.units[it] for it in sorted(of)] for of in (starts, ends))
         # (from or to one end its pairs are the others)
         is_one = any(sum(len(it.ids) for it in of) == 1 for of in (from_units, to_units))
@@ -281,7 +279,7 @@ class Folded:
             for it, count in chips.items()
         ]
         rows = self.pairs.count(keys)
-        return Path(word, from_units, to_units, told, list(notes), list(own), rows)
+        return Path(word, from_units, to_units, told, list(notes), own, rows)
 
 
 def told_pairs(count: int, size: int, what: str) -> str:
@@ -544,7 +542,7 @@ def draw_ways(
 ) -> tuple[Drawing, str, str]:
     """The ways of a text: of each host, where that is seen at once, else by group, subnet or VPC,
     the first that is; or by what was asked for."""
-    pairs = Pairs(found)
+    pairs = Pairs(found, names)
     kinds: Sequence[str] = [names.by] if names.by else BY if names.homes else BY[:1]
     best: Optional[tuple[Drawing, str, str]] = None
     for by in kinds:

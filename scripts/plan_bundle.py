@@ -11,7 +11,7 @@ has no id yet gets its address as its id:
 
 It applies VPCs, subnets, security groups, their rules and the VPCs that they are associated with,
 network ACLs and their rows, route tables, their routes and associations, network interfaces with
-their groups and addresses, and the interfaces of instances; of transit gateways and their
+their groups, addresses and prefixes, and the interfaces of instances; of transit gateways and their
 attachments to VPCs whether rules may name groups over them. What it can't apply, or not without a
 guess, is told on standard error, one line each, and at last how many changes that is about:
 

@@ -313,8 +313,8 @@ class Plan:
             self.read_prior(it)
 
     def told_addresses(self) -> set[str]:
-        """The private addresses that the plan gives to somebody."""
-        names = ("private_ip", "private_ips", "private_ip_list", "secondary_private_ips")
+        """The private addresses and prefixes that the plan gives to somebody."""
+        names = "private_ip private_ips private_ip_list secondary_private_ips ipv4_prefixes".split()
         values = [it.after.get(name) for it in self.changes for name in names]
         return {it for it in flat(values) if isinstance(it, str)}
 

@@ -10,7 +10,10 @@ from scripts.plan_applying import Applying
 from scripts.plan_changes import (
     UNKNOWN, Change, NewId, Plan, Untold, first_interface, has_true, items, own_interfaces, shown,
 )
-from scripts.plan_rows import (Bundle, address_of, block_of, has_group, inner, owner, room, tags_of)
+from scripts.plan_rows import (
+    Bundle, address_of, block_if, block_of, has_group, inner, meets, owner, range_of, room,
+    tags_of,
+)
 
 # What of an instance does, beside its groups, and that it has its source checked.
 OF_INSTANCE = (
@@ -23,6 +26,8 @@ STAND_INS = [
     ipaddress.IPv4Network(it)
     for it in ("192.0.2.0/24", "198.51.100.0/24", "203.0.113.0/24", "198.18.0.0/15")
 ]
+# The prefixes that are delegated to an interface, and how many of them AWS is to choose.
+PREFIXES, PREFIX_COUNT = "ipv4_prefixes", "ipv4_prefix_count"
 CANT_CHANGE = ", or can't be changed here"
 SOME_UNKNOWN = "not all of its private addresses are known before the apply"
 ADDRESSES_UNKNOWN = "its private addresses aren't known before the apply"
@@ -41,10 +46,12 @@ class InterfaceChanges(Applying):
         place = self.bundle.row("SubnetId", subnet)
         self.bundle.row("VpcId", place.get("VpcId"))
         groups = self.groups_of_new(change, "security_groups", place["VpcId"])
-        addresses = self.addresses_of(change)
-        self.refuse_taken(place["VpcId"], addresses)
+        addresses, prefixes = self.addresses_of(change), self.prefixes_of(change)
+        self.refuse_taken(place["VpcId"], addresses + prefixes)
         row = self.new_row(change, place, eni, groups, addresses)
         row["TagSet"] = tags_of(change)
+        if prefixes:
+            row["Ipv4Prefixes"] = [{"Ipv4Prefix": it} for it in prefixes]
         self.add_interface(place, row)
         self.attach_by_block(change, row)
 
@@ -78,15 +85,29 @@ class InterfaceChanges(Applying):
         part = self.bundle.part_of("Subnets", place["SubnetId"])
         self.bundle.add(part, "NetworkInterfaces", row)
 
-    def refuse_taken(self, vpc: Any, addresses: list[str]) -> None:
-        """Addresses of interfaces that stay are taken."""
+    def refuse_taken(self, vpc: Any, wanted: list[str], own: Any = None) -> None:
+        """Addresses and prefixes of other interfaces that stay are taken."""
         for row in self.bundle.rows("NetworkInterfaces"):
-            if row.get("VpcId", vpc) != vpc or row["NetworkInterfaceId"] in self.leaving:
-                continue
-            for it in [row, *rows(row, "PrivateIpAddresses")]:
-                own = it.get("PrivateIpAddress")
-                if own in addresses:
-                    raise Untold(f"{own} is an address of {shown(row['NetworkInterfaceId'])}")
+            eni = row["NetworkInterfaceId"]
+            if row.get("VpcId", vpc) == vpc and eni not in self.leaving and eni != own:
+                self.refuse_taken_by(row, wanted)
+
+    def refuse_taken_by(self, row: Row, wanted: list[str]) -> None:
+        whose = f"of {shown(row['NetworkInterfaceId'])}"
+        addresses = [
+            it.get("PrivateIpAddress") for it in [row, *rows(row, "PrivateIpAddresses")]
+        ]
+        for it in addresses:
+            if it in wanted:
+                raise Untold(f"{it} is an address {whose}")
+        prefixes = [it.get("Ipv4Prefix") for it in rows(row, "Ipv4Prefixes")]
+        for it in wanted:
+            theirs = [*addresses, *prefixes] if "/" in it else prefixes
+            found = next((that for that in theirs if meets(it, that)), None)
+            if found is not None:
+                how = "meets" if "/" in it else "lies in"
+                what = "a prefix" if "/" in found else "an address"
+                raise Untold(f"{it} {how} {found}, {what} {whose}")
 
     def groups_of_new(self, change: Change, name: str, vpc: Any) -> list[Row]:
         """The groups of a new interface: the default one of its VPC where none is told."""
@@ -115,13 +136,24 @@ class InterfaceChanges(Applying):
             self.tell_unknown(change, which, f": {found[0]} is taken for it")
         return [address_of(first), *(it for it in found if it != first)] if first else found
 
+    def prefixes_of(self, change: Change) -> list[str]:
+        """The prefixes of a new interface: none where nobody asks for some."""
+        names = (PREFIXES, PREFIX_COUNT)
+        is_asked = any(self.plan.is_told(change, it) for it in names)
+        is_asked |= not self.plan.resource_at(change)
+        if change.after.get(PREFIX_COUNT) or is_asked and any(map(change.is_unknown, names)):
+            self.tell_unknown(change, PREFIXES)
+        is_known = not change.is_unknown(PREFIXES)
+        return [block_of(it, 4) for it in items(change.after.get(PREFIXES)) if is_known]
+
     def fill_interface(self, change: Change) -> None:
         if not change.does("update"):
             return
         row = self.bundle.row("NetworkInterfaceId", change.after.get("id"))
         self.attempt_each(
             change, lambda: self.change_groups(change, "security_groups", row),
-            lambda: self.change_addresses(change, row), lambda: self.change_manner(change, row),
+            lambda: self.change_addresses(change, row), lambda: self.change_prefixes(change, row),
+            lambda: self.change_manner(change, row),
         )
 
     def change_groups(self, change: Change, name: str, row: Row) -> None:
@@ -162,6 +194,24 @@ class InterfaceChanges(Applying):
         found += [{"Primary": False, "PrivateIpAddress": it} for it in new]
         row["PrivateIpAddresses"] = found
 
+    def change_prefixes(self, change: Change, row: Row) -> None:
+        if change.differs(PREFIXES) and not change.is_unknown(PREFIXES):
+            # (how many there are follows)
+            self.exchange_prefixes(change, row)
+            return
+        for it in (PREFIXES, PREFIX_COUNT):
+            if change.differs(it):
+                self.tell_unknown(change, it, CANT_CHANGE)
+
+    def exchange_prefixes(self, change: Change, row: Row) -> None:
+        before = [block_if(it) for it in items(change.before.get(PREFIXES))]
+        after = [block_of(it, 4) for it in items(change.after.get(PREFIXES))]
+        there = [(block_if(it.get("Ipv4Prefix")), it) for it in inner(row, "Ipv4Prefixes")]
+        kept = [it for own, it in there if own not in before or own in after]
+        new = [it for it in after if it not in [own for own, _ in there]]
+        self.refuse_taken(row.get("VpcId"), new, row["NetworkInterfaceId"])
+        row["Ipv4Prefixes"] = kept + [{"Ipv4Prefix": it} for it in new]
+
     def change_check(self, change: Change, row: Row) -> None:
         name = "source_dest_check"
         if change.before.get(name) != change.after.get(name):
@@ -173,7 +223,7 @@ class InterfaceChanges(Applying):
         if is_other and not change.is_unknown("attachment"):
             self.detach(row)
             self.attach_by_block(change, row)
-        for name in ("subnet_id", "ipv4_prefixes", "ipv4_prefix_count", "attachment"):
+        for name in ("subnet_id", "attachment"):
             if change.is_unknown(name) or name != "attachment" and change.differs(name):
                 self.tell_unknown(change, name, CANT_CHANGE)
         if change.differs("private_ips_count"):
@@ -347,13 +397,16 @@ class InstanceChanges(InterfaceChanges):
     def free_address(self, place: Row, others: set[str]) -> str:
         """The lowest address of a subnet that nobody has. The first four and the last are kept by
         AWS."""
-        block = ipaddress.IPv4Network(block_of(place.get("CidrBlock"), 4))
-        taken = self.bundle.addresses("PrivateIpAddress") | others
-        hosts = (str(block[number]) for number in range(4, block.num_addresses - 1))
-        found = next((it for it in hosts if it not in taken), None)
-        if found is None:
+        first, last = range_of(block_of(place.get("CidrBlock"), 4))
+        taken = {*self.bundle.addresses("PrivateIpAddress"), *self.bundle.prefixes(), *others}
+        found = first + 4
+        for low, high in sorted(map(range_of, taken)):
+            if found < low:
+                break
+            found = max(found, high + 1)
+        if found >= last:
             raise Untold(f"{shown(place['SubnetId'])} has no free address")
-        return found
+        return str(ipaddress.IPv4Address(found))
 
     def public_of(self, change: Change, place: Row) -> Optional[str]:
         """The public address of a new instance; None where it has none. Where it has one that isn't

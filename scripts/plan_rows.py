@@ -2,6 +2,7 @@
 
 from __future__ import annotations
 
+import functools
 import ipaddress
 import re
 from collections.abc import Callable, Iterator
@@ -163,6 +164,11 @@ class Bundle:
         path = (name,) if name == "PrivateIpAddress" else ("Association", name)
         return {shown(member(it, *path)) for it in found}
 
+    def prefixes(self) -> set[str]:
+        """The prefixes that are delegated to interfaces."""
+        found = (that for it in self.rows("NetworkInterfaces") for that in rows(it, "Ipv4Prefixes"))
+        return {shown(it.get("Ipv4Prefix")) for it in found}
+
     def default_vpc(self) -> Any:
         found = [it for it in self.rows("Vpcs") if it.get("IsDefault") is True]
         if len(found) != 1:
@@ -220,7 +226,12 @@ def tags_of(change: Change) -> list[Row]:
 
 
 def network_of(text: Any) -> Any:
-    return ipaddress.ip_network(text if isinstance(text, str) else "", strict=False)
+    return parsed(text if isinstance(text, str) else "")
+
+
+@functools.lru_cache(None)
+def parsed(text: str) -> Any:
+    return ipaddress.ip_network(text, strict=False)
 
 
 def block_of(text: Any, version: int) -> str:
@@ -240,6 +251,23 @@ def block_if(text: Any) -> Any:
         return str(network_of(text))
     except ValueError:
         return text
+
+
+def meets(one: Any, other: Any) -> bool:
+    """Whether two blocks or addresses share an address. What is neither shares none."""
+    try:
+        return bool(network_of(one).overlaps(network_of(other)))
+    except ValueError:
+        return False
+
+
+def range_of(text: Any) -> tuple[int, int]:
+    """The first and the last address of a block of IPv4, or an address; none of what is neither."""
+    try:
+        found = network_of(text)
+    except ValueError:
+        return -1, -1
+    return (int(found[0]), int(found[-1])) if found.version == 4 else (-1, -1)
 
 
 def address_of(value: Any) -> str:

@@ -325,8 +325,6 @@ def ipv6_entries(bundle: Bundle) -> Findings:
 
 # ---- interfaces
 
-LACKING = "addresses that PrivateIpAddresses lacks stop as NoHost, and as sources as SourceCheck"
-PREFIXES = Kind("prefixes of interfaces", f"their {LACKING}")
 OWN_PUBLIC = Kind("public addresses that an interface's own Association alone has", NONE_PUBLIC)
 OTHER_PUBLIC = {
     "CarrierIp": ("carrier", Kind("carrier addresses", NONE_PUBLIC)),
@@ -336,14 +334,6 @@ BALANCERS = Kind(
     "interfaces of load balancers, of which isn't told what they send on",
     "packets end there; ask on from them to their targets",
 )
-
-
-def delegated_prefixes(bundle: Bundle) -> Findings:
-    for interface in bundle["NetworkInterfaces"]:
-        eni = harmless(interface.get("NetworkInterfaceId"))
-        for it in rows(interface, "Ipv4Prefixes"):
-            name = f"{harmless(it.get('Ipv4Prefix'))} of {eni}"
-            yield Finding(PREFIXES, f"prefix {name}", name, f"its {LACKING}")
 
 
 def public_addresses(bundle: Bundle) -> Findings:
@@ -600,9 +590,9 @@ def zone_names(bundle: Bundle) -> Findings:
 
 FINDERS = (
     unmodelled_routes, networks_behind, route_states, gateway_tables, unlisted_groups, ipv6_routes,
-    ipv6_rules, ipv6_acl_rows, ipv6_entries, delegated_prefixes, public_addresses, load_balancers,
-    secondary_addresses, untold_access, other_attachments, missing_tables, transit_routes,
-    attachment_options, doubled_attachments, untold_naming, zone_names,
+    ipv6_rules, ipv6_acl_rows, ipv6_entries, public_addresses, load_balancers, secondary_addresses,
+    untold_access, other_attachments, missing_tables, transit_routes, attachment_options,
+    doubled_attachments, untold_naming, zone_names,
 )
 
 

@@ -130,6 +130,7 @@ fi
 collect "$collect" --profile tools
 is 'tools: status' $status 0
 is 'tools: Name alone of tags' "$(told "$keys") $(grep -c Team "$here/account/answers/tools/describe-network-interfaces.json")" 'Name 1'
+is 'tools: prefixes of interfaces' "$(told '.NetworkInterfaces | map([.NetworkInterfaceId, .Ipv4Prefixes[].Ipv4Prefix])')" '[["eni-tools","10.1.1.128/28"]]'
 is 'tools: entries' "$(told '.PrefixListEntries | map([.PrefixListId, .Entries[].Cidr])')" \
     '[["pl-corp","192.0.2.0/24","198.51.100.0/24"]]'
 is 'tools: no list that nothing names' "$(told .PrefixLists)" '[]'

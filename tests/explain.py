@@ -100,6 +100,10 @@ def updated(bundle, name, **members):
     row(bundle, name).update(members)
 
 
+def delegated(bundle, name, *prefixes):
+    updated(bundle, name, Ipv4Prefixes=[{"Ipv4Prefix": it} for it in prefixes])
+
+
 def routed(bundle, table, destination, **target):
     """A further route, before all others."""
     row(bundle, table)["Routes"].insert(0, {"DestinationCidrBlock": destination, **target})
@@ -199,8 +203,12 @@ STOPS = [
      "eni-b (db one) is an interface of instance i-1, whose state is stopped", "instance i-1 would have to be running", lambda bundle: bundle["Reservations"][0]["Instances"][0]["State"].update(Name="running")),
     ("SourceCheck", nothing, "trace", "open from eni-a tcp 10.1.1.99 10.2.1.10 5000 5432", "stopped SourceCheck eni-a -", "10.1.1.99 is none of the private addresses of eni-a (web one) (10.1.1.10)",
      "come from one of these addresses, or the source/destination check of eni-a (web one) to be off", act(updated, "eni-a", SourceDestCheck=False)),
+    ("SourceCheck, beside a prefix", act(delegated, "eni-a", "10.1.1.64/28"), "trace", "open from eni-a tcp 10.1.1.80 10.2.1.10 5000 5432", "stopped SourceCheck eni-a -", "10.1.1.80 is none of the private addresses of eni-a (web one) (10.1.1.10 and the prefix 10.1.1.64/28)",
+     "come from one of these addresses, or the source/destination check of eni-a (web one) to be off", "open from eni-a tcp 10.1.1.79 10.2.1.10 5000 5432"),
     ("DestCheck", several(act(routed, "rtb-a", "10.2.1.10/32", NetworkInterfaceId="eni-c")), "trace", TO_B.format(5432), "stopped DestCheck eni-c -",
      "10.2.1.10 is none of the private addresses of eni-c (10.1.3.10)", "go to one of these addresses, or the source/destination check of eni-c to be off", act(updated, "eni-c", SourceDestCheck=False)),
+    ("DestCheck, beside prefixes", several(act(routed, "rtb-a", "10.2.1.10/32", NetworkInterfaceId="eni-c"), act(delegated, "eni-c", "10.1.3.64/28", "10.1.3.80/28")), "trace", TO_B.format(5432), "stopped DestCheck eni-c -",
+     "10.2.1.10 is none of the private addresses of eni-c (10.1.3.10 and the prefixes 10.1.3.64/28 and 10.1.3.80/28)", "go to one of these addresses", act(updated, "eni-c", Ipv4Prefixes=[{"Ipv4Prefix": "10.2.1.0/28"}])),
     ("GroupsOut", act(updated, "sg-a", IpPermissionsEgress=[{"IpProtocol": "tcp", "FromPort": 443, "ToPort": 443, "IpRanges": [{"CidrIp": ANYWHERE}]}]), "trace", TO_B.format(5432),
      "stopped GroupsOut eni-a -", "no outbound rule of sg-a allows tcp 5432 to 10.2.1.10. To 10.2.1.10 it allows tcp 443 alone.", "an outbound rule of sg-a would have to allow tcp 5432 to 10.2.1.10",
      act(permitted, "sg-a", True, "10.2.1.10/32", port=5432)),
@@ -219,6 +227,8 @@ STOPS = [
     ("GroupsIn, by one of which nothing is told", act(named, "sg-b", False, "sg-a"), "trace", TO_B.format(443), "stopped GroupsIn eni-b -",
      "over tgw-1 it would count if SecurityGroupReferencingSupport of tgw-1 (not told), att-b (not told) and att-a (not told) were enable.", "would have to allow tcp 443 from 10.1.1.10",
      act(updated, "pcx-1", Status={"Code": "active"})),
+    ("GroupsIn, by a prefix of a member", several(act(named, "sg-b", False, "sg-a"), act(delegated, "eni-a", "10.1.1.64/28")), "trace", "open from eni-a tcp 10.1.1.65 10.2.1.10 5000 443", "stopped GroupsIn eni-b -",
+     "sg-a, which 10.1.1.65 belongs to, doesn't count here: it is in vpc-a (shop)", "would have to allow tcp 443 from 10.1.1.65", act(updated, "pcx-1", Status={"Code": "active"})),
     ("GroupsIn, by one in another VPC", several(act(named, "sg-b", False, "sg-a"), act(updated, "att-a", TransitGatewayId="tgw-2"), act(routed, "rtb-a", "10.2.1.10/32", TransitGatewayId="tgw-2")), "trace", TO_B.format(443), "stopped GroupsIn eni-b -",
      "sg-a, which 10.1.1.10 belongs to, doesn't count here: it is in vpc-a (shop), which no active peering joins to vpc-b.", "would have to allow tcp 443 from 10.1.1.10",
      lambda bundle: bundle.update(SecurityGroupVpcAssociations=[{"GroupId": "sg-a", "VpcId": "vpc-b", "State": "associated"}])),
@@ -250,12 +260,17 @@ STOPS = [
      lambda bundle: row(bundle, "acl-a")["Entries"].pop()),
     ("NoHost", nothing, "trace", TO_NET.format("10.1.9.9"), "stopped NoHost vpc-a -", "no interface of VPC vpc-a (shop) has the address 10.1.9.9", "an interface of vpc-a (shop) would have to have 10.1.9.9",
      lambda bundle: bundle["NetworkInterfaces"].append({"NetworkInterfaceId": "eni-z", "SubnetId": "subnet-a", "PrivateIpAddress": "10.1.9.9"})),
+    ("NoHost, beside a prefix", act(delegated, "eni-a", "10.1.9.0/28"), "trace", TO_NET.format("10.1.9.16"), "stopped NoHost vpc-a -", "no interface of VPC vpc-a (shop) has the address 10.1.9.16", "an interface of vpc-a (shop) would have to have 10.1.9.16",
+     act(updated, "eni-a", Ipv4Prefixes=[{"Ipv4Prefix": "10.1.9.0/27"}])),
     ("NoGateway", several(act(updated, "eni-b", PrivateIpAddresses=[{"PrivateIpAddress": "10.2.1.10", "Association": {"PublicIp": "203.0.113.30"}}])), "trace", "open from internet tcp 198.51.100.7 203.0.113.30 1 2", "stopped NoGateway vpc-b -",
      "203.0.113.30 is a public address of eni-b, in VPC vpc-b, and no internet gateway is attached to that VPC", "an internet gateway would have to be attached to vpc-b", act(updated, "igw-2", Attachments=[{"State": "available", "VpcId": "vpc-b"}])),
     ("GatewayDetached", act(routed, "rtb-a", "192.0.2.0/24", GatewayId="igw-2"), "trace", TO_NET.format("192.0.2.1"), "stopped GatewayDetached igw-2 -", "the route 192.0.2.0/24 to igw-2 of rtb-a leads to igw-2, which isn't attached to VPC vpc-a (shop)",
      "igw-2 would have to be attached to VPC vpc-a (shop), or the route to lead to igw-1, which is", lambda bundle: route(bundle, "rtb-a", "192.0.2.0/24").update(GatewayId="igw-1")),
     ("NoPublic", act(routed, "rtb-a", "192.0.2.0/24", GatewayId="igw-1"), "trace", TO_NET.format("192.0.2.1"), "stopped NoPublic igw-1 -", "10.1.1.10, an address of eni-a (web one), has no public address", "10.1.1.10 would have to get a public address, or the route to lead to a NAT gateway",
      act(updated, "eni-a", PrivateIpAddresses=[{"PrivateIpAddress": "10.1.1.10", "Association": {"PublicIp": "203.0.113.20"}}])),
+    ("NoPublic, of a prefix", several(act(routed, "rtb-a", "192.0.2.0/24", GatewayId="igw-1"), act(delegated, "eni-a", "10.1.1.64/28")), "trace", "open from eni-a tcp 10.1.1.65 192.0.2.1 1 2", "stopped NoPublic igw-1 -",
+     "10.1.1.65, in the prefix 10.1.1.64/28 of eni-a (web one), has no public address", "10.1.1.65 would have to get a public address, or the route to lead to a NAT gateway",
+     act(updated, "eni-a", PrivateIpAddresses=[{"PrivateIpAddress": "10.1.1.65", "Association": {"PublicIp": "203.0.113.20"}}])),
     ("NoPublic, for a NAT gateway", act(routed, "rtb-a", "192.0.2.0/24", GatewayId="igw-1"), "trace", TO_NET.format("192.0.2.1"), "stopped NoPublic igw-1 -", "has no public address", "or the route to lead to a NAT gateway",
      lambda bundle: (route(bundle, "rtb-a", "192.0.2.0/24").pop("GatewayId"), route(bundle, "rtb-a", "192.0.2.0/24").update(NatGatewayId="nat-1"))),
     ("BlockPublicAccess", act(blocked, "subnet-n", "block-ingress"), "trace", "open from internet tcp 198.51.100.7 203.0.113.10 1 2", "stopped BlockPublicAccess subnet-n block-ingress",
@@ -312,6 +327,8 @@ STOPS = [
     ("WrongPlace, for the internet", nothing, "ask", "from eni-a to internet dst 203.0.113.10/32 port 80-80", "request WrongPlace eni-c -", "it arrived at eni-c", "the packet would have to go to an address that is none of the bundle's public ones", "from eni-a to internet dst 198.51.100.7/32 port 80-80"),
     ("WrongReturn", borrowed_address, "ask", "from eni-a to eni-b src 10.1.3.10/32 port 5432-5432", "reply WrongReturn eni-c -", "the request arrived, but its reply arrived at eni-c, and not at eni-a (web one) as tcp from 10.2.1.10 port 5432 to 10.1.3.10 port 0.",
      "the request would have to come from an address of eni-a (web one)", "from eni-a to eni-b src 10.1.1.10/32 port 5432-5432"),
+    ("WrongReturn, beside a prefix", several(borrowed_address, act(delegated, "eni-a", "10.1.1.64/28")), "ask", "from eni-a to eni-b src 10.1.3.10/32 port 5432-5432", "reply WrongReturn eni-c -", "the request arrived, but its reply arrived at eni-c",
+     "the request would have to come from an address of eni-a (web one)", "from eni-a to eni-b src 10.1.1.79/32 port 5432-5432"),
     ("WrongReturn, by a route", borrowed_address, "ask", "from eni-a to eni-b src 10.1.3.10/32 port 5432-5432", "reply WrongReturn eni-c -", "the request arrived, but its reply arrived at eni-c", "or routes to lead its reply to eni-a (web one)",
      act(routed, "rtb-a", "10.1.3.10/32", NetworkInterfaceId="eni-a")),
     ("NoReply", act(permitted, "sg-b", False, "10.1.1.10/32", "icmp"), "ask", "from eni-a to eni-b proto icmp port 771-771", "reply NoReply eni-b -", "icmp type 3 code 3 is no echo request (type 8 code 0), so nothing comes back", "only an echo request is answered", "from eni-a to eni-b proto icmp port 2048-2048"),
@@ -495,7 +512,9 @@ def mended(bundle, stop):
         bundle.setdefault("InternetGateways", []).append({"InternetGatewayId": "igw-new", "Attachments": [{"State": "available", "VpcId": vpc}]})
     elif stop.name == "NoPublic" and facts["host"]:
         interface = by_id(bundle, "NetworkInterfaces", "NetworkInterfaceId", facts["host"].id)
-        next(it for it in interface["PrivateIpAddresses"] if it["PrivateIpAddress"] == dotted(h.src))["Association"] = {"PublicIp": "192.0.2.99"}
+        # (one of a prefix is to be assigned before it has one)
+        found = [it for it in interface["PrivateIpAddresses"] if it["PrivateIpAddress"] != dotted(h.src)]
+        interface["PrivateIpAddresses"] = [*found, {"PrivateIpAddress": dotted(h.src), "Association": {"PublicIp": "192.0.2.99"}}]
     elif stop.name == "PeerNotActive":
         by_id(bundle, "VpcPeeringConnections", "VpcPeeringConnectionId", stop.id)["Status"]["Code"] = "active"
     elif stop.name in ("PeerSource", "PeerDestination"):
@@ -587,7 +606,7 @@ def run_random(results, asked, cases):
     results.add("what was tried", tried > cases * 3, True)
     print(f"stops of which all is told, or less: {dict(less)}")
     results.add("stops of requests of which less is told", less["request, less"], 0)
-    results.add("stops of replies of which less is told", less["reply, less"] * 5 <= less["reply, all"] + 5, True)
+    results.add("stops of replies of which less is told", less["reply, less"] * 5 <= less["reply, all"] + 10, True)
     results.add("stops that were met", len(told_of) >= 16 or cases < 100, True)
 
 
@@ -634,9 +653,11 @@ def note_words(network, note):
         return f"{'outbound' if of[1].outward else 'inbound'} row {of[1].number} of {named(of[0].id)} lets it {'out of' if of[1].outward else 'into'} {named(of[2])}"
     if kind == "route":
         return f"{named(of[0].id)} sends it by its route {Teller(network).route_words(of[1])}"
+    if kind == "host":
+        return f"{dotted(of[1])} is {Teller(network).own_words(*of)}"
     if kind == "transit":
         return f"its table {named(of[0])} sends it by its route {of[1].block} to {named(of[1].attachment)}"
-    return {"inside": "it stays in the subnet", "host": "is an address of", "appliance": "its appliance forwards", "public": "becomes the public address", "owner": "is a public address of",
+    return {"inside": "it stays in the subnet", "appliance": "its appliance forwards", "public": "becomes the public address", "owner": "is a public address of",
             "private": "becomes the private address", "translated": "its source becomes the gateway's", "restored": "it answers what went out here before", "carried": "from a block of", "left": "into"}[kind]
 
 
@@ -708,6 +729,27 @@ def run_examples(results, asked):
         results.add(f"{bundle} {words}", (status, err, [it for it in told if it not in out]), (0, "", []))
 
 
+def run_prefixes(results, asked):
+    """What lets a packet pass to an address of a delegated prefix, and to one that is assigned within it; and the lists of addresses."""
+    bundle = copy.deepcopy(BASE)
+    delegated(bundle, "eni-a", "10.1.1.64/28")
+    delegated(bundle, "eni-b", "10.2.1.0/28")
+    named(bundle, "sg-b", False, "sg-a")
+    naming(bundle, "enable", "enable", "enable")
+    for src, dst, told in (("10.1.1.65", "10.2.1.1", ["10.2.1.1 is in the prefix 10.2.1.0/28 of eni-b", "from sg-a; 10.1.1.65 is in the prefix 10.1.1.64/28 of eni-a (web one)", "It arrives at eni-b"]),
+                           ("10.1.1.10", "10.2.1.10", ["10.2.1.10 is an address of eni-b", "from sg-a; 10.1.1.10 is that of eni-a (web one)", "It arrives at eni-b"])):
+        text = asked.answer(bundle, "trace", f"open from eni-a tcp {src} {dst} 5000 443")
+        status, out, err = explain(text, asked.path)
+        results.add(f"prefixes: from {src} to {dst}", (status, err, [it for it in told if it not in out]), (0, "", []))
+    own = [{"PrivateIpAddress": f"10.1.1.{k}"} for k in (10, 11)]
+    for members, told in (({"PrivateIpAddresses": own}, "(10.1.1.10 and 10.1.1.11, and the prefix 10.1.1.64/28)"), ({"PrivateIpAddress": None}, "(the prefix 10.1.1.64/28)"),
+                          ({"Ipv4Prefixes": [{"Ipv4Prefix": f"10.1.1.{16 * k}/28"} for k in range(1, 8)]}, "(10.1.1.10 and the prefixes 10.1.1.16/28, 10.1.1.32/28, 10.1.1.48/28, 10.1.1.64/28 and 3 more)")):
+        other = copy.deepcopy(bundle)
+        updated(other, "eni-a", **members)
+        status, out, err = explain(asked.answer(other, "trace", TO_B.format(443).replace("10.1.1.10", "10.1.9.9")), asked.path)
+        results.add(f"prefixes: {told}", (status, err, told in out), (0, "", True))
+
+
 def run_others(results, asked):
     """check and replay, damaged answers, other bundles, and words."""
     small, two = (os.path.join(DATA, it) for it in ("one_subnet.json", "two_subnets_own_acl.json"))
@@ -734,6 +776,7 @@ def run_others(results, asked):
                        ("event 1 arrived eni-b tcp 10.0.1.10 10.0.1.20 5000 443\nevent 2 stopped GroupsOut eni-b -\n", "no outbound rule of sg-b allows the packet")):
         status, out, err = explain(text, small)
         results.add(f"told: {told}", (status, err, told in out), (0, "", True))
+    run_prefixes(results, asked)
     rows = explain(asked.answer(BASE, "ask", "from eni-a to eni-b src 10.1.1.0/28 port 22-22"), asked.path)[1]
     results.add("rows at the ends that were asked about", re.findall(r"^Row .*$|^  tcp .*$", rows, re.M), [
         "Row 2: its requests are stopped by GroupsIn of eni-b.", "  tcp from 10.1.1.10 to 10.2.1.10, port 22",
@@ -790,6 +833,7 @@ def with_instance(bundle):
     """An instance with a name, tags of all kinds of rows, and a group that isn't named over the transit gateway."""
     bundle["Reservations"] = [{"Instances": [{"InstanceId": "i-1", "Tags": [{"Key": "Name", "Value": "one"}], "NetworkInterfaces": [{"NetworkInterfaceId": "eni-b"}]}]}]
     row(bundle, "eni-a")["Attachment"] = {"InstanceId": "i-1", "DeviceIndex": 0}
+    delegated(bundle, "eni-a", "10.1.1.64/28")
     row(bundle, "vpc-a")["CidrBlockAssociationSet"] = [{"CidrBlock": "10.1.0.0/16", "CidrBlockState": {"State": "associated"}}]
     bundle["SecurityGroupRules"] = [{"SecurityGroupRuleId": "sgr-1", "GroupId": "sg-c", "IsEgress": False, "IpProtocol": "-1", "CidrIpv4": ANYWHERE, "Tags": []},
                                     {"SecurityGroupRuleId": "sgr-2", "GroupId": "sg-c", "IsEgress": True, "IpProtocol": "-1", "CidrIpv4": ANYWHERE, "ReferencedGroupInfo": {"GroupId": "sg-a"}}]
@@ -859,7 +903,7 @@ def run_taken(results, asked):
             bundle = copy.deepcopy(clean)
             updated(bundle, name, **{member: [value, *row(bundle, name)[member]] if member == "Associations" else value})
             results.add(f"taken: {member} of {name} is {json.dumps(value)}", misfit(asked, bundle, before), None)
-    for part, key in ((("NetworkInterfaces", 1, "PrivateIpAddresses", 0), "Association"), (("SecurityGroupRules", 1), "ReferencedGroupInfo"), (("Vpcs", 0, "CidrBlockAssociationSet", 0), "CidrBlockState"),
+    for part, key in ((("NetworkInterfaces", 1, "PrivateIpAddresses", 0), "Association"), (("NetworkInterfaces", 0), "Ipv4Prefixes"), (("NetworkInterfaces", 0, "Ipv4Prefixes"), 0), (("SecurityGroupRules", 1), "ReferencedGroupInfo"), (("Vpcs", 0, "CidrBlockAssociationSet", 0), "CidrBlockState"),
                       (("Reservations",), 0), (("Reservations", 0), "Instances"), (("Reservations", 0, "Instances"), 0), (("Reservations", 0, "Instances", 0), "NetworkInterfaces"), (("Reservations", 0, "Instances", 0), "InstanceId"),
                       (("Reservations", 0, "Instances", 0, "NetworkInterfaces"), 0), (("NetworkInterfaces", 0, "TagSet"), 0), (("NetworkInterfaces", 0, "TagSet", 0), "Value"),
                       (("TransitGateways",), 0), (("TransitGateways", 0, "Options"), "SecurityGroupReferencingSupport"), (("SecurityGroupVpcAssociations",), 0), (("SecurityGroupVpcAssociations", 0), "State")):

@@ -170,7 +170,7 @@ class Walker:
         interface = self.network.interfaces[place[1]]
         if self.network.is_idle(interface):
             return None, Stop("Detached", interface.id, "-", {})
-        if interface.checked and h.src not in interface.addresses:
+        if interface.checked and not interface.has(h.src):
             return None, Stop("SourceCheck", interface.id, "-", {"header": h})
         by = self.passes(label, interface, True, h)
         if not by:
@@ -181,13 +181,13 @@ class Walker:
         interface = self.network.interfaces[place[1]]
         if self.network.is_idle(interface):
             return None, Stop("Detached", interface.id, "-", {})
-        if interface.checked and h.dst not in interface.addresses:
+        if interface.checked and not interface.has(h.dst):
             return None, Stop("DestCheck", interface.id, "-", {"header": h})
         by = self.passes(label, interface, False, h)
         if not by:
             return None, Stop("GroupsIn", interface.id, "-", {"header": h, "label": label})
         appliance = self.network.appliances.get(interface.id)
-        if not appliance or h.dst in interface.addresses:
+        if not appliance or interface.has(h.dst):
             return by, interface.id
         if not forwards(appliance, h):
             return by, Stop("ApplianceDrop", interface.id, "-", {"header": h})
@@ -215,7 +215,7 @@ class Walker:
     # -- targets of routes. Facts have the subnet that sends, and its VPC.
 
     def to_local(self, facts: Row, route: Route, h: Header, notes: list[Note]) -> Then:
-        host = self.network.host_at.get((facts["vpc"], h.dst))
+        host = self.network.host_of(facts["vpc"], h.dst)
         if not host:
             return Stop("NoHost", facts["vpc"], "-", facts)
         notes.append(("host", host, h.dst))
@@ -270,15 +270,15 @@ class Walker:
     # -- gateways and other VPCs
 
     def at_enter(self, label: str, place: Place, h: Header, notes: list[Note]) -> Step:
-        host = self.network.host_at.get((place[1], h.dst))
+        host = self.network.host_of(place[1], h.dst)
         if not host:
             return None, Stop("NoHost", place[1], "-", {"header": h})
         notes.append(("host", host, h.dst))
         return None, self.judge(host.subnet, False, h, notes) or self.deliver(host, h)
 
     def at_igw_out(self, label: str, place: Place, h: Header, notes: list[Note]) -> Step:
-        host = self.network.host_at.get((place[1], h.src))
-        public = host.addresses[h.src] if host else None
+        host = self.network.host_of(place[1], h.src)
+        public = host.addresses.get(h.src) if host else None
         if public is None:
             facts = {"header": h, "vpc": place[1], "host": host}
             return None, Stop("NoPublic", self.network.igw_of[place[1]], "-", facts)

@@ -1,8 +1,8 @@
 """Small networks, made at random: bundles of every kind of row, changed copies of them, and the ends and addresses that occur in them.
 
-Some have modes of Block Public Access, some instances that don't run, and some groups that are named over transit gateways or belong to
-several VPCs. NETWORKS_MORE in the environment names kinds of rows that all have besides, with commas between: access, instances,
-references, prefixes."""
+Some have modes of Block Public Access, some instances that don't run, some delegated prefixes, and some groups that are named over transit
+gateways or belong to several VPCs. NETWORKS_MORE in the environment names kinds of rows that all have besides, with commas between: access,
+instances, prefixes, references."""
 
 import ipaddress
 import json
@@ -168,11 +168,13 @@ def add_instances(rng, whole):
 
 
 def add_prefixes(rng, whole):
-    """Delegated blocks, which no other address or block of the VPC meets."""
+    """Delegated prefixes, which no other address or prefix of the VPC meets."""
     for it in whole["NetworkInterfaces"]:
         if "InterfaceType" not in it and rng.random() < 0.3:
             _, v, s, k = it["NetworkInterfaceId"].split("-")
             it["Ipv4Prefixes"] = [{"Ipv4Prefix": f"10.{v}.{s}.{first + 16 * int(k)}/28"} for first in rng.choice(((16,), (144,), (16, 144)))]
+            # (one may hold an address of the interface)
+            it["Ipv4Prefixes"] += [{"Ipv4Prefix": f"{it['PrivateIpAddress']}/32"}] * (rng.random() < 0.2)
 
 
 def open_transit(whole):
@@ -247,7 +249,7 @@ def network(rng):
         whole["Appliances"].append({"NetworkInterfaceId": "eni-0-0-0", **kind})
         whole["NetworkInterfaces"][0]["SourceDestCheck"] = False
     wanted = [*filter(None, os.environ.get("NETWORKS_MORE", "").split(","))]
-    for name, chance in (("access", 0.3), ("instances", 0.2), ("references", 0.3)):
+    for name, chance in (("access", 0.3), ("instances", 0.2), ("references", 0.3), ("prefixes", 0.3)):
         if rng.random() < chance and name not in wanted:
             wanted.insert(0, name)
     for name in wanted:
@@ -281,6 +283,11 @@ class Change:
 
     def some(self, rows):
         return self.rng.choice(rows) if rows else None
+
+    def is_free(self, own, host=None):
+        """Whether nobody has an address, but for a host whose prefix holds it."""
+        prefixes = [ipaddress.ip_network(it["Ipv4Prefix"]) for row in self.whole["NetworkInterfaces"] if row is not host for it in row.get("Ipv4Prefixes", [])]
+        return f'"{own}"' not in json.dumps(self.whole) and not any(ipaddress.ip_address(own) in it for it in prefixes)
 
     def exchange(self, one, other):
         """Two ids in each other's places, in the whole bundle."""
@@ -359,18 +366,23 @@ class Change:
             it["Groups"] = [{"GroupId": name} for name in self.rng.sample(own, self.rng.choice((0, 1, 1, min(2, len(own)))))]
 
     def addresses(self):
-        """An interface with another primary address, or with other ones beside it."""
+        """An interface with another primary address, or with other ones and prefixes beside it."""
         it = self.some(self.hosts)
-        first, how = it["PrivateIpAddresses"][0], self.rng.choice(("moved", "fewer", "more", "public"))
+        first, how = it["PrivateIpAddresses"][0], self.rng.choice(("moved", "fewer", "more", "public", "prefixes"))
         if how == "moved":
             own = re.sub(r"\d+$", str(self.rng.randrange(20, 100)), it["PrivateIpAddress"])
-            if own not in json.dumps(self.whole):
+            if self.is_free(own, it):
                 it["PrivateIpAddress"] = first["PrivateIpAddress"] = own
         elif how == "fewer":
             it["PrivateIpAddresses"] = [first]
         elif how == "more":
             own = re.sub(r"\d+$", str(self.rng.randrange(150, 160)), it["PrivateIpAddress"])
-            it["PrivateIpAddresses"] += [{"PrivateIpAddress": own}] if own not in json.dumps(self.whole) else []
+            it["PrivateIpAddresses"] += [{"PrivateIpAddress": own}] if self.is_free(own, it) else []
+        elif how == "prefixes" and it.get("Ipv4Prefixes") and self.rng.random() < 0.6:
+            it["Ipv4Prefixes"].pop()
+        elif how == "prefixes":
+            own = re.sub(r"\d+$", str(self.rng.choice((224, 240))), it["PrivateIpAddress"])
+            it["Ipv4Prefixes"] = it.get("Ipv4Prefixes", []) + [{"Ipv4Prefix": f"{own}/28"}] * self.is_free(own)
         elif first.pop("Association", None) is None:
             public = f"203.0.113.{self.rng.randrange(100, 200)}"
             first.update({"Association": {"PublicIp": public}} if public not in json.dumps(self.whole) else {})
@@ -386,10 +398,10 @@ class Change:
 
     def more_hosts(self):
         it = json.loads(json.dumps(self.some(self.hosts)))
-        # (whose blocks stay its own)
+        # (whose prefixes stay its own)
         it.pop("Ipv4Prefixes", None)
         own = re.sub(r"\d+$", str(self.rng.randrange(210, 220)), it["PrivateIpAddress"])
-        if own not in json.dumps(self.whole):
+        if self.is_free(own):
             self.whole["NetworkInterfaces"].append({**it, "NetworkInterfaceId": self.new_id(), "PrivateIpAddress": own, "PrivateIpAddresses": [{"PrivateIpAddress": own}], "SourceDestCheck": True})
 
     def anew(self):
@@ -464,6 +476,7 @@ class Change:
         if it and named.split("-")[1] == home["GroupId"].split("-")[1] and home["GroupId"] not in [row["GroupId"] for row in self.whole.get("SecurityGroupVpcAssociations", [])]:
             theirs = [row for row in self.whole["NetworkInterfaces"] if {"GroupId": named} in row["Groups"]]
             it["IpRanges"] = it["IpRanges"] + [{"CidrIp": f"{told['PrivateIpAddress']}/32"} for row in theirs for told in row["PrivateIpAddresses"]]
+            it["IpRanges"] += [{"CidrIp": told["Ipv4Prefix"]} for row in theirs for told in row.get("Ipv4Prefixes", [])]
 
     def renumbered(self):
         """The rows of an ACL keep their order, and the stops at them get other numbers."""
@@ -493,7 +506,7 @@ class Ends:
         self.ids = sorted(set(re.findall(rb'"NetworkInterfaceId": ?"([!-~]{1,256}?)"', text))) or [b"eni-a"]
         self.hosts = [name for name in self.ids if b"nat" not in name] or self.ids
         self.own = dict(re.findall(rb'"NetworkInterfaceId": ?"([^"]+)"[^{}]*?"PrivateIpAddress": ?"([0-9.]+)"', text))
-        self.addresses = sorted(set(re.findall(rb'Ip(?:Address)?": ?"([0-9.]+)"', text))) or [b"10.0.0.4"]
+        self.addresses = sorted(set(re.findall(rb'(?:Ip(?:Address)?|Ipv4Prefix)": ?"([0-9.]+)["/]', text))) or [b"10.0.0.4"]
         self.blocks = sorted(set(re.findall(rb'"([0-9.]+/[0-9]+)"', text))) or [b"0.0.0.0/0"]
 
     def end(self, rng):

@@ -601,7 +601,7 @@ def held_in(chip, box):
 
 def wrong_of(told, by, names):
     """What ways of TCP tell that isn't so of the rows: a row in none or in two, or of a port another number of pairs."""
-    pairs = picture_ways.Pairs(told)
+    pairs = picture_ways.Pairs(told, names)
     folded = picture_ways.Folded(pairs, names, by)
     rows, wrong = {}, []
     for it in told.rows:
@@ -753,6 +753,7 @@ def run_told(results, folder):
     told = " ".join(words_of(svg))
     results.add("what closes and isn't known", ([it for it in chips_in(svg, "grey-tint")], "now reply Unmodelled vpce-1 not known" in told, "before request Unmodelled vpce-2 not known" in told), (["tcp 443 \u00b7 sport 0-32767"], True, True))
     run_names(results, folder)
+    run_prefixes(results, folder)
     run_parts(results)
     run_title(results, folder)
 
@@ -787,6 +788,35 @@ def run_names(results, folder):
     svg = check_picture(results, "mixed hosts", reach_of(rows), "--names", path, names=json.dumps(bundle))
     runs = [it.text for it in svg.iter(SVG + "tspan")]
     results.add("mixed hosts", ("app-a, cache-a and 3 more" in runs, "5 interfaces" in runs, "Primary" in " ".join(words_of(svg))), (True, True, False))
+
+
+def run_prefixes(results, folder):
+    """Prefixes that a bundle tells are addresses of their interfaces, which are alike with others; of one end they are told with its address."""
+    path, bundle = os.path.join(folder, "nodes.json"), named_bundle(["", "", ""])
+    for k, it in enumerate(bundle["NetworkInterfaces"]):
+        it["Ipv4Prefixes"] = [{"Ipv4Prefix": f"10.0.1.{64 + 32 * k}/28"}, {"Ipv4Prefix": f"10.0.1.{80 + 32 * k}/28"}, {"Ipv4Prefix": "x"}, {"Ipv4Prefix": 7}]
+    with open(path, "w", encoding="utf-8") as file:
+        json.dump(bundle, file)
+    ids = [it["NetworkInterfaceId"] for it in bundle["NetworkInterfaces"]]
+
+    def ways(rows, *words):
+        names = {"names": json.dumps(bundle)} if words else {}
+        svg = check_picture(results, f"prefixes, {len(rows)} rows", reach_of(rows), *words, **names)
+        return chips_in(svg), [it.text for it in svg.iter(SVG + "text") if it.text and it.text.startswith(("src 10", "dst 10"))]
+
+    def to(k, first, last):
+        return row_text("eni-z", ids[k], "6-6", OWN, f"10.0.1.{first}-10.0.1.{last}", "443-443")
+
+    single = [to(0, 10, 10), to(0, 64, 95)]
+    told = ["src 10.0.1.10 dst 10.0.1.10 dst 10.0.1.64/27"]
+    results.add("the prefixes of one end", ways(single, "--names", path), (["tcp 443"], told))
+    results.add("that no bundle tells", ways(single), (["tcp 443"], told))
+    all_of = [to(k, *it) for k in range(3) for it in ((10 + k, 10 + k), (64 + 32 * k, 79 + 32 * k), (80 + 32 * k, 95 + 32 * k))]
+    results.add("the prefixes of three that are alike", ways(all_of, "--names", path), (["tcp 443"], []))
+    results.add("of which no bundle tells", ways(all_of)[0], ["tcp 443"] * 3)
+    part = [to(k, 64 + 32 * k, 66 + 32 * k) for k in range(2)]
+    results.add("a part of a prefix", ways(part, "--names", path)[0], ["tcp 443 \u00b7 dst 10.0.1.64-10.0.1.66", "tcp 443 \u00b7 dst 10.0.1.96-10.0.1.98"])
+    results.add("another's prefix", ways([to(0, 96, 111)], "--names", path)[0], ["tcp 443 \u00b7 dst 10.0.1.96/28"])
 
 
 def run_parts(results):

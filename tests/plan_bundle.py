@@ -708,6 +708,61 @@ HOST_ROWS = [
      {**of_hosts(host_rows(A_HOST, "subnet-web", "us-east-1a", ["10.1.1.30"], [{"GroupId": "sg-default", "GroupName": "default"}], SourceDestCheck=False)), "RouteTables rtb-main Routes": [*HOSTS["RouteTables"][0]["Routes"], to("10.7.0.0/16", NetworkInterfaceId=f"{A_HOST}.primary_network_interface_id")]}, []),
 ]
 
+# BASE with delegated prefixes of two interfaces.
+NODES = copy.deepcopy(BASE)
+
+
+def prefixed(*prefixes):
+    return [{"Ipv4Prefix": it} for it in prefixes]
+
+
+for name_, prefixes_ in (("eni-web", ["10.1.1.16/28"]), ("eni-db", ["10.1.2.0/29", "10.1.2.64/28"])):
+    row_of(NODES, "NetworkInterfaces", name_)["Ipv4Prefixes"] = prefixed(*prefixes_)
+
+
+def with_prefixes(*prefixes, name="web", **more):
+    """eni-web, or another interface, as a plan has it."""
+    return eni(f"subnet-{name}", None, [f"sg-{name}"], id=f"eni-{name}", **({"ipv4_prefixes": list(prefixes)} if None not in prefixes else {}), **more)
+
+
+NODE, NODE_ENI = "aws_network_interface.web", {**NEW_ENI, "ipv4_prefixes": True, "ipv4_prefix_count": True}
+ATTACHED = {"attachment": [{"instance": "i-1", "device_index": 1}]}
+# As ROWS, over NODES.
+NODE_ROWS = [
+    ("an interface's new prefix", plan([change(NODE, "update", with_prefixes("10.1.1.16/28", ipv4_prefix_count=1), with_prefixes("10.1.1.16/28", "10.1.1.33/28", ipv4_prefix_count=1))]), [],
+     {"NetworkInterfaces eni-web Ipv4Prefixes": prefixed("10.1.1.16/28", "10.1.1.32/28")}, [("open from eni-web tcp 10.1.1.47 10.1.2.10 5000 5432", "arrived eni-db"), ("open from eni-web tcp 10.1.1.48 10.1.2.10 5000 5432", "stopped SourceCheck eni-web -")]),
+    ("one in the place of another, beside one that Terraform doesn't have", plan([change(NODE, "update", with_prefixes("10.1.2.0/29", name="db"), with_prefixes("10.1.2.80/28", name="db"))]), [],
+     {"NetworkInterfaces eni-db Ipv4Prefixes": prefixed("10.1.2.64/28", "10.1.2.80/28")}, [("open from eni-web tcp 10.1.1.31 10.1.2.95 5000 5432", "arrived eni-db"), ("open from eni-web tcp 10.1.1.31 10.1.2.7 5000 5432", "stopped NoHost vpc-1 -")]),
+    ("its prefixes go, whose count isn't known", plan([change(NODE, "update", with_prefixes("10.1.1.16/28", ipv4_prefix_count=1), with_prefixes(), {"ipv4_prefix_count": True})]), [],
+     {"NetworkInterfaces eni-web Ipv4Prefixes": []}, [("open from eni-web tcp 10.1.1.16 10.1.2.10 5000 5432", "stopped SourceCheck eni-web -")]),
+    ("more of them, which aren't known", plan([change(NODE, "update", with_prefixes("10.1.1.16/28", ipv4_prefix_count=1), with_prefixes("10.1.1.16/28", ipv4_prefix_count=2)), change("aws_network_interface.db", "update", with_prefixes("10.1.2.64/28", name="db"), with_prefixes(None, name="db"), {"ipv4_prefixes": True})]),
+     [f"{NODE}: ipv4_prefix_count {LATER}, or can't be changed here", f"aws_network_interface.db: ipv4_prefixes {LATER}, or can't be changed here"], {}, []),
+    ("prefixes that others have, or that are none", plan([*(change(f"{NODE}[{number}]", "update", with_prefixes("10.1.1.16/28"), with_prefixes("10.1.1.16/28", it)) for number, it in enumerate(("10.1.2.64/27", "10.1.2.8/29", "10.1.3.0", "x", "2001:db8::/80"))),
+                                                          change("aws_network_interface.db", "update", with_prefixes("10.1.2.64/28", name="db"), with_prefixes("10.1.2.0/24", name="db", source_dest_check=False))]),
+     [f"{NODE}[0]: 10.1.2.64/27 meets 10.1.2.64/28, a prefix of eni-db", f"{NODE}[1]: 10.1.2.8/29 meets 10.1.2.10, an address of eni-db", f"{NODE}[3]: x is no block", f"{NODE}[4]: 2001:db8::/80 is no block of IPv4"],
+     {"NetworkInterfaces eni-web Ipv4Prefixes": prefixed("10.1.1.16/28", "10.1.3.0/32"), "NetworkInterfaces eni-db Ipv4Prefixes": prefixed("10.1.2.0/29", "10.1.2.0/24"), "NetworkInterfaces eni-db SourceDestCheck": False}, []),
+    ("new interfaces with prefixes", plan([change("aws_network_interface.a", "create", None, eni("subnet-db", ["10.1.2.20"], ["sg-db"], ipv4_prefixes=["10.1.2.32/28", "10.1.2.48/28"], **ATTACHED), NEW_ENI), change("aws_network_interface.b", "create", None, eni("subnet-db", ["10.1.2.21"], ["sg-db"]), NODE_ENI)],
+                                          {"aws_network_interface.b": {"private_ips": {"constant_value": ["10.1.2.21"]}}}), [],
+     {"+NetworkInterfaces": [new_eni("aws_network_interface.a", "subnet-db", "us-east-1b", ["10.1.2.20"], [DB], Ipv4Prefixes=prefixed("10.1.2.32/28", "10.1.2.48/28"), Status="in-use", Attachment={"DeviceIndex": 1, "InstanceId": "i-1", "Status": "attached"}), new_eni("aws_network_interface.b", "subnet-db", "us-east-1b", ["10.1.2.21"], [DB])]},
+     [("open from eni-web tcp 10.1.1.10 10.1.2.63 5000 5432", "arrived aws_network_interface.a")]),
+    ("new ones whose prefixes aren't known", plan([change(f"aws_network_interface.{it}", "create", None, eni("subnet-db", [f"10.1.2.{number}"], ["sg-db"], **more), unknown_)
+                                                   for number, it, more, unknown_ in ((20, "a", {"ipv4_prefix_count": 2}, {**NEW_ENI, "ipv4_prefixes": True}), (21, "b", {}, NODE_ENI), (22, "c", {}, NODE_ENI), (23, "d", {}, NODE_ENI))],
+                                                  {"aws_network_interface.a": {"ipv4_prefix_count": {"constant_value": 2}}, "aws_network_interface.b": {"ipv4_prefixes": refer("var.prefixes")}, "aws_network_interface.d": {"ipv4_prefix_count": refer("var.many")}}),
+     [f"aws_network_interface.{it}: ipv4_prefixes {LATER}" for it in "abcd"], {"+NetworkInterfaces": [new_eni(f"aws_network_interface.{it}", "subnet-db", "us-east-1b", [f"10.1.2.{number}"], [DB]) for number, it in ((20, "a"), (21, "b"), (22, "c"), (23, "d"))]}, []),
+    ("new ones whose addresses or prefixes others have", plan([change("aws_network_interface.a", "create", None, eni("subnet-db", ["10.1.2.70"], ["sg-db"]), NEW_ENI), change("aws_network_interface.b", "create", None, eni("subnet-db", ["10.1.2.20"], ["sg-db"], ipv4_prefixes=["10.1.2.0/27"]), NEW_ENI),
+                                                               change("aws_network_interface.c", "create", None, eni("subnet-db", ["10.1.2.33"], ["sg-db"], ipv4_prefixes=["10.1.2.32/28"]), NEW_ENI), change("aws_network_interface.d", "create", None, eni("subnet-db", ["10.1.2.40"], ["sg-db"]), NEW_ENI)]),
+     ["aws_network_interface.a: 10.1.2.70 lies in 10.1.2.64/28, a prefix of eni-db", "aws_network_interface.b: 10.1.2.0/27 meets 10.1.2.10, an address of eni-db", "aws_network_interface.d: 10.1.2.40 lies in 10.1.2.32/28, a prefix of aws_network_interface.c"],
+     {"+NetworkInterfaces": [new_eni("aws_network_interface.c", "subnet-db", "us-east-1b", ["10.1.2.33"], [DB], Ipv4Prefixes=prefixed("10.1.2.32/28"))]}, []),
+    ("an interface is replaced at its prefix", plan([change("aws_network_interface.db", "delete create", with_prefixes("10.1.2.64/28", name="db"), eni("subnet-db", ["10.1.2.10"], ["sg-db"], ipv4_prefixes=["10.1.2.64/28"], **ATTACHED), NEW_ENI)]), [],
+     {"-NetworkInterfaces": ["eni-db"], "+NetworkInterfaces": [new_eni("aws_network_interface.db", "subnet-db", "us-east-1b", ["10.1.2.10"], [DB], Ipv4Prefixes=prefixed("10.1.2.64/28"), Status="in-use", Attachment={"DeviceIndex": 1, "InstanceId": "i-1", "Status": "attached"})]},
+     [("open from eni-web tcp 10.1.1.10 10.1.2.64 5000 5432", "arrived aws_network_interface.db")]),
+    ("a new instance at an address that no prefix holds", plan([change(A_HOST, "create", None, new_host("subnet-db", vpc_security_group_ids=["sg-db"]), unknown("vpc_security_group_ids")), change("aws_network_interface.web", "update", with_prefixes("10.1.1.16/28"), with_prefixes("10.1.1.16/28", "10.1.2.11/32"))]),
+     [f"{A_HOST}: private_ip {LATER}: 10.1.2.8 is taken for it"], {"+NetworkInterfaces": host_rows(A_HOST, "subnet-db", "us-east-1b", ["10.1.2.8"], [DB])[0], "NetworkInterfaces eni-web Ipv4Prefixes": prefixed("10.1.1.16/28", "10.1.2.11/32")}, []),
+    ("nor one that a change gives", plan([change(A_HOST, "create", None, new_host("subnet-db", vpc_security_group_ids=["sg-db"]), unknown("vpc_security_group_ids")), change("aws_network_interface.web", "update", with_prefixes("10.1.1.16/28"), with_prefixes("10.1.1.16/28", "10.1.2.8/31"))]),
+     [f"{A_HOST}: private_ip {LATER}: 10.1.2.11 is taken for it"], {"+NetworkInterfaces": host_rows(A_HOST, "subnet-db", "us-east-1b", ["10.1.2.11"], [DB])[0], "NetworkInterfaces eni-web Ipv4Prefixes": prefixed("10.1.1.16/28", "10.1.2.8/31")}, []),
+    ("an instance whose addresses a prefix holds", plan([change(A_HOST, "create", None, new_host("subnet-db", private_ip="10.1.2.65"), unknown("private_ip"))]), [f"{A_HOST}: 10.1.2.65 lies in 10.1.2.64/28, a prefix of eni-db"], {}, []),
+]
+
 # Of each of Terraform's plans what is told, of which groups the rules are otherwise than moto has them, and how much is alike at least.
 TERRAFORM = {
     "first": ([f"aws_security_group.web: ingress tcp {it}-{it}: security_groups {LATER}, and may be of aws_security_group.bastion, sg-cbae759a6429ecf8a" for it in (80, 22)], ["sg-fe6343d9545d01576"], 65),
@@ -774,6 +829,9 @@ FAR_ROWS = [
     ("an associated group goes", plan([change("aws_security_group.far", "delete", group("far", "vpc-2", id="sg-far"), None), change("aws_network_interface.far", "delete", {"id": "eni-far"}, None)]), [],
      {"-SecurityGroups": ["sg-far"], "-NetworkInterfaces": ["eni-far"], "-SecurityGroupVpcAssociations": ["sg-far"]}, []),
 ]
+
+# Rows, the bundle that they are over, and how often they are drawn to be damaged.
+BASES = [(ROWS, BASE, 1), (HOST_ROWS, HOSTS, 3), (FAR_ROWS, FAR, 3), (NODE_ROWS, NODES, 3)]
 
 # References through modules, data and variables: what the id of a group in a rule's block is, and what is told.
 THROUGH = [
@@ -1063,8 +1121,8 @@ def run_damage(results, room, cases):
     source = random.Random(7)
     odd = []
     for number in range(cases):
-        row = source.choice(ROWS + HOST_ROWS * 3 + FAR_ROWS * 3)
-        value, bundle = row[1], HOSTS if row in HOST_ROWS else FAR if row in FAR_ROWS else BASE
+        row, bundle = source.choice([(row, base) for rows, base, many in BASES for row in rows * many])
+        value = row[1]
         if source.random() < 0.7:
             value = damaged(value, source)
         else:
@@ -1090,12 +1148,9 @@ def main(words):
     program = os.path.abspath(words[0]) if words else None
     results = Results()
     with tempfile.TemporaryDirectory() as room:
-        for row in ROWS:
-            run_row(results, row, room, program, BASE)
-        for row in HOST_ROWS:
-            run_row(results, row, room, program, HOSTS)
-        for row in FAR_ROWS:
-            run_row(results, row, room, program, FAR)
+        for rows, base, _ in BASES:
+            for row in rows:
+                run_row(results, row, room, program, base)
         for row in THROUGH:
             run_through(results, row, room)
         run_files(results, room)

@@ -69,13 +69,21 @@ class Network:
         self.hosts = {row["NetworkInterfaceId"]: row for row in rows if row.get("InterfaceType") != "nat_gateway"}
         self.primary = {name: number(row["PrivateIpAddress"]) for name, row in self.hosts.items()}
         self.ends = ["internet", *sorted(self.hosts, key=str.encode)]
-        self.addresses = sorted({number(a.decode()) for a in re.findall(rb'Ip(?:Address)?": ?"([0-9.]+)"', text)})
+        self.addresses = sorted({number(a.decode()) for a in re.findall(rb'(?:Ip(?:Address)?|Ipv4Prefix)": ?"([0-9.]+)["/]', text)})
 
     def own(self, name):
-        told = set()
+        """The addresses that no prefix of the interface holds, and the runs of its prefixes."""
+        told, runs = set(), []
         for row in self.hosts[name]["PrivateIpAddresses"]:
             told |= {number(a) for a in (row["PrivateIpAddress"], row.get("Association", {}).get("PublicIp")) if a}
-        return sorted(told)
+        for row in sorted(self.hosts[name].get("Ipv4Prefixes", []), key=lambda it: number(it["Ipv4Prefix"].split("/")[0])):
+            first, length = row["Ipv4Prefix"].split("/")
+            low, high = number(first), number(first) + 2 ** (32 - int(length)) - 1
+            if runs and low <= runs[-1][1] + 1:
+                low, last = runs.pop()
+                high = max(high, last)
+            runs.append((low, high))
+        return sorted(runs + [(it, it) for it in told if not any(a <= it <= b for a, b in runs)])
 
 
 class Query:
@@ -136,7 +144,7 @@ class Query:
     def targets(self):
         if self.dst or self.goal in (None, "internet"):
             return [self.dst or ALL]
-        return [(a, a) for a in self.network.own(self.goal)]
+        return self.network.own(self.goal)
 
     def asks_for(self, row):
         """Whether the row lies in one of the boxes that are asked for."""

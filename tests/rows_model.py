@@ -331,6 +331,8 @@ class Judge:
             if self.next and self.next[0] == name:
                 if self.question.is_told(start, self.next[1])[0] is None or any(row.holds(self.next[1]) for row in rows):
                     self.note("of the next header nothing is to be told, or it is in a row")
+                if not any(Row("", "", it).holds(self.next[1]) for it in self.question.boxes(start)):
+                    self.note("the next header is not asked for")
                 return
 
     def every(self, box):
@@ -435,7 +437,8 @@ class Telling:
 def drawn_words(rng, about, narrow=1):
     """Words about networks; seldom some that are refused."""
     interfaces = {name: row for network in about for name, row in network.interfaces.items()}
-    addresses = [it for network in about for row in network.interfaces.values() for pair in row.addresses for it in pair if it is not None] or [0]
+    rows = [row for network in about for row in network.interfaces.values()]
+    addresses = [it for row in rows for pair in row.addresses for it in pair if it is not None] + [it.last for row in rows for it in row.blocks] or [0]
     words = []
     for name, chance in (("from", 0.6), ("to", 0.4)):
         if rng.random() < chance * narrow:

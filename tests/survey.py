@@ -88,7 +88,6 @@ UNTOLD = "not told: whether %s may name sg-a over tgw-1: what it alone allows st
 NO_TABLE = "which the bundle doesn't have: packets stop there as TgwNoTable"
 EMPTY = "no interfaces: there is no end but the internet to ask about; another region or account may be meant"
 IGW_B = '{"InternetGatewayId": "igw-b", "Attachments": [{"State": "%s", "VpcId": "vpc-b"}]}'
-LACKS = "its addresses that PrivateIpAddresses lacks stop as NoHost, and as sources as SourceCheck"
 
 # Name, what is put in by its place or list, the lines, the packet, the last line of its trace.
 ROWS = [
@@ -155,8 +154,10 @@ ROWS = [
      [f"IPv6 blocks of pl-1, 2001:db8::/56: {IPV4}", f"IPv6 blocks of pl-2, 2001:db9::/56: {IPV4}"], TO_B, "stopped GroupsIn eni-b -"),
 
     # interfaces
-    ("a delegated prefix, as a destination", {"eni": '{"Ipv4Prefixes": [{"Ipv4Prefix": "10.1.1.16/28"}]}'}, [f"prefix 10.1.1.16/28 of eni-a: {LACKS}"], "open from eni-a tcp 10.1.1.10 10.1.1.17 1 2", "stopped NoHost vpc-a -"),
-    ("a delegated prefix, as a source", {"eni": '{"Ipv4Prefixes": [{"Ipv4Prefix": "10.1.1.16/28"}]}'}, [f"prefix 10.1.1.16/28 of eni-a: {LACKS}"], "open from eni-a tcp 10.1.1.17 10.2.1.10 1 2", "stopped SourceCheck eni-a -"),
+    ("a delegated prefix, as a destination", {"eni": '{"Ipv4Prefixes": [{"Ipv4Prefix": "10.1.1.16/28"}]}'}, [], "open from eni-a tcp 10.1.1.10 10.1.1.17 1 2", "arrived eni-a"),
+    ("as a source", {"eni": '{"Ipv4Prefixes": [{"Ipv4Prefix": "10.1.1.16/28"}]}'}, [], "open from eni-a tcp 10.1.1.17 10.2.1.10 1 2", "stopped GroupsIn eni-b -"),
+    ("as a source that isn't public", {"eni": '{"Ipv4Prefixes": [{"Ipv4Prefix": "10.1.1.16/28"}], "PrivateIpAddresses": [{"PrivateIpAddress": "10.1.1.10", "Association": {"PublicIp": "203.0.113.10"}}]}'},
+     [], "open from eni-a tcp 10.1.1.17 198.51.100.7 1 2", "stopped NoPublic igw-a -"),
     ("a public address in both places", {"eni": '{"Association": {"PublicIp": "203.0.113.10"}, "PrivateIpAddresses": [{"PrivateIpAddress": "10.1.1.10", "Association": {"PublicIp": "203.0.113.10"}}]}'},
      [], OUT, "arrived internet"),
     ("in the own association alone", {"eni": '{"Association": {"PublicIp": "203.0.113.10"}}'}, [f"public address 203.0.113.10 of eni-a, which its own Association alone has: {HIDDEN}"], OUT, "stopped NoPublic igw-a -"),

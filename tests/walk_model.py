@@ -35,7 +35,8 @@ class Packets:
 
     def address(self, end):
         if end is not model.INTERNET and self.rng.random() < 0.75:
-            told = [it for pair in self.network.interfaces[end].addresses for it in pair if it is not None]
+            row = self.network.interfaces[end]
+            told = [it for pair in row.addresses for it in pair if it is not None] + [it for told in row.blocks for it in (told.first, told.last)]
             if told:
                 return self.rng.choice(told)
         return self.near(1, self.rng.choice(self.own))
