@@ -1,17 +1,22 @@
 -- What internet gateways do with packets of a VPC whose subnets all have one mode.
-use Rattle.std.proofs.Common.{Bool, None, Option, Some, ap, cond, false, find, is_none, is_some, option_and_then, option_map, refl, subst, sym, true, ℕ, ◌==◌, ◌||◌, ◌∙◌, ◌≡◌, ◌⊎◌, inl, inr}
+use Rattle.std.proofs.Common.{Bool, None, Option, Some, ap, cond, false, find, is_none, is_some, option_and_then, option_map, refl, slice_index_or, subst, sym, true, ℕ, ◌==◌, ◌||◌, ◌∙◌, ◌≡◌, ◌⊎◌, inl, inr}
 use Rattle.std.proofs.lemmas.Bool.{true≢false}
-use Rattle.vpc_base.proofs.Lemmas.{eq-eqb, eqb-true, find-member}
+use Rattle.vpc_base.proofs.Lemmas.{cond_both, eq-eqb, eqb-true, find-member}
 use Rattle.vpc_base.proofs.Members.{find-None}
-use Rattle.vpc_laws.specs.Types.{Access, Description, EniNo, Header, Label, NatNo, Place, Stop, VpcNo}
+use Rattle.vpc_laws.specs.Types.{Access, Description, EniNo, FirewallNo, Header, Label, NatNo, Place, Stop, TableNo, Target, VpcNo}
 use Rattle.vpc_model.specs.Accepted.{IsAccepted}
-use Rattle.vpc_model.specs.Terms.{Appliances, Moment, Next, access_of, attached_gateway, blocked, blocked_at, deliver, deliver_by, enter_host, entering, gateway_of, go, go_private, go_public, host_of, interface_at, is_in_vpc, is_unroutable, nat_of, owner_of, pairs_in, plain, private_of, step_at, stop, stops_at, subnet_of, to_owner, unless_stopped}
+use Rattle.vpc_model.specs.Firewalls.{entrance_table, firewall_of}
+use Rattle.vpc_model.specs.Step.Enter.{enter_by_route, enter_by_table, enter_firewall, enter_interface, enter_target}
+use Rattle.vpc_model.specs.Step.Inspect.{firewall_subnet}
+use Rattle.vpc_model.specs.Terms.{Appliances, Moment, Next, access_of, attached_gateway, blocked, blocked_at, chosen_route, deliver, deliver_by, eni_no, enter_host, entering, gateway_of, go, go_private, go_public, host_of, interface_at, is_gateway, is_in_vpc, is_unroutable, nat_of, no_route, owner_of, pairs_in, plain, private_of, step_at, stop, stops_at, subnet_of, table_at, to_owner, unless_stopped}
 use Rattle.vpc_model.specs.declared.places.EnterBy.TheVariants as through
 use Rattle.vpc_model.specs.declared.places.Place.TheVariants as places
 use Rattle.vpc_model.specs.declared.rows.Access.TheVariants as modes
+use Rattle.vpc_model.specs.declared.rows.Target.TheVariants as targets
+use Rattle.vpc_model.specs.declared.stops.Foreign.TheVariants as foreign
 use Rattle.vpc_model.specs.declared.stops.Stop.TheVariants as stops
 use Rattle.access_laws.proofs.Owning.{IsHost, host-of_pair, owner-pair, pairs_in-member}
-use Rattle.access_laws.specs.Shut.{Ends, HaveMode, IsSent}
+use Rattle.access_laws.specs.Shut.{Ends, HaveMode, IsDiverted, IsSent, is_middlebox}
 
 -- ---- what blocks an interface
 
@@ -116,22 +121,76 @@ passes d v h k own host have e =
         destination (go p l) = l.dst
         destination _ = own
 
-pub handed-over : (d : Description) (v : VpcNo) (h k : Header) → HaveMode d v modes.BlockIngress → IsOwned d v h.dst
+-- an open that came in by the gateway is stopped, handed over, or sent through a middlebox
+abbrev pub IsHandled : Description → VpcNo → Header → Next → Type 0
+IsHandled d v h x = Ends x ⊎ (((n : NatNo) × IsHandedOver n h x) ⊎ IsDiverted d v h x)
+
+-- to whom the destination belongs
+to-host : (d : Description) (v : VpcNo) (h k : Header) → HaveMode d v modes.BlockIngress → IsOwned d v h.dst
     → go_private d v h (private_of d v h.dst) ≡ go (places.Enter v through.Gateway) k
-    → Ends (enter_host d v k (host_of d v k.dst)) ⊎ ((n : NatNo) × IsHandedOver n k (enter_host d v k (host_of d v k.dst)))
-handed-over d v h k have owned e =
+    → IsHandled d v k (enter_host d v k (host_of d v k.dst))
+to-host d v h k have owned e =
     let own = owned.own in
     let host = owned.host in
     let i = host.host in
     let passed = passes d v h k own host have (sym (ap (go_private d v h) owned.is) ∙ e) in
     let there : host_of d v k.dst ≡ Some i = ap (host_of d v) passed.2 ∙ host.found in
-    subst (λ (o : Option EniNo). Ends (enter_host d v k o) ⊎ ((n : NatNo) × IsHandedOver n k (enter_host d v k o))) (sym there)
-    (by (entering d (subnet_of d i) k) passed.0 passed.1)
+    subst (λ (o : Option EniNo). IsHandled d v k (enter_host d v k o)) (sym there) (by (entering d (subnet_of d i) k) passed.0 passed.1)
   where
-    by : (s : Option Stop) (n : NatNo) → nat_of d owned.host.host ≡ Some n
-        → Ends (unless_stopped s (deliver d owned.host.host k)) ⊎ ((n : NatNo) × IsHandedOver n k (unless_stopped s (deliver d owned.host.host k)))
+    by : (s : Option Stop) (n : NatNo) → nat_of d owned.host.host ≡ Some n → IsHandled d v k (unless_stopped s (deliver d owned.host.host k))
     by (Some s) n is = inl (record { by = s; stops_there = refl })
-    by None n is = inr (n, ap (deliver_by d owned.host.host k) is)
+    by None n is = inr (inl (n, ap (deliver_by d owned.host.host k) is))
+
+module _ (d : Description) (v : VpcNo) (h : Header) where
+  abbrev Handled : Next → Type 0
+  Handled x = IsHandled d v h x
+
+  stopped : (s : Stop) → Handled (stop s)
+  stopped s = inl (record { by = s; stops_there = refl })
+
+  unless-handled : (s : Option Stop) (x : Next) → Handled x → Handled (unless_stopped s x)
+  unless-handled None x handled = handled
+  unless-handled (Some s) x handled = stopped s
+
+  module _ (t : TableNo) (of_gateway : entrance_table d v through.Gateway ≡ Some t) (local : Handled (enter_host d v h (host_of d v h.dst))) where
+    diverted : (box : Place) → is_middlebox box ≡ true → Handled (go box h)
+    diverted box is = inr (inr (record { table = t; box = box; of_gateway = of_gateway; is_box = is; sends = refl }))
+
+    to-interface : (j : EniNo) → Handled (enter_interface d h j)
+    to-interface j =
+        let e = interface_at d j in
+        let next = cond (is_gateway e.kind) (stop (stops.NotAHost j)) (go (places.Into j) h) in
+        unless-handled (entering d (subnet_of d j) h) next
+        (cond_both (is_gateway e.kind) (stop (stops.NotAHost j)) (go (places.Into j) h) Handled (λ _. stopped (stops.NotAHost j)) (λ _. diverted (places.Into j) refl))
+
+    to-firewall : (k : ℕ) (e : Option FirewallNo) → Handled (enter_firewall d h t k e)
+    to-firewall k None = stopped (stops.Unmodelled (foreign.Target t k))
+    to-firewall k (Some e) = unless-handled (entering d (firewall_subnet d e) h) (go (places.Inspect e) h) (diverted (places.Inspect e) refl)
+
+    by-target : (k : ℕ) (target : Target) → Handled (enter_target d v h t k target)
+    by-target k targets.Local = local
+    by-target k (targets.Interface id) = to-interface (eni_no d id)
+    by-target k (targets.Other id) = to-firewall k (firewall_of d v id)
+    by-target k (targets.Internet id) = stopped (stops.Unmodelled (foreign.Target t k))
+    by-target k (targets.Nat id) = stopped (stops.Unmodelled (foreign.Target t k))
+    by-target k (targets.Transit id) = stopped (stops.Unmodelled (foreign.Target t k))
+    by-target k (targets.Peer id) = stopped (stops.Unmodelled (foreign.Target t k))
+
+    by-route : (k : Option ℕ) → Handled (enter_by_route d v h t k)
+    by-route None = stopped (stops.NoRoute t)
+    by-route (Some k) =
+        let table = table_at d t in
+        let r = slice_index_or table.routes k no_route in
+        cond_both r.blackhole (stop (stops.Blackhole t k)) (enter_target d v h t k r.target) Handled (λ _. stopped (stops.Blackhole t k)) (λ _. by-target k r.target)
+
+  by-table : (t : Option TableNo) → entrance_table d v through.Gateway ≡ t → Handled (enter_host d v h (host_of d v h.dst)) → Handled (enter_by_table d v h t)
+  by-table None of_gateway local = local
+  by-table (Some t) of_gateway local = let table = table_at d t in by-route t of_gateway local (chosen_route d table.routes h.dst)
+
+pub handed-over : (d : Description) (v : VpcNo) (h k : Header) → HaveMode d v modes.BlockIngress → IsOwned d v h.dst
+    → go_private d v h (private_of d v h.dst) ≡ go (places.Enter v through.Gateway) k
+    → IsHandled d v k (enter_by_table d v k (entrance_table d v through.Gateway))
+handed-over d v h k have owned e = by-table d v k (entrance_table d v through.Gateway) refl (to-host d v h k have owned e)
 
 -- ---- what the internet sends
 

@@ -1,8 +1,9 @@
 -- VPCs whose subnets all have one mode of Block Public Access (VPC User Guide, "Block public access to VPCs and subnets").
-use Rattle.std.specs.Prelude.{◌≡◌, ◌⊎◌, bytes_eq, true}
+use Rattle.std.specs.Prelude.{◌≡◌, ◌⊎◌, Bool, Some, bytes_eq, false, true}
 use Rattle.vpc_base.specs.declared.headers.Label.TheVariants as labels
-use Rattle.vpc_laws.specs.Types.{Access, Description, Label, NatNo, Stop, SubnetNo, VpcNo}
+use Rattle.vpc_laws.specs.Types.{Access, Description, Header, Label, NatNo, Place, Stop, SubnetNo, TableNo, VpcNo}
 use Rattle.vpc_model.specs.Accepted.{IsAccepted}
+use Rattle.vpc_model.specs.Firewalls.{entrance_table}
 use Rattle.vpc_model.specs.Terms.{Appliances, Moment, Next, access_of, go, step_of, stop, subnet_at, vpc_at}
 use Rattle.vpc_model.specs.declared.places.EnterBy.TheVariants as through
 use Rattle.vpc_model.specs.declared.places.Place.TheVariants as places
@@ -23,6 +24,20 @@ pub record IsSent (d : Description) (appliances : Appliances) (label : Label) (v
   pub next : (step_of d appliances label sent).next ≡ go (places.IgwIn v) came.header
   pub to : came.place ≡ places.IgwIn v
 
+-- an interface or a firewall endpoint
+abbrev pub is_middlebox : Place → Bool
+is_middlebox (places.Into i) = true
+is_middlebox (places.Inspect e) = true
+is_middlebox _ = false
+
+-- the table of the VPC's internet gateway sends the packet through a middlebox (VPC User Guide, "Gateway route tables")
+pub record IsDiverted (d : Description) (v : VpcNo) (h : Header) (x : Next) : Type 0 where
+  pub table : TableNo
+  pub box : Place
+  pub of_gateway : entrance_table d v through.Gateway ≡ Some table
+  pub is_box : is_middlebox box ≡ true
+  pub sends : x ≡ go box h
+
 -- ---- laws
 
 -- where neither direction passes, no packet leaves by the gateway
@@ -37,12 +52,15 @@ NothingEnters =
     (d : Description) (appliances : Appliances) (label : Label) (v : VpcNo) (sent came : Moment) → IsAccepted d → HaveMode d v modes.BlockBidirectional
     → IsSent d appliances label v sent came → Ends (step_of d appliances label came).next
 
--- where packets pass outward alone, an open that comes in is stopped, or handed to a NAT gateway, which stops it
+-- where packets pass outward alone, an open that comes in is stopped, or handed to a NAT gateway, which stops it, unless the table
+-- of the internet gateway sends it through a middlebox
 abbrev pub NatGatewaysGetOpens : Type 0
 NatGatewaysGetOpens =
     (d : Description) (appliances : Appliances) (v : VpcNo) (sent came inside : Moment) → IsAccepted d → HaveMode d v modes.BlockIngress
     → IsSent d appliances labels.Opening v sent came
     → (step_of d appliances labels.Opening came).next ≡ go (places.Enter v through.Gateway) inside.header → inside.place ≡ places.Enter v through.Gateway
     → let next = (step_of d appliances labels.Opening inside).next in
-    Ends next ⊎ ((n : NatNo) × (next ≡ go (places.NatIn n) inside.header)
+    Ends next
+    ⊎ (((n : NatNo) × (next ≡ go (places.NatIn n) inside.header)
     × ((at : Moment) → at.place ≡ places.NatIn n → Ends (step_of d appliances labels.Opening at).next))
+    ⊎ IsDiverted d v inside.header next)

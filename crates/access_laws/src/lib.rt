@@ -14,7 +14,8 @@ pub fn nothing_enters()
     ensures { NothingEnters }
 {}
 
-/// Where packets pass outward alone, opens that the internet sends come to NAT gateways alone, which stop them.
+/// Where packets pass outward alone, opens that the internet sends come to NAT gateways, which stop them, or
+/// to middleboxes, where the internet gateway has a table that sends them there.
 pub fn nat_gateways_get_opens()
     ensures { NatGatewaysGetOpens }
 {}

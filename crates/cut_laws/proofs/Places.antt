@@ -1,19 +1,24 @@
 -- The cuts of addresses, of places and of walks.
-use Rattle.std.proofs.Common.{◌≡◌, ◌∙◌, ◌++◌, ◌∷◌, [], List, None, Option, Some, ap, false, get_or, refl, subst, suc, sym, zero, ℕ}
+use Rattle.std.proofs.Common.{◌≡◌, ◌∙◌, ◌++◌, ◌∷◌, [], List, None, Option, Some, ap, get_or, refl, subst, suc, sym, zero, ℕ}
 use Rattle.std.specs.List.{flat_map}
 use Rattle.std.proofs.lemmas.Grind.{flat_map-append}
 use Rattle.vpc_base.specs.Cuts.{AreAmong, CutLists, joined_cuts, no_cuts}
-use Rattle.vpc_model.specs.Cuts.{address_cuts, all_cuts, asked_at, block_cuts, cuts_at, cuts_at_interface, cuts_at_tgw_table, cuts_of, cuts_of_acl, cuts_of_appliance, cuts_of_blocks, cuts_of_group, cuts_of_group_id, cuts_of_interface, cuts_of_list, cuts_of_table, cuts_of_tgw_table, cuts_of_vpc, fixed_cuts, pair_cuts, unbounded_asked, unbounded_standing}
-use Rattle.vpc_model.specs.Lookup.{addresses_in, both_addresses, group_at, group_of_id, interface_at, no_group, no_table, no_tgw_table, table_at, table_of}
+use Rattle.vpc_model.specs.Cuts.{address_cuts, all_cuts, asked_at, block_cuts, cuts_at, cuts_at_interface, cuts_at_table, cuts_at_tgw_table, cuts_from_far, cuts_of, cuts_of_blocks, cuts_of_group, cuts_of_group_id, cuts_of_interface, cuts_of_list, cuts_of_table, cuts_of_tgw_table, fixed_cuts, pair_cuts, unbounded_asked, unbounded_standing}
+use Rattle.vpc_model.specs.Far.{table_of_attachment_id}
+use Rattle.vpc_model.specs.Firewalls.{entrance_table}
+use Rattle.vpc_model.specs.Lookup.{addresses_in, both_addresses, far_at, group_at, group_of_id, interface_at, no_group, no_table, no_tgw_table, table_at, table_of}
 use Rattle.vpc_model.specs.Near.{cuts_of_hops}
 use Rattle.vpc_model.specs.Transit.{table_of_attachment}
 use Rattle.vpc_model.specs.Verdict.{reply_hops, request_walk}
 use Rattle.vpc_model.specs.declared.numbers.GroupNo.{GroupNo}
+use Rattle.vpc_model.specs.declared.numbers.TableNo.{TableNo}
 use Rattle.vpc_model.specs.declared.numbers.TgwTableNo.{TgwTableNo}
 use Rattle.vpc_model.specs.declared.outcomes.Hop.{Hop}
 use Rattle.vpc_model.specs.declared.places.Place.TheVariants as places
+use Rattle.vpc_model.specs.declared.rows.FarKind.{FarKind}
+use Rattle.vpc_model.specs.declared.rows.FarKind.TheVariants as kinds
 use Rattle.cut_laws.proofs.Among.{among_itself, among_through, both_among, joined_among, left_among, none_among, on_sides_among, right_among, rows_among}
-use Rattle.cut_laws.proofs.Rows.{here, later}
+use Rattle.cut_laws.proofs.Rows.{from_acls, from_vpcs, here, in_interfaces, later}
 use Rattle.cut_laws.specs.Laws.{AddressesAreStanding, NearCutsAreAmongAll, PlacesCutTheDescription}
 use Rattle.cut_laws.specs.Types.{Description, Interface, Place}
 
@@ -45,13 +50,10 @@ interfaces-among (e ∷ es) =
 pub addresses_are_standing : AddressesAreStanding
 addresses_are_standing d =
     let rows = all_cuts cuts_of_interface d.interfaces in
-    let others = joined_cuts (all_cuts cuts_of_acl d.acls) (all_cuts cuts_of_appliance d.appliances) in
-    let vpcs = all_cuts cuts_of_vpc d.vpcs in
     let blocks = cuts_of_blocks (flat_map address_cuts (addresses_in d)) in
     on_sides_among (joined_cuts fixed_cuts blocks) (unbounded_standing d)
-    (both_among fixed_cuts blocks (unbounded_standing d) (left_among fixed_cuts (joined_cuts vpcs (joined_cuts rows others)))
-    (among_through blocks rows (unbounded_standing d) (interfaces-among d.interfaces)
-    (later rows fixed_cuts (joined_cuts vpcs (joined_cuts rows others)) (later rows vpcs (joined_cuts rows others) (left_among rows others)))))
+    (both_among fixed_cuts blocks (unbounded_standing d) (left_among fixed_cuts (from_vpcs d))
+    (among_through blocks rows (unbounded_standing d) (interfaces-among d.interfaces) (in_interfaces d rows (left_among rows (from_acls d)))))
 
 -- ---- places
 
@@ -72,6 +74,17 @@ groups-among d ids = rows_among (cuts_of_group_id d) (all_cuts (cuts_of_group d)
 tgw-among : (d : Description) (o : Option TgwTableNo) → AreAmong (cuts_at_tgw_table d o) (all_cuts cuts_of_tgw_table d.tgw_tables)
 tgw-among d None = none_among (all_cuts cuts_of_tgw_table d.tgw_tables)
 tgw-among d (Some t) = row-at-among cuts_of_tgw_table no_tgw_table d.tgw_tables t.0 refl
+
+table-among : (d : Description) (o : Option TableNo) → AreAmong (cuts_at_table d o) (all_cuts (cuts_of_table d) d.tables)
+table-among d None = none_among (all_cuts (cuts_of_table d) d.tables)
+table-among d (Some t) = row-at-among (cuts_of_table d) no_table d.tables t.0 refl
+
+-- from a network that isn't described
+far-among : (d : Description) (id : List ℕ) (kind : FarKind) → AreAmong (cuts_from_far d (record { id = id; kind = kind })) (all_cuts cuts_of_tgw_table d.tgw_tables)
+far-among d id (kinds.PrivateGateway vpc) = none_among (all_cuts cuts_of_tgw_table d.tgw_tables)
+far-among d id (kinds.Attachment vpc) = tgw-among d (table_of_attachment_id d id)
+far-among d id (kinds.Peering requester accepter) = none_among (all_cuts cuts_of_tgw_table d.tgw_tables)
+far-among d id (kinds.Endpoint vpc) = none_among (all_cuts cuts_of_tgw_table d.tgw_tables)
 
 asked-among : (d : Description) (p : Place) → AreAmong (asked_at d p) (unbounded_asked d)
 asked-among d p = by p
@@ -104,7 +117,7 @@ asked-among d p = by p
         of-tables (cuts_of_table d (table_at d (table_of d s)))
         (row-at-among (cuts_of_table d) no_table d.tables (table_of d s).0 refl)
     by (places.Tgw a entered) = of-transit (cuts_at_tgw_table d (table_of_attachment d a)) (tgw-among d (table_of_attachment d a))
-    by (places.Enter v b) = none_among (unbounded_asked d)
+    by (places.Enter v b) = of-tables (cuts_at_table d (entrance_table d v b)) (table-among d (entrance_table d v b))
     by (places.IgwOut v) = none_among (unbounded_asked d)
     by places.Internet = none_among (unbounded_asked d)
     by (places.IgwIn v) = none_among (unbounded_asked d)
@@ -112,6 +125,9 @@ asked-among d p = by p
     by (places.NatIn n) = none_among (unbounded_asked d)
     by (places.Peer x v) = none_among (unbounded_asked d)
     by (places.TgwLeave a entered) = none_among (unbounded_asked d)
+    by (places.FarOut k) = none_among (unbounded_asked d)
+    by (places.FarIn k) = let f = far_at d k in of-transit (cuts_from_far d f) (far-among d f.id f.kind)
+    by (places.Inspect e) = none_among (unbounded_asked d)
 
 pub places_cut_the_description : PlacesCutTheDescription
 places_cut_the_description d p =

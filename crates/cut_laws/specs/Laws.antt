@@ -2,11 +2,11 @@
 use Rattle.std.specs.Prelude.{Contains}
 use Rattle.vpc_base.specs.Cuts.{AreAmong}
 use Rattle.vpc_model.specs.Appliances.{Appliances}
-use Rattle.vpc_model.specs.Cuts.{asked_at, cuts_at, cuts_of, cuts_of_acl, cuts_of_appliance, cuts_of_interface, cuts_of_vpc, fixed_cuts, standing_cuts}
+use Rattle.vpc_model.specs.Cuts.{asked_at, cuts_at, cuts_of, cuts_of_acl, cuts_of_appliance, cuts_of_far, cuts_of_interface, cuts_of_vpc, fixed_cuts, standing_cuts}
 use Rattle.vpc_model.specs.Lookup.{addresses_in}
 use Rattle.vpc_model.specs.Near.{near_cuts}
 use Rattle.vpc_base.specs.declared.headers.Header.{Header}
-use Rattle.cut_laws.specs.Types.{Acl, Appliance, Description, End, Interface, Place, Vpc}
+use Rattle.cut_laws.specs.Types.{Acl, Appliance, Description, End, Far, Interface, Place, Vpc}
 use Rattle.cut_laws.specs.Dividing.{Divide, DivideAddresses}
 
 -- what is cut in every network is a standing cut of each description
@@ -32,6 +32,10 @@ AclsAreStanding = (d : Description) (a : Acl) → Contains d.acls a → Divide (
 -- the boxes of its appliances
 abbrev pub AppliancesAreStanding : Type 0
 AppliancesAreStanding = (d : Description) (a : Appliance) → Contains d.appliances a → Divide (cuts_of_appliance a) (standing_cuts d)
+
+-- the blocks of peerings with VPCs that aren't described
+abbrev pub FarsAreStanding : Type 0
+FarsAreStanding = (d : Description) (f : Far) → Contains d.fars f → Divide (cuts_of_far f) (standing_cuts d)
 
 -- the cuts at a place are the standing cuts, and those of the rows that it asks
 pub record HasPlaceCuts (d : Description) (p : Place) : Type 0 where

@@ -1,7 +1,7 @@
 //! Which cuts of a description divide enough for which of its rows, as functions without a body.
 #![tactic(auto)]
 
-ghost use Rattle.cut_laws.specs.Laws.{AclsAreStanding, AddressesAreStanding, AppliancesAreStanding, FixedAreStanding, InterfacesAreStanding, NearCutsAreAmongAll, PlacesCutTheDescription, PlacesHaveTheirCuts, VpcsAreStanding};
+ghost use Rattle.cut_laws.specs.Laws.{AclsAreStanding, AddressesAreStanding, AppliancesAreStanding, FarsAreStanding, FixedAreStanding, InterfacesAreStanding, NearCutsAreAmongAll, PlacesCutTheDescription, PlacesHaveTheirCuts, VpcsAreStanding};
 
 /// What is cut in every network is among the standing cuts of each description.
 pub fn fixed_are_standing()
@@ -33,8 +33,13 @@ pub fn appliances_are_standing()
     ensures { AppliancesAreStanding }
 {}
 
-/// At each place there are the standing cuts, and those of the rows that are asked there: routes of a table,
-/// rules of groups, routes of a transit gateway's table.
+/// The blocks that peerings tell are among the standing cuts.
+pub fn fars_are_standing()
+    ensures { FarsAreStanding }
+{}
+
+/// At each place there are the standing cuts, and those of the rows that are asked there: routes of the table
+/// of a subnet or a gateway, rules of groups, routes of a transit gateway's table.
 pub fn places_have_their_cuts()
     ensures { PlacesHaveTheirCuts }
 {}

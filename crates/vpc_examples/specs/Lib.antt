@@ -5,6 +5,7 @@ pub mod Choices
 pub mod Firsts
 pub mod Crossings
 pub mod Middleboxes
+pub mod Outside
 pub mod CutRows
 pub mod NearRows
 pub mod ReportRows

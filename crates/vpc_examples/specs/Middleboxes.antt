@@ -9,7 +9,7 @@ use Rattle.vpc_model.specs.declared.places.Place.TheVariants as places
 use Rattle.vpc_model.specs.declared.stops.Stop.TheVariants as stops
 use Rattle.vpc_model.specs.declared.rows.Target.TheVariants as targets
 use Rattle.vpc_examples.specs.Examples.{eni, first_walk, outcome_of, tcp, walk_after}
-use Rattle.vpc_examples.specs.Networks.{acl, allow_all, block, group, host, https_from, local_1, main_table, open_rows, route, subnet_row, subnet_table, two_subnets, v4}
+use Rattle.vpc_examples.specs.Networks.{acl, allow_all, appliance, block, group, host, https_from, local_1, main_table, open_rows, route, subnet_row, subnet_table, two_subnets, v4}
 use Rattle.vpc_examples.specs.Stops.{eni_a, eni_b, open_from_a}
 use Rattle.vpc_model.specs.Appliances.{boxes_of_kind, passes}
 use Rattle.vpc_model.specs.Walk.{Walk}
@@ -20,7 +20,7 @@ with_appliance kind tables = record (two_subnets (acl (codes "acl-1") (codes "su
   interfaces = eni_a ∷ eni_b ∷ record (host (codes "eni-f") (codes "subnet-f") (v4 10 0 4 4) (codes "sg-b")) { groups = []; checked = false } ∷ [];
   tables = main_table (codes "rtb-1") (codes "vpc-1") (local_1 ∷ []) ∷ subnet_table (codes "rtb-a") (codes "vpc-1") (codes "subnet-a") (local_1 ∷ route (block (v4 10 0 2 0) 24) (targets.Interface (codes "eni-f")) ∷ []) ∷ tables;
   groups = group (codes "sg-a") (codes "vpc-1") [] (allow_all ∷ []) ∷ group (codes "sg-b") (codes "vpc-1") (https_from (block (v4 10 0 1 0) 24) ∷ []) [] ∷ [];
-  appliances = record { id = codes "eni-f"; kind = kind } ∷ [];
+  appliances = appliance (codes "eni-f") kind ∷ [];
 }
 
 abbrev pub service : ℕ → Description

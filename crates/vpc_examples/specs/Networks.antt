@@ -1,12 +1,13 @@
 -- Small networks, in which worked walks are told.
 use Rattle.std.specs.Prelude.{◌++◌, ◌∷◌, ◌+◌, ◌*◌, [], Bool, List, None, Option, Some, codes, false, length, true, ℕ}
-use Rattle.vpc_laws.specs.Types.{Acl, AclRow, Attachment, Block, Description, Group, Interface, Permission, Route, RouteTable, Subnet, Target, TgwRoute, Vpc}
+use Rattle.vpc_laws.specs.Types.{Acl, AclRow, Appliance, ApplianceKind, Attachment, Block, Description, Group, Interface, Permission, Route, RouteTable, Subnet, Target, TgwRoute, Vpc}
+use Rattle.vpc_model.specs.declared.rows.ApplianceAt.TheVariants as at
 use Rattle.vpc_model.specs.declared.rows.InterfaceKind.TheVariants as kinds
 use Rattle.vpc_model.specs.declared.rows.NatLife.TheVariants as lives
 use Rattle.vpc_model.specs.declared.rows.Reach.TheVariants as reaches
 use Rattle.vpc_model.specs.declared.rows.Target.TheVariants as targets
 use Rattle.vpc_model.specs.Nat.{inward}
-use Rattle.vpc_model.specs.Lookup.{no_scope, no_subnet, no_vpc}
+use Rattle.vpc_model.specs.Lookup.{no_scope, no_subnet, no_table, no_vpc}
 
 -- ---- addresses, rules and routes
 
@@ -66,10 +67,14 @@ list_route id target = record { reach = reaches.List id; target = target; blackh
 
 -- a main table, and one of a subnet
 abbrev pub main_table : List ℕ → List ℕ → List Route → RouteTable
-main_table id vpc routes = record { id = id; vpc = vpc; main = true; subnets = []; routes = routes }
+main_table id vpc routes = record no_table { id = id; vpc = vpc; main = true; routes = routes }
 
 abbrev pub subnet_table : List ℕ → List ℕ → List ℕ → List Route → RouteTable
-subnet_table id vpc subnet routes = record { id = id; vpc = vpc; main = false; subnets = subnet ∷ []; routes = routes }
+subnet_table id vpc subnet routes = record no_table { id = id; vpc = vpc; subnets = subnet ∷ []; routes = routes }
+
+-- a table of a gateway
+abbrev pub gateway_table : List ℕ → List ℕ → List ℕ → List Route → RouteTable
+gateway_table id vpc gateway routes = record no_table { id = id; vpc = vpc; gateways = gateway ∷ []; routes = routes }
 
 abbrev pub subnet_row : List ℕ → List ℕ → List ℕ → Subnet
 subnet_row id vpc zone = record no_subnet { id = id; vpc = vpc; zone = zone }
@@ -80,6 +85,10 @@ host_with id subnet address public group = record { id = id; subnet = subnet; pr
 
 abbrev pub host : List ℕ → List ℕ → ℕ → List ℕ → Interface
 host id subnet address group = host_with id subnet address None group
+
+-- an appliance at an interface
+abbrev pub appliance : List ℕ → ApplianceKind → Appliance
+appliance id kind = record { id = id; at = at.Interface; kind = kind }
 
 -- nothing but VPCs and subnets
 abbrev pub bare : List Vpc → List Subnet → Description
@@ -98,6 +107,8 @@ bare vpcs subnets = record {
   associations = [];
   tgw_tables = [];
   appliances = [];
+  fars = [];
+  firewalls = [];
   scope = no_scope;
 }
 

@@ -1,15 +1,18 @@
 -- Descriptions that make a network, and descriptions that don't, each with its first cause.
-use Rattle.std.specs.Prelude.{◌∷◌, ◌≡◌, [], List, None, Option, Some, codes, false, true, ℕ}
-use Rattle.vpc_laws.specs.Types.{Acl, AclRow, Appliance, Association, Attachment, Block, Description, Group, Interface, InternetGateway, ListName, NatGateway, NatLife, Peering, Permission, PrefixList, Refusal, Route, RouteTable, Subnet, Target, TgwRoute, TgwTable, Vpc}
+use Rattle.std.specs.Prelude.{◌∷◌, ◌≡◌, [], List, None, Option, Some, codes, slice_index_or, true, ℕ}
+use Rattle.vpc_laws.specs.Types.{Acl, AclRow, Appliance, Association, Attachment, Block, Description, Far, FirewallEndpoint, Group, Interface, InternetGateway, ListName, NatGateway, NatLife, Peering, Permission, PrefixList, Refusal, Route, RouteTable, Subnet, Target, TgwRoute, TgwTable, Vpc}
+use Rattle.vpc_model.specs.declared.rows.ApplianceAt.TheVariants as at
 use Rattle.vpc_model.specs.declared.rows.ApplianceKind.TheVariants as forwards
+use Rattle.vpc_model.specs.declared.rows.FarKind.TheVariants as kinds
 use Rattle.vpc_model.specs.declared.rows.NatLife.TheVariants as lives
 use Rattle.vpc_model.specs.declared.refusals.ListName.TheVariants as named
 use Rattle.vpc_model.specs.declared.refusals.Refusal.TheVariants as refusals
 use Rattle.vpc_model.specs.declared.rows.Target.TheVariants as targets
 use Rattle.vpc_examples.specs.Middleboxes.{with_appliance}
-use Rattle.vpc_examples.specs.Networks.{acl, acl_1, allow_all, anywhere, bare, behind_nat, block, gone_route, group, https_from_group, list_route, low_ports_in, main_table, open_rows, peered, route, site_host, site_table, subnet_table, transit, two_subnets, v4, vpc_1}
+use Rattle.vpc_examples.specs.Networks.{acl, acl_1, allow_all, anywhere, appliance, bare, behind_nat, block, gone_route, group, https_from_group, list_route, low_ports_in, main_table, open_rows, peered, route, site_host, site_table, subnet_table, transit, two_subnets, v4, vpc_1}
 use Rattle.vpc_examples.specs.Stops.{eni_a, eni_b, plain_vpc, with_hosts, with_route}
-use Rattle.vpc_model.specs.Accepted.{is_long, refusal_of, too_many_rows}
+use Rattle.vpc_model.specs.Accepted.{is_long, list_of_far, refusal_of, too_many_rows}
+use Rattle.vpc_model.specs.Lookup.{no_far, no_table}
 
 -- the first cause against a description, if there is one
 abbrev pub cause : Description → Option Refusal
@@ -67,7 +70,7 @@ TellsMissingRows =
     × ((cause (record plain_vpc { groups = group (codes "sg-a") (codes "vpc-1") [] (record allow_all { lists = codes "pl-x" ∷ [] } ∷ []) ∷ group (codes "sg-b") (codes "vpc-1") [] [] ∷ [] }) ≡ missing (codes "sg-a") (codes "pl-x"))
     × ((cause (record plain_vpc { groups = group (codes "sg-a") (codes "vpc-1") [] (https_from_group (codes "sg-x") ∷ []) ∷ group (codes "sg-b") (codes "vpc-1") [] [] ∷ [] }) ≡ None)
     × ((cause (record plain_vpc { igws = record { id = codes "igw-1"; vpcs = codes "vpc-x" ∷ [] } ∷ [] }) ≡ missing (codes "igw-1") (codes "vpc-x"))
-    × (cause (record plain_vpc { appliances = record { id = codes "eni-x"; kind = forwards.All } ∷ [] }) ≡ missing (codes "eni-x") (codes "eni-x")))))))))
+    × (cause (record plain_vpc { appliances = appliance (codes "eni-x") forwards.All ∷ [] }) ≡ missing (codes "eni-x") (codes "eni-x")))))))))
 
 -- of a route table: its VPC, its subnets, its prefix lists, and the targets of routes, unless they are gone
 abbrev pub TellsMissingTargets : Type 0
@@ -123,6 +126,19 @@ TellsMissingAtGateways =
     × ((cause (with_attachment (codes "vpc-a") (codes "subnet-a")) ≡ None)
     × (cause (with_attachment (codes "vpc-x") (codes "subnet-x")) ≡ None)))))))
 
+-- of a firewall endpoint that is followed, and whose VPC is described, where its subnet isn't in that VPC; what stands behind an
+-- endpoint that isn't there names nothing
+abbrev pub TellsMissingAtFirewalls : Type 0
+TellsMissingAtFirewalls =
+    let behind : List ℕ → Appliance = (λ id. record { id = id; at = at.Endpoint; kind = forwards.All }) in
+    let followed : List ℕ → List ℕ → Option Refusal = (λ vpc_id subnet_id. cause (record peered { appliances = behind (codes "vpce-fw") ∷ []; firewalls = record { id = codes "vpce-fw"; vpc = vpc_id; subnet = subnet_id } ∷ [] })) in
+    (followed (codes "vpc-a") (codes "subnet-a") ≡ None)
+    × ((followed (codes "vpc-a") (codes "subnet-b") ≡ missing (codes "vpce-fw") (codes "subnet-b"))
+    × ((followed (codes "vpc-a") (codes "subnet-x") ≡ missing (codes "vpce-fw") (codes "subnet-x"))
+    × ((followed (codes "vpc-x") (codes "subnet-x") ≡ None)
+    × ((cause (record peered { firewalls = record { id = codes "vpce-fw"; vpc = codes "vpc-a"; subnet = codes "subnet-x" } ∷ [] }) ≡ None)
+    × (cause (record peered { appliances = behind (codes "vpce-x") ∷ [] }) ≡ None)))))
+
 -- ---- tables, ACLs and gateways
 
 abbrev pub TellsTablesAndAcls : Type 0
@@ -163,7 +179,7 @@ abbrev pub too_many : Description → ListName → Type 0
 too_many d name = too_many_rows d ≡ refusals.TooManyRows name ∷ []
 
 abbrev pub subnet_table_of : List (List ℕ) → List Route → RouteTable
-subnet_table_of subnets routes = record { id = codes "rtb-1"; vpc = codes "vpc-1"; main = false; subnets = subnets; routes = routes }
+subnet_table_of subnets routes = record no_table { id = codes "rtb-1"; vpc = codes "vpc-1"; subnets = subnets; routes = routes }
 
 -- a group with one rule, of its second direction
 abbrev pub with_rule : Permission → Description
@@ -185,6 +201,7 @@ pub record LongListsAreNamed : Type 0 where
   pub associations : (xs : List Association) → is_long xs ≡ true → too_many (record nothing { associations = xs }) named.TransitGatewayAttachments
   pub tgw_tables : (xs : List TgwTable) → is_long xs ≡ true → too_many (record nothing { tgw_tables = xs }) named.TransitGatewayRoutes
   pub appliances : (xs : List Appliance) → is_long xs ≡ true → too_many (record nothing { appliances = xs }) named.Appliances
+  pub firewalls : (xs : List FirewallEndpoint) → is_long xs ≡ true → too_many (record nothing { firewalls = xs }) named.VpcEndpoints
 
 -- so is a list with one row, in which a list is too long
 pub record LongRowsAreNamed : Type 0 where
@@ -193,6 +210,7 @@ pub record LongRowsAreNamed : Type 0 where
   pub delegated : (xs : List Block) → is_long xs ≡ true → too_many (record nothing { interfaces = record eni_a { prefixes = xs } ∷ [] }) named.NetworkInterfaces
   pub member_of : (xs : List (List ℕ)) → is_long xs ≡ true → too_many (record nothing { interfaces = record eni_a { groups = xs } ∷ [] }) named.NetworkInterfaces
   pub table_subnets : (xs : List (List ℕ)) → is_long xs ≡ true → too_many (record nothing { tables = subnet_table_of xs [] ∷ [] }) named.RouteTables
+  pub table_gateways : (xs : List (List ℕ)) → is_long xs ≡ true → too_many (record nothing { tables = record (subnet_table_of [] []) { gateways = xs } ∷ [] }) named.RouteTables
   pub routes : (xs : List Route) → is_long xs ≡ true → too_many (record nothing { tables = subnet_table_of [] xs ∷ [] }) named.RouteTables
   pub entries : (xs : List Block) → is_long xs ≡ true → too_many (record nothing { lists = record { id = codes "pl-1"; entries = xs } ∷ [] }) named.PrefixLists
   pub acl_subnets : (xs : List (List ℕ)) → is_long xs ≡ true → too_many (record nothing { acls = acl (codes "acl-1") xs [] ∷ [] }) named.NetworkAcls
@@ -205,3 +223,12 @@ pub record LongRowsAreNamed : Type 0 where
   pub gateway_vpcs : (xs : List (List ℕ)) → is_long xs ≡ true → too_many (record nothing { igws = record { id = codes "igw-1"; vpcs = xs } ∷ [] }) named.InternetGateways
   pub attached : (xs : List (List ℕ)) → is_long xs ≡ true → too_many (record nothing { attachments = record { id = codes "att-1"; gateway = codes "tgw-1"; vpc = codes "vpc-1"; subnets = xs } ∷ [] }) named.TransitGatewayVpcAttachments
   pub tgw_routes : (xs : List TgwRoute) → is_long xs ≡ true → too_many (record nothing { tgw_tables = record { id = codes "tgw-rtb-1"; routes = xs } ∷ [] }) named.TransitGatewayRoutes
+  pub requester : (xs : List Block) → is_long xs ≡ true → too_many (record nothing { fars = record { id = codes "pcx-1"; kind = kinds.Peering xs [] } ∷ [] }) named.VpcPeeringConnections
+  pub accepter : (xs : List Block) → is_long xs ≡ true → too_many (record nothing { fars = record { id = codes "pcx-1"; kind = kinds.Peering [] xs } ∷ [] }) named.VpcPeeringConnections
+
+-- networks that aren't described come from several lists: the one that tells the 100,001st of them is named first
+abbrev pub LongFarsAreNamed : Type 0
+LongFarsAreNamed =
+    (xs : List Far) → is_long xs ≡ true
+    → let row = slice_index_or xs 100000 no_far in
+    (rest : List Refusal) × (too_many_rows (record nothing { fars = xs }) ≡ refusals.TooManyRows (list_of_far row.kind) ∷ rest)

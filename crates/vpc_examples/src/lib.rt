@@ -8,6 +8,7 @@ pub mod firsts;
 pub mod gateways;
 pub mod middleboxes;
 pub mod near;
+pub mod outside;
 pub mod refusals;
 pub mod refused;
 pub mod replayed;

@@ -1,5 +1,5 @@
 // Which descriptions make a network.
-ghost use Rattle.vpc_examples.specs.Refused.{AcceptsTargetsOfEitherSide, LongListsAreNamed, LongRowsAreNamed, NetworksAreAccepted, TellsDuplicates, TellsSharedBlocks, TellsMissingRows, TellsMissingTargets, TellsForeignTargets, TellsMissingAtGateways, TellsTablesAndAcls, TellsFirstCause};
+ghost use Rattle.vpc_examples.specs.Refused.{AcceptsTargetsOfEitherSide, LongFarsAreNamed, LongListsAreNamed, LongRowsAreNamed, NetworksAreAccepted, TellsDuplicates, TellsSharedBlocks, TellsMissingRows, TellsMissingTargets, TellsForeignTargets, TellsMissingAtFirewalls, TellsMissingAtGateways, TellsTablesAndAcls, TellsFirstCause};
 
 /// The networks of the other examples are accepted.
 pub fn accepts_networks()
@@ -41,6 +41,11 @@ pub fn tells_missing_at_gateways()
     ensures { TellsMissingAtGateways }
 {}
 
+/// What firewall endpoints name.
+pub fn tells_missing_at_firewalls()
+    ensures { TellsMissingAtFirewalls }
+{}
+
 /// Subnets and VPCs with no table, no ACL, or two.
 pub fn tells_tables_and_acls()
     ensures { TellsTablesAndAcls }
@@ -59,4 +64,9 @@ pub fn names_long_lists()
 /// Lists within a row that are too long, each by the name of the list that the row is in.
 pub fn names_long_rows()
     ensures { LongRowsAreNamed }
+{}
+
+/// Too many networks that aren't described, by the list of the first one that is too many.
+pub fn names_long_networks()
+    ensures { LongFarsAreNamed }
 {}

@@ -1,7 +1,7 @@
 // Which places lie in subnets, and at which ACLs are asked.
 ghost use Rattle.vpc_examples.specs.Ways.{HostsAndNatGatewaysLieInSubnets, RoutersAndEntrancesAskAcls};
 
-/// Packets come to interfaces and to NAT gateways in subnets, and to no other place.
+/// Packets come to interfaces, NAT gateways and firewall endpoints in subnets, and to no other place.
 pub fn reaches_hosts_in_subnets()
     ensures { HostsAndNatGatewaysLieInSubnets }
 {}

@@ -2,16 +2,17 @@
 use Rattle.std.proofs.Common.{◌≡◌, ℕ, ◌<◌, ◌==◌, ◌&&◌, ◌||◌, Bool, List, [], ◌∷◌, ◌++◌, cond, false, inl, inr, map, refl, subst, sym, true, ◌∙◌}
 use Rattle.std.specs.List.{AllByRecursion, Contains, IsDistinct, count_by, filter, flat_map, list_any}
 use Rattle.std.specs.Str.{bytes_eq}
-use Rattle.std.proofs.lemmas.Bool.{and_parts, cases_Bool, leb-false, or_parts}
+use Rattle.std.proofs.lemmas.Bool.{and_from, and_parts, cases_Bool, leb-false, or_parts}
 use Rattle.std.proofs.lemmas.List.Folds.{list_any-append}
 use Rattle.vpc_base.proofs.Bytes.{bytes_eq-comm}
 use Rattle.vpc_base.proofs.Members.{AllByRecursion-weaker, append-nothing, filter-nothing, flat_map-nothing, map-nothing, nothing-append}
 use Rattle.vpc_base.proofs.Numbers.{eqb-comm}
-use Rattle.vpc_laws.specs.Types.{Acl, Appliance, Attachment, Description, Group, Interface, InternetGateway, NatGateway, NatLife, Permission, Refusal, Route, RouteTable, Subnet, Target, Vpc}
+use Rattle.vpc_laws.specs.Types.{Acl, Appliance, Attachment, Description, FirewallEndpoint, Group, Interface, InternetGateway, NatGateway, NatLife, Permission, Refusal, Route, RouteTable, Subnet, Target, Vpc}
 use Rattle.vpc_model.specs.declared.rows.NatLife.TheVariants as lives
 use Rattle.vpc_model.specs.declared.rows.Target.TheVariants as targets
 use Rattle.vpc_model.specs.declared.refusals.Refusal.TheVariants as refusals
-use Rattle.vpc_model.specs.Accepted.{IsAccepted, duplicate_addresses, duplicate_ids, duplicate_publics, duplicates_in, holds_twice, ids_by_list, is_interface_in, is_main_of, is_side, is_subnet_of, is_table_of, missing_of_acl, missing_of_appliance, missing_of_attachment, missing_of_group, missing_of_igw, missing_of_interface, missing_of_life, missing_of_reach, missing_of_route, missing_of_subnet, missing_of_table, missing_of_target, missing_references, private_addresses, public_addresses, repeats, repeats_after, same_address, serves_vpc, too_many_rows, two_acls, two_gateways, two_tables, wanted, without_acl, without_table}
+use Rattle.vpc_model.specs.Accepted.{IsAccepted, duplicate_addresses, duplicate_ids, duplicate_publics, duplicates_in, holds_twice, ids_by_list, is_interface_in, is_main_of, is_side, is_subnet_of, is_table_of, missing_of_acl, missing_of_appliance, missing_of_attachment, missing_of_firewall, missing_of_group, missing_of_igw, missing_of_interface, missing_of_life, missing_of_reach, missing_of_route, missing_of_subnet, missing_of_table, missing_of_target, missing_references, private_addresses, public_addresses, repeats, repeats_after, same_address, serves_vpc, too_many_rows, two_acls, two_gateways, two_tables, wanted, without_acl, without_table}
+use Rattle.vpc_model.specs.Firewalls.{is_followed}
 use Rattle.vpc_model.specs.Lookup.{eni_no, has_group, has_igw, has_interface, has_list, has_nat, has_peering, has_subnet, has_vpc, interface_at, is_listed, nat_at, nat_no, peer_no, peering_at}
 use Rattle.vpc_laws.proofs.Claims.{apart, assigned-once}
 use Rattle.vpc_laws.specs.Accepted.{HasAllNamed, HasNothingTwice, HasTarget, IsFaultless}
@@ -82,6 +83,7 @@ record IsComplete (d : Description) : Type 0 where
   pub nats : (n : NatGateway) → Contains d.nats n → missing_of_life d n.id n.life ≡ []
   pub attachments : (a : Attachment) → Contains d.attachments a → missing_of_attachment d a ≡ []
   pub appliances : (a : Appliance) → Contains d.appliances a → missing_of_appliance d a ≡ []
+  pub firewalls : (e : FirewallEndpoint) → Contains d.firewalls e → missing_of_firewall d e ≡ []
 
 complete : (d : Description) → missing_references d ≡ [] → IsComplete d
 complete d none =
@@ -93,7 +95,9 @@ complete d none =
     let m6 = m5 ++ flat_map (missing_of_igw d) d.igws in
     let m7 = m6 ++ flat_map (λ (n : NatGateway). missing_of_life d n.id n.life) d.nats in
     let m8 = m7 ++ flat_map (missing_of_attachment d) d.attachments in
-    let p8 = append-nothing m8 (flat_map (missing_of_appliance d) d.appliances) none in
+    let m9 = m8 ++ flat_map (missing_of_appliance d) d.appliances in
+    let p9 = append-nothing m9 (flat_map (missing_of_firewall d) d.firewalls) none in
+    let p8 = append-nothing m8 (flat_map (missing_of_appliance d) d.appliances) p9.0 in
     let p7 = append-nothing m7 (flat_map (missing_of_attachment d) d.attachments) p8.0 in
     let p6 = append-nothing m6 (flat_map (λ (n : NatGateway). missing_of_life d n.id n.life) d.nats) p7.0 in
     let p5 = append-nothing m5 (flat_map (missing_of_igw d) d.igws) p6.0 in
@@ -111,6 +115,7 @@ complete d none =
       nats = flat_map-nothing (λ (n : NatGateway). missing_of_life d n.id n.life) d.nats p6.1;
       attachments = flat_map-nothing (missing_of_attachment d) d.attachments p7.1;
       appliances = flat_map-nothing (missing_of_appliance d) d.appliances p8.1;
+      firewalls = flat_map-nothing (missing_of_firewall d) d.firewalls p9.1;
     }
 
 -- of a list of ids each is there
@@ -169,7 +174,11 @@ accepted_has_all_named d accepted =
       place_of_nat = λ n subnet eni address has is. life-there d n.id n.life subnet eni address (whole.nats n has) is;
       subnet_of_attachment = λ a s has there at.
           ids-there (is_subnet_of d a.vpc) a.id (λ x. x) a.subnets (subst (λ b. cond b (flat_map (λ x. wanted (is_subnet_of d a.vpc x) a.id x) a.subnets) [] ≡ []) there (whole.attachments a has)) s at;
-      interface_of_appliance = λ a has. wanted-there (has_interface d a.id) a.id a.id (whole.appliances a has);
+      interface_of_appliance = λ a has stands.
+          wanted-there (has_interface d a.id) a.id a.id (subst (λ b. cond b (wanted (has_interface d a.id) a.id a.id) [] ≡ []) stands (whole.appliances a has));
+      subnet_of_firewall = λ e has followed there.
+          wanted-there (is_subnet_of d e.vpc e.subnet) e.id e.subnet
+          (subst (λ b. cond b (wanted (is_subnet_of d e.vpc e.subnet) e.id e.subnet) [] ≡ []) (and_from (is_followed d e) (has_vpc d e.vpc) followed there) (whole.firewalls e has));
     }
 
 -- ---- what stands twice

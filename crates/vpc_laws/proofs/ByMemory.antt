@@ -3,7 +3,7 @@ use Rattle.std.proofs.Common.{List, Some, ap, refl, sym, ◌||◌, ◌≡◌, �
 use Rattle.vpc_base.proofs.Lemmas.{cond_both, none-some, same_Some}
 use Rattle.vpc_base.specs.declared.headers.Dir.TheVariants.{Inward, Outward}
 use Rattle.vpc_base.specs.declared.headers.Label.TheVariants.{Answer, Opening}
-use Rattle.vpc_model.specs.declared.places.Place.TheVariants.{OutOf, Router, Enter, Into, IgwOut, Internet, IgwIn, NatOut, NatIn, Peer, Tgw, TgwLeave}
+use Rattle.vpc_model.specs.declared.places.Place.TheVariants.{OutOf, Router, Enter, Into, IgwOut, Internet, IgwIn, NatOut, NatIn, Peer, Tgw, TgwLeave, FarOut, FarIn, Inspect}
 use Rattle.vpc_laws.specs.Types.{Description, Dir, EniNo, Group, Header, Label, NatNo, Place}
 use Rattle.vpc_model.specs.Terms.{Appliances, Connection, Moment, Step, is_unroutable, plain, step_at, step_internet, step_nat_in}
 use Rattle.vpc_laws.specs.Memory.{Memory, memory_at, nothing, translation}
@@ -41,6 +41,9 @@ by_memory P out into nat rest (NatIn n) = rest (NatIn n) (record { memory = refl
 by_memory P out into nat rest (Peer x v) = rest (Peer x v) (record { memory = refl; step = λ d a label m. refl; groups = λ d gs a label m. refl })
 by_memory P out into nat rest (Tgw a s) = rest (Tgw a s) (record { memory = refl; step = λ d a label m. refl; groups = λ d gs a label m. refl })
 by_memory P out into nat rest (TgwLeave a s) = rest (TgwLeave a s) (record { memory = refl; step = λ d a label m. refl; groups = λ d gs a label m. refl })
+by_memory P out into nat rest (FarOut k) = rest (FarOut k) (record { memory = refl; step = λ d a label m. refl; groups = λ d gs a label m. refl })
+by_memory P out into nat rest (FarIn k) = rest (FarIn k) (record { memory = refl; step = λ d a label m. refl; groups = λ d gs a label m. refl })
+by_memory P out into nat rest (Inspect e) = rest (Inspect e) (record { memory = refl; step = λ d a label m. refl; groups = λ d gs a label m. refl })
 
 -- no NAT gateway is one of these, on the way out
 pub plain-other : (p : Place) (n : NatNo) → IsPlain p → p ≡ NatOut n → ⊥

@@ -4,15 +4,25 @@ use Rattle.std.specs.List.{AllByRecursion}
 use Rattle.std.proofs.lemmas.Bool.{cond_both, and_parts, eqb-true, true≢false}
 use Rattle.vpc_base.specs.declared.headers.Dir.TheVariants.{Inward, Outward}
 use Rattle.vpc_base.specs.declared.headers.Label.TheVariants.{Answer, Opening}
-use Rattle.vpc_model.specs.declared.places.Place.TheVariants.{OutOf, Router, Enter, Into, IgwOut, Internet, IgwIn, NatOut, NatIn, Peer, Tgw, TgwLeave}
+use Rattle.vpc_model.specs.declared.places.Place.TheVariants.{OutOf, Router, Enter, Into, IgwOut, Internet, IgwIn, NatOut, NatIn, Peer, Tgw, TgwLeave, FarOut, FarIn, Inspect}
+use Rattle.vpc_model.specs.declared.rows.FarKind.TheVariants as kinds
 use Rattle.vpc_model.specs.declared.rows.NatLife.TheVariants.{Gone, Unmodelled as WithoutSubnet, Live}
 use Rattle.vpc_model.specs.declared.rows.Target.TheVariants.{Local, Internet as ToInternet, Nat as ToNat, Transit as ToTransit, Peer as ToPeer, Interface as ToInterface, Other}
 use Rattle.vpc_model.specs.declared.stops.Stop.TheVariants.{AclIn, AclOut, ApplianceDrop, BlockPublicAccess, NotAHost}
-use Rattle.vpc_model.specs.declared.places.EnterBy.TheVariants.{Gateway}
+use Rattle.vpc_model.specs.declared.places.EnterBy.TheVariants as through
 use Rattle.vpc_model.specs.declared.places.End.TheVariants.{Interface}
-use Rattle.vpc_laws.specs.Types.{AttNo, Box5, By, Came, Description, EniNo, EnterBy, Header, IgwNo, Label, NatLife, NatNo, PeerNo, Place, Stop, SubnetNo, TableNo, Target, TgwTableNo, VpcNo}
-use Rattle.vpc_laws.specs.Terms.{GoesOn, IsDoor, IsTranslation, KeepsFlow, LeadsOn, LiesIn, Refuses, SendsSame, StopsItself, across, door_of, host, into, is_in_subnet, is_of_step, is_rewriting, nat_answered, nat_asked, out_of, past_none, refuser_of}
+use Rattle.vpc_laws.specs.Types.{AttNo, Block, Box5, By, Came, Description, EniNo, EnterBy, Far, FarKind, FarNo, FirewallNo, Header, IgwNo, Label, NatLife, NatNo, PeerNo, Place, Stop, SubnetNo, TableNo, Target, TgwTableNo, VpcNo}
+use Rattle.vpc_laws.specs.Terms.{GoesOn, IsDoor, IsTranslation, KeepsFlow, LeadsOn, LiesIn, Refuses, SendsSame, StopsItself, across, asks_acls, door_of, firewall, host, into, is_in_subnet, is_of_step, is_rewriting, nat_answered, nat_asked, out_of, past_none, refuser_of}
 use Rattle.vpc_model.specs.Terms.{Appliances, Connection, Moment, Next, Step, Translation, acl_at, acl_of, acl_verdict, arrive, attachment_for, attachment_of_id, blocked, blocked_at, boxes_at, by_attachment, by_pair, by_route, by_tgw_route, by_tgw_table, chosen_route, chosen_tgw_route, crossing, deliver, deliver_by, eni_no, enter_host, entering, forwarded, from_inward, gateway_of, go, go_private, go_public, has_address, has_block, has_vpc, host_of, igw_no, in_passing, interface_at, inward, is_attached, is_blocked, is_full, is_gateway, is_translatable, is_unroutable, leave_by, leave_subnet, leaving, nat_at, nat_no, nat_of, no_route, no_tgw_route, or_else, other_side, out_passing, over_peering, own_address, own_subnet, owner_of, passes, passing_of, peer_no, peering_at, private_of, public_of, same_header, step_at, step_internet, step_into, step_nat_in, step_nat_out, step_of, step_out, step_router, stop, subnet_no, subnet_of, table_at, table_of, table_of_attachment, tgw_table_at, to_attachment, to_host, to_interface, to_internet, to_nat, to_owner, to_peer, to_target, to_transit, to_zone, translate, translation_of, unless_stopped, vpc_at, vpc_no, vpc_of_subnet, zone_subnet}
+use Rattle.vpc_model.specs.Far.{blocks_beyond, far_end_of_id, far_of_id, is_within, peering_to, table_of_attachment_id, vpc_beside}
+use Rattle.vpc_model.specs.Firewalls.{boxes_behind, entrance_table, firewall_of}
+use Rattle.vpc_model.specs.Lookup.{attachment_at, far_at}
+use Rattle.vpc_model.specs.Step.Enter.{enter_by_route, enter_by_table, enter_firewall, enter_interface, enter_target}
+use Rattle.vpc_model.specs.Step.Far.{in_by, in_by_attachment, in_by_endpoint, in_by_gateway, in_by_peering, out_by, over_half_peering, to_service}
+use Rattle.vpc_model.specs.Step.Inspect.{firewall_subnet, step_inspect}
+use Rattle.vpc_model.specs.Step.Router.{is_beside, to_endpoint, to_far, to_firewall, to_half_peering, to_network_by, to_other, to_private_gateway}
+use Rattle.vpc_model.specs.Step.Transit.{to_attached, to_first, to_leave}
+use Rattle.vpc_model.specs.Transit.{first_described}
 use Rattle.vpc_laws.proofs.Ports.{new_translation-fits}
 
 -- the header that comes next: that of an open keeps protocol and q, and its p fits its field where the first one's does; where
@@ -244,12 +254,20 @@ module _ (opens : Type 0) (d : Description) where
         unless_stopped-flow here h (crossing d s (subnet_no d subnet) h) (go (NatOut n) h) (crossing-stops here s (subnet_no d subnet) h)
         (λ passed. (across s (subnet_no d subnet) came refl (nat_asked n refl (ap (λ (l : NatLife). subnet_no d (own_subnet l)) (sym is))) passed, itself))
 
+    to_far-flow : (k : FarNo) → Onward (to_far d s h k)
+    to_far-flow k = leaves (FarOut k) refl
+
+    to_half_peering-flow : (x : PeerNo) (k : Option FarNo) → Onward (to_half_peering d s h x k)
+    to_half_peering-flow x None = (refl, (tt, tt))
+    to_half_peering-flow x (Some k) = to_far-flow k
+
     to_peer-flow : (x : PeerNo) (pair : Option (List ℕ × List ℕ)) → Onward (to_peer d s h x pair)
     to_peer-flow x None = (refl, (tt, tt))
     to_peer-flow x (Some pair) =
         let v = vpc_of_subnet d s in
         let row = vpc_at d v in
-        cond_both (has_vpc d (other_side row.id pair)) _ _ Onward (λ _. leaves (Peer x v) refl) (λ _. (refl, (tt, tt)))
+        let peering = peering_at d x in
+        cond_both (has_vpc d (other_side row.id pair)) _ (to_half_peering d s h x (far_end_of_id d peering.id)) Onward (λ _. leaves (Peer x v) refl) (λ _. to_half_peering-flow x (far_end_of_id d peering.id))
 
     to_zone-flow : (a : AttNo) (t : Option SubnetNo) → Onward (to_zone d s h a t)
     to_zone-flow a None = (refl, (tt, tt))
@@ -268,6 +286,28 @@ module _ (opens : Type 0) (d : Description) where
         unless_stopped-flow here h (crossing d s (subnet_of d j) h) _ (crossing-stops here s (subnet_of d j) h)
         (λ passed. cond_both (is_gateway e.kind) (stop (NotAHost j)) (go (Into j) h) Onward (λ _. (refl, (tt, tt))) (λ _. (across s (subnet_of d j) came refl (host j refl refl) passed, itself)))
 
+    to_private_gateway-flow : (k : FarNo) (attached : Bool) → Onward (to_private_gateway d s h k attached)
+    to_private_gateway-flow k attached = cond_both attached (to_far d s h k) _ Onward (λ _. to_far-flow k) (λ _. (refl, (tt, tt)))
+
+    to_endpoint-flow : (t : TableNo) (k : ℕ) (far : FarNo) (inside : Bool) → Onward (to_endpoint d s h t k far inside)
+    to_endpoint-flow t k far inside = cond_both inside (to_far d s h far) _ Onward (λ _. to_far-flow far) (λ _. (refl, (tt, tt)))
+
+    to_network_by-flow : (t : TableNo) (k : ℕ) (far : FarNo) (kind : FarKind) → Onward (to_network_by d s h t k far kind)
+    to_network_by-flow t k far (kinds.PrivateGateway vpc) = to_private_gateway-flow far (is_beside (vpc_of_subnet d s) (vpc_beside d (far_at d far)))
+    to_network_by-flow t k far (kinds.Endpoint vpc) = to_endpoint-flow t k far (is_beside (vpc_of_subnet d s) (vpc_beside d (far_at d far)))
+    to_network_by-flow t k far (kinds.Attachment vpc) = (refl, (tt, tt))
+    to_network_by-flow t k far (kinds.Peering requester accepter) = (refl, (tt, tt))
+
+    to_firewall-flow : (t : TableNo) (k : ℕ) (e : Option FirewallNo) → Onward (to_firewall d s h t k e)
+    to_firewall-flow t k None = (refl, (tt, tt))
+    to_firewall-flow t k (Some e) =
+        unless_stopped-flow here h (crossing d s (firewall_subnet d e) h) (go (Inspect e) h) (crossing-stops here s (firewall_subnet d e) h)
+        (λ passed. (across s (firewall_subnet d e) came refl (firewall e refl refl) passed, itself))
+
+    to_other-flow : (t : TableNo) (k : ℕ) (id : List ℕ) (far : Option FarNo) → Onward (to_other d s h t k id far)
+    to_other-flow t k id None = to_firewall-flow t k (firewall_of d (vpc_of_subnet d s) id)
+    to_other-flow t k id (Some far) = let row = far_at d far in to_network_by-flow t k far row.kind
+
     to_target-flow : (t : TableNo) (k : ℕ) (target : Target) → Onward (to_target d s h t k target)
     to_target-flow t k Local = to_host-flow (vpc_of_subnet d s) (host_of d (vpc_of_subnet d s) h.dst) refl
     to_target-flow t k (ToInternet id) = to_internet-flow (igw_no d id)
@@ -275,7 +315,7 @@ module _ (opens : Type 0) (d : Description) where
     to_target-flow t k (ToPeer id) = let row = peering_at d (peer_no d id) in to_peer-flow (peer_no d id) row.pair
     to_target-flow t k (ToTransit id) = to_transit-flow t k (attachment_for d id s)
     to_target-flow t k (ToInterface id) = to_interface-flow (eni_no d id)
-    to_target-flow t k (Other id) = (refl, (tt, tt))
+    to_target-flow t k (Other id) = to_other-flow t k id (far_of_id d id)
 
     by_route-flow : (t : TableNo) (k : Option ℕ) → Onward (by_route d s h t k)
     by_route-flow t None = (refl, (tt, tt))
@@ -298,6 +338,45 @@ module _ (opens : Type 0) (d : Description) where
       unless_stopped-flow (Enter v by) h (entering d (subnet_of d i) h) (deliver d i h) (entering-stops (Enter v by) (subnet_of d i) h)
       (λ passed. deliver_by-flow (Enter v by) h v i (nat_of d i) found refl (λ q lies. into v by (subnet_of d i) refl lies passed))
 
+  module _ (v : VpcNo) (by : EnterBy) (h : Header) where
+    abbrev door : Place
+    door = Enter v by
+
+    enters : (t : SubnetNo) (q : Place) → LiesIn d h q t → entering d t h ≡ None → Flows opens d door h (go q h)
+    enters t q lies passed = (into v by t refl lies passed, itself)
+
+    enter_interface-flow : (j : EniNo) → Flows opens d door h (enter_interface d h j)
+    enter_interface-flow j =
+        let e = interface_at d j in
+        unless_stopped-flow door h (entering d (subnet_of d j) h) _ (entering-stops door (subnet_of d j) h)
+        (λ passed. cond_both (is_gateway e.kind) (stop (NotAHost j)) (go (Into j) h) (Flows opens d door h) (λ _. (refl, (tt, tt))) (λ _. enters (subnet_of d j) (Into j) (host j refl refl) passed))
+
+    enter_firewall-flow : (t : TableNo) (k : ℕ) (e : Option FirewallNo) → Flows opens d door h (enter_firewall d h t k e)
+    enter_firewall-flow t k None = (refl, (tt, tt))
+    enter_firewall-flow t k (Some e) =
+        unless_stopped-flow door h (entering d (firewall_subnet d e) h) (go (Inspect e) h) (entering-stops door (firewall_subnet d e) h)
+        (λ passed. enters (firewall_subnet d e) (Inspect e) (firewall e refl refl) passed)
+
+    enter_target-flow : (t : TableNo) (k : ℕ) (target : Target) → Flows opens d door h (enter_target d v h t k target)
+    enter_target-flow t k Local = enter_host-flow v by h (host_of d v h.dst) refl
+    enter_target-flow t k (ToInterface id) = enter_interface-flow (eni_no d id)
+    enter_target-flow t k (Other id) = enter_firewall-flow t k (firewall_of d v id)
+    enter_target-flow t k (ToInternet id) = (refl, (tt, tt))
+    enter_target-flow t k (ToNat id) = (refl, (tt, tt))
+    enter_target-flow t k (ToTransit id) = (refl, (tt, tt))
+    enter_target-flow t k (ToPeer id) = (refl, (tt, tt))
+
+    enter_by_route-flow : (t : TableNo) (k : Option ℕ) → Flows opens d door h (enter_by_route d v h t k)
+    enter_by_route-flow t None = (refl, (tt, tt))
+    enter_by_route-flow t (Some k) =
+        let table = table_at d t in
+        let r = slice_index_or table.routes k no_route in
+        cond_both r.blackhole _ (enter_target d v h t k r.target) (Flows opens d door h) (λ _. (refl, (tt, tt))) (λ _. enter_target-flow t k r.target)
+
+    enter_by_table-flow : (t : Option TableNo) → Flows opens d door h (enter_by_table d v h t)
+    enter_by_table-flow None = enter_host-flow v by h (host_of d v h.dst) refl
+    enter_by_table-flow (Some t) = let table = table_at d t in enter_by_route-flow t (chosen_route d table.routes h.dst)
+
   blocked-stops : (p : Place) (h : Header) (i : Option EniNo) → StopsAt p h (option_and_then (blocked d) i)
   blocked-stops p h None = tt
   blocked-stops p h (Some i) = cond_both (is_blocked d i) (Some (BlockPublicAccess (subnet_of d i))) None (StopsAt p h) (λ _. (refl, (tt, tt))) (λ _. tt)
@@ -311,7 +390,7 @@ module _ (opens : Type 0) (d : Description) where
   go_private-flow : (v : VpcNo) (h : Header) (a : Option ℕ) → Flows opens d (IgwIn v) h (go_private d v h a)
   go_private-flow v h None = (past_none refl refl, itself)
   go_private-flow v h (Some a) =
-      unless_stopped-flow (IgwIn v) h (blocked_at d v a) (go (Enter v Gateway) (record h { dst = a })) (blocked-stops (IgwIn v) h (host_of d v a))
+      unless_stopped-flow (IgwIn v) h (blocked_at d v a) (go (Enter v through.Gateway) (record h { dst = a })) (blocked-stops (IgwIn v) h (host_of d v a))
       (λ _. (past_none refl refl, record { proto = λ _. refl; q = λ _. refl; p = λ _ fits. fits; same = λ e. absurd (true≢false e) }))
 
   to_owner-flow : (h : Header) (v : Option VpcNo) → Flows opens d Internet h (to_owner d h v)
@@ -333,36 +412,101 @@ module _ (opens : Type 0) (d : Description) where
   by_pair-flow x v h None = (refl, (tt, tt))
   by_pair-flow x v h (Some pair) = let row = vpc_at d v in over_peering-flow x v (vpc_no d (other_side row.id pair)) h
 
-  module _ (from : AttNo) (s : SubnetNo) (h : Header) where
-    to_attachment-flow : (t : TgwTableNo) (k : ℕ) (a : Option AttNo) → Flows opens d (Tgw from s) h (to_attachment s h t k a)
-    to_attachment-flow t k None = (refl, (tt, tt))
-    to_attachment-flow t k (Some a) = (past_none refl refl, itself)
+  -- by a table of a transit gateway, from an attachment or from a network that isn't described
+  module _ (p : Place) (h : Header) (no_acls : asks_acls p ≡ false) where
+    abbrev Routed : Next → Type 0
+    Routed x = Flows opens d p h x
 
-    by_attachment-flow : (t : TgwTableNo) (k : ℕ) (id : Option (List ℕ)) → Flows opens d (Tgw from s) h (by_attachment d s h t k id)
-    by_attachment-flow t k None = (refl, (tt, tt))
-    by_attachment-flow t k (Some id) = to_attachment-flow t k (attachment_of_id d id)
+    past : (q : Place) → is_in_subnet q ≡ false → Routed (go q h)
+    past q elsewhere = (past_none no_acls elsewhere, itself)
 
-    by_tgw_route-flow : (t : TgwTableNo) (k : Option ℕ) → Flows opens d (Tgw from s) h (by_tgw_route d s h t k)
-    by_tgw_route-flow t None = (refl, (tt, tt))
-    by_tgw_route-flow t (Some k) =
-        let table = tgw_table_at d t in
-        let r = slice_index_or table.routes k no_tgw_route in
-        cond_both r.blackhole _ (by_attachment d s h t k r.attachment) (Flows opens d (Tgw from s) h) (λ _. (refl, (tt, tt))) (λ _. by_attachment-flow t k r.attachment)
+    to_first-flow : (a : AttNo) (s : Option SubnetNo) → Routed (to_first h a s)
+    to_first-flow a None = (refl, (tt, tt))
+    to_first-flow a (Some s) = past (TgwLeave a s) refl
 
-    by_tgw_table-flow : (t : Option TgwTableNo) → Flows opens d (Tgw from s) h (by_tgw_table d from s h t)
-    by_tgw_table-flow None = (refl, (tt, tt))
-    by_tgw_table-flow (Some t) = let table = tgw_table_at d t in by_tgw_route-flow t (chosen_tgw_route table.routes h.dst)
+    to_leave-flow : (a : AttNo) (entered : Option SubnetNo) → Routed (to_leave d h a entered)
+    to_leave-flow a None = let row = attachment_at d a in to_first-flow a (first_described d row.subnets)
+    to_leave-flow a (Some s) = past (TgwLeave a s) refl
+
+    module _ (entered : Option SubnetNo) (t : TgwTableNo) where
+      to_attachment-flow : (k : ℕ) (a : Option AttNo) → Routed (to_attachment d entered h t k a)
+      to_attachment-flow k None = (refl, (tt, tt))
+      to_attachment-flow k (Some a) = to_leave-flow a entered
+
+      to_attached-flow : (k : ℕ) (id : List ℕ) (far : Option FarNo) → Routed (to_attached d entered h t k id far)
+      to_attached-flow k id None = to_attachment-flow k (attachment_of_id d id)
+      to_attached-flow k id (Some far) = past (FarOut far) refl
+
+      by_attachment-flow : (k : ℕ) (id : Option (List ℕ)) → Routed (by_attachment d entered h t k id)
+      by_attachment-flow k None = (refl, (tt, tt))
+      by_attachment-flow k (Some id) = to_attached-flow k id (far_end_of_id d id)
+
+      by_tgw_route-flow : (k : Option ℕ) → Routed (by_tgw_route d entered h t k)
+      by_tgw_route-flow None = (refl, (tt, tt))
+      by_tgw_route-flow (Some k) =
+          let table = tgw_table_at d t in
+          let r = slice_index_or table.routes k no_tgw_route in
+          cond_both r.blackhole _ (by_attachment d entered h t k r.attachment) Routed (λ _. (refl, (tt, tt))) (λ _. by_attachment-flow k r.attachment)
+
+  by_tgw_table-flow : (from : AttNo) (s : SubnetNo) (h : Header) (t : Option TgwTableNo) → Flows opens d (Tgw from s) h (by_tgw_table d from s h t)
+  by_tgw_table-flow from s h None = (refl, (tt, tt))
+  by_tgw_table-flow from s h (Some t) = let table = tgw_table_at d t in by_tgw_route-flow (Tgw from s) h refl (Some s) t (chosen_tgw_route table.routes h.dst)
 
   leave_by-flow : (a : AttNo) (entered : SubnetNo) (h : Header) (s : Option SubnetNo) → Flows opens d (TgwLeave a entered) h (leave_by a h s)
   leave_by-flow a entered h None = (refl, (tt, tt))
   leave_by-flow a entered h (Some s) = (past_none refl refl, itself)
+
+  -- ---- networks that aren't described, and firewall endpoints
+
+  over_half_peering-flow : (k : FarNo) (x : PeerNo) (h : Header) (beyond : List Block) (v : Option VpcNo) → Flows opens d (FarOut k) h (over_half_peering d k x h beyond v)
+  over_half_peering-flow k x h beyond None = (refl, (tt, tt))
+  over_half_peering-flow k x h beyond (Some v) =
+      cond_both (not (has_block d v h.src)) _ _ (Flows opens d (FarOut k) h) (λ _. (refl, (tt, tt)))
+      (λ _. cond_both (not (is_within beyond h.dst)) _ _ (Flows opens d (FarOut k) h) (λ _. (refl, (tt, tt))) (λ _. tt))
+
+  to_service-flow : (k : FarNo) (h : Header) (v : Option VpcNo) → Flows opens d (FarOut k) h (to_service d k h v)
+  to_service-flow k h None = (refl, (tt, tt))
+  to_service-flow k h (Some v) = cond_both (has_block d v h.src) _ _ (Flows opens d (FarOut k) h) (λ _. tt) (λ _. (refl, (tt, tt)))
+
+  out_by-flow : (k : FarNo) (f : Far) (h : Header) (kind : FarKind) → Flows opens d (FarOut k) h (out_by d k f h kind)
+  out_by-flow k f h (kinds.PrivateGateway vpc) = tt
+  out_by-flow k f h (kinds.Attachment vpc) = tt
+  out_by-flow k f h (kinds.Peering requester accepter) = over_half_peering-flow k (peering_to d f) h (blocks_beyond d f) (vpc_beside d f)
+  out_by-flow k f h (kinds.Endpoint vpc) = to_service-flow k h (vpc_beside d f)
+
+  in_by_gateway-flow : (k : FarNo) (h : Header) (v : Option VpcNo) → Flows opens d (FarIn k) h (in_by_gateway k h v)
+  in_by_gateway-flow k h None = (refl, (tt, tt))
+  in_by_gateway-flow k h (Some v) = past (FarIn k) h refl (Enter v (through.Far k)) refl
+
+  in_by_peering-flow : (k : FarNo) (x : PeerNo) (h : Header) (beyond : List Block) (v : Option VpcNo) → Flows opens d (FarIn k) h (in_by_peering d x h beyond v)
+  in_by_peering-flow k x h beyond None = (refl, (tt, tt))
+  in_by_peering-flow k x h beyond (Some v) =
+      cond_both (not (is_within beyond h.src)) _ _ (Flows opens d (FarIn k) h) (λ _. (refl, (tt, tt)))
+      (λ _. cond_both (not (has_block d v h.dst)) _ _ (Flows opens d (FarIn k) h) (λ _. (refl, (tt, tt))) (λ _. past (FarIn k) h refl (Enter v (through.Peering x)) refl))
+
+  in_by_attachment-flow : (k : FarNo) (h : Header) (t : Option TgwTableNo) → Flows opens d (FarIn k) h (in_by_attachment d k h t)
+  in_by_attachment-flow k h None = (refl, (tt, tt))
+  in_by_attachment-flow k h (Some t) = let table = tgw_table_at d t in by_tgw_route-flow (FarIn k) h refl None t (chosen_tgw_route table.routes h.dst)
+
+  in_by_endpoint-flow : (label : Label) (k : FarNo) (h : Header) (v : Option VpcNo) → Flows opens d (FarIn k) h (in_by_endpoint label k h v)
+  in_by_endpoint-flow Opening k h v = (refl, (tt, tt))
+  in_by_endpoint-flow Answer k h v = in_by_gateway-flow k h v
+
+  in_by-flow : (label : Label) (k : FarNo) (f : Far) (h : Header) (kind : FarKind) → Flows opens d (FarIn k) h (in_by d label k f h kind)
+  in_by-flow label k f h (kinds.PrivateGateway vpc) = in_by_gateway-flow k h (vpc_beside d f)
+  in_by-flow label k f h (kinds.Attachment vpc) = in_by_attachment-flow k h (table_of_attachment_id d f.id)
+  in_by-flow label k f h (kinds.Peering requester accepter) = in_by_peering-flow k (peering_to d f) h (blocks_beyond d f) (vpc_beside d f)
+  in_by-flow label k f h (kinds.Endpoint vpc) = in_by_endpoint-flow label k h (vpc_beside d f)
+
+  step_inspect-flow : (e : FirewallNo) (m : Moment) → Flows opens d (Inspect e) m.header (step_inspect d e m).next
+  step_inspect-flow e m = cond_both (passes (boxes_behind d e) m.header) _ _ (Flows opens d (Inspect e) m.header) (λ _. (past_none refl refl, itself)) (λ _. (refl, (tt, tt)))
 
 -- ---- all places
 
 pub step_at-flow : (d : Description) (appliances : Appliances) (label : Label) (p : Place) (m : Moment) → Flows (IsOpenAmong label m.nats) d p m.header (step_at d appliances label p m).next
 step_at-flow d appliances label (OutOf i) m = step_out-flow _ d label i m
 step_at-flow d appliances label (Router s came) m = step_router-flow _ d s came m
-step_at-flow d appliances label (Enter v by) m = enter_host-flow _ d v by m.header (host_of d v m.header.dst) refl
+step_at-flow d appliances label (Enter v by) m = enter_by_table-flow _ d v by m.header (entrance_table d v by)
 step_at-flow d appliances label (Into i) m = step_into-flow _ d appliances label i m
 step_at-flow d appliances label (IgwOut v) m = go_public-flow _ d v m.header (public_of d v m.header.src)
 step_at-flow d appliances label Internet m = step_internet-flow _ d m
@@ -372,6 +516,9 @@ step_at-flow d appliances label (NatIn n) m = step_nat_in-flow d label n m
 step_at-flow d appliances label (Peer x v) m = let row = peering_at d x in by_pair-flow _ d x v m.header row.pair
 step_at-flow d appliances label (Tgw a s) m = by_tgw_table-flow _ d a s m.header (table_of_attachment d a)
 step_at-flow d appliances label (TgwLeave a s) m = leave_by-flow _ d a s m.header (leave_subnet d a s)
+step_at-flow d appliances label (FarOut k) m = let f = far_at d k in out_by-flow _ d k f m.header f.kind
+step_at-flow d appliances label (FarIn k) m = let f = far_at d k in in_by-flow _ d label k f m.header f.kind
+step_at-flow d appliances label (Inspect e) m = step_inspect-flow _ d e m
 
 -- ---- the laws
 

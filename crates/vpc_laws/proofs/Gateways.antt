@@ -59,7 +59,7 @@ private-found d v h (Some p) e =
     (refl, inl (subst (λ a. HasPair d v p.0 a) (eqb-true p.1 h.dst found.0) (pairs_in-member d v p found.1)))
 
 -- a step at a place that is given
-at-place : (d : Description) (appliances : Appliances) (label : Label) (m : Moment) (p : Place) (P : Step → Type 0) → m.place ≡ p → P (step_at d appliances label p m) → P (step_of d appliances label m)
+pub at-place : (d : Description) (appliances : Appliances) (label : Label) (m : Moment) (p : Place) (P : Step → Type 0) → m.place ≡ p → P (step_at d appliances label p m) → P (step_of d appliances label m)
 at-place d appliances label m p P here good = subst (λ q. P (step_at d appliances label q m)) (sym here) good
 
 pub outward_changes_source : (d : Description) (appliances : Appliances) (label : Label) (m : Moment) (v : VpcNo) → m.place ≡ IgwOut v

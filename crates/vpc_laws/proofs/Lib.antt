@@ -1,6 +1,7 @@
 pub mod ByMemory
 pub mod Growth
 pub mod Flow
+pub mod Following
 pub mod Ports
 pub mod Books
 pub mod Walking
@@ -10,6 +11,7 @@ pub mod Choosing
 pub mod Rows
 pub mod Sorting
 pub mod Stepping
+pub mod Beyond
 pub mod Passing
 pub mod Adding
 pub mod Gateways

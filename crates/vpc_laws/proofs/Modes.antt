@@ -5,7 +5,7 @@ use Rattle.vpc_base.specs.declared.headers.Label.TheVariants as labels
 use Rattle.vpc_laws.proofs.Opened.{step_at-off, step_at-or}
 use Rattle.vpc_laws.specs.Access.{IsBlockedNext, IsBlockedVerdict, IsOff, opened}
 use Rattle.vpc_laws.specs.Types.{Description, End, Header, Hop, Label, Outcome, Place, SubnetNo, Verdict}
-use Rattle.vpc_model.specs.Terms.{Appliances, Connection, Moment, Next, Step, Translation, Walk, arrive, ended, go, is_visited, same_end, start_of, step_of, stop, verdict_of, verdict_of_arrival, verdict_of_reply, verdict_of_request, walk_of, walk_on}
+use Rattle.vpc_model.specs.Terms.{Appliances, Connection, Moment, Next, Step, Translation, Walk, alone, arrive, ended, go, is_visited, same_end, start_of, step_of, stop, verdict_of, verdict_of_arrival, verdict_of_reply, verdict_of_request, walk_of, walk_on}
 use Rattle.vpc_model.specs.declared.outcomes.Outcome.TheVariants as outcomes
 use Rattle.vpc_model.specs.declared.outcomes.Phase.TheVariants as phases
 use Rattle.vpc_model.specs.declared.outcomes.Verdict.TheVariants as verdicts
@@ -104,16 +104,16 @@ module _ (d : Description) (appliances : Appliances) (start goal : End) (h : Hea
   by-end false x v w or = inr refl
 
   arrival-or : (request : Walk) (r : Option Header)
-      → VerdictOr (verdict_of_arrival d appliances start goal h request r) (verdict_of_arrival (opened d) appliances start goal h request r)
+      → VerdictOr (verdict_of_arrival d appliances (alone start) goal h request r) (verdict_of_arrival (opened d) appliances (alone start) goal h request r)
   arrival-or request None = inr refl
   arrival-or request (Some r) =
       elim (walk_of-or d appliances labels.Answer (moment (start_of goal) r request.conns request.nats)) [
-        | inl b ↦ inl (record { phase = phases.Reply; subnet = b.0; stops_there = ap (verdict_of_reply start h) b.1 })
-        | inr same ↦ inr (ap (λ (w : Walk). verdict_of_reply start h w.outcome) same)
+        | inl b ↦ inl (record { phase = phases.Reply; subnet = b.0; stops_there = ap (verdict_of_reply (alone start) h) b.1 })
+        | inr same ↦ inr (ap (λ (w : Walk). verdict_of_reply (alone start) h w.outcome) same)
       ]
 
   request-or : (request : Walk) (o : Outcome)
-      → VerdictOr (verdict_of_request d appliances start goal h request o) (verdict_of_request (opened d) appliances start goal h request o)
+      → VerdictOr (verdict_of_request d appliances (alone start) goal h request o) (verdict_of_request (opened d) appliances (alone start) goal h request o)
   request-or request (outcomes.Stopped s) = inr refl
   request-or request (outcomes.Arrived end k) =
       by-end (same_end end goal) (verdicts.Stopped phases.Request (stops.WrongPlace end)) _ _ (arrival-or request (reply_of k))
@@ -123,8 +123,8 @@ module _ (d : Description) (appliances : Appliances) (start goal : End) (h : Hea
       let m = moment (start_of start) h [] [] in
       let w = walk_of d appliances labels.Opening m in
       elim (walk_of-or d appliances labels.Opening m) [
-        | inl b ↦ inl (record { phase = phases.Request; subnet = b.0; stops_there = ap (verdict_of_request d appliances start goal h w) b.1 })
+        | inl b ↦ inl (record { phase = phases.Request; subnet = b.0; stops_there = ap (verdict_of_request d appliances (alone start) goal h w) b.1 })
         | inr same ↦
-            subst (λ (x : Walk). VerdictOr (verdict_of_request d appliances start goal h w w.outcome) (verdict_of_request (opened d) appliances start goal h x x.outcome)) same
+            subst (λ (x : Walk). VerdictOr (verdict_of_request d appliances (alone start) goal h w w.outcome) (verdict_of_request (opened d) appliances (alone start) goal h x x.outcome)) same
             (request-or w w.outcome)
       ]

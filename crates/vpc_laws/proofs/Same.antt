@@ -4,11 +4,11 @@ use Rattle.std.specs.Bool.{Decides}
 use Rattle.std.proofs.lemmas.Bool.{and_parts, and_from, eqb-true, eq-eqb, false≢true}
 use Rattle.vpc_base.specs.Dir.{same_dir}
 use Rattle.vpc_base.specs.declared.headers.Dir.TheVariants.{Inward, Outward}
-use Rattle.vpc_model.specs.declared.places.Came.TheVariants.{Host, Nat, Transit}
-use Rattle.vpc_model.specs.declared.places.End.TheVariants.{Interface, Internet as AtInternet}
-use Rattle.vpc_model.specs.declared.places.EnterBy.TheVariants.{Gateway, Peering}
-use Rattle.vpc_model.specs.declared.places.Place.TheVariants.{OutOf, Router, Enter, Into, IgwOut, Internet, IgwIn, NatOut, NatIn, Peer, Tgw, TgwLeave}
-use Rattle.vpc_laws.specs.Types.{AttNo, Came, Dir, End, EniNo, EnterBy, Header, NatNo, PeerNo, Place, SubnetNo, VpcNo}
+use Rattle.vpc_model.specs.declared.places.Came.TheVariants.{Firewall, Host, Nat, Transit}
+use Rattle.vpc_model.specs.declared.places.End.TheVariants.{Far as AtFar, Interface, Internet as AtInternet}
+use Rattle.vpc_model.specs.declared.places.EnterBy.TheVariants.{Far, Gateway, Peering}
+use Rattle.vpc_model.specs.declared.places.Place.TheVariants.{OutOf, Router, Enter, Into, IgwOut, Internet, IgwIn, NatOut, NatIn, Peer, Tgw, TgwLeave, FarOut, FarIn, Inspect}
+use Rattle.vpc_laws.specs.Types.{AttNo, Came, Dir, End, EniNo, EnterBy, FarNo, FirewallNo, Header, NatNo, PeerNo, Place, SubnetNo, VpcNo}
 use Rattle.vpc_model.specs.Connections.{Connection, same_connection, same_header}
 use Rattle.vpc_model.specs.Verdict.{same_end}
 use Rattle.vpc_model.specs.Walk.{same_came, same_enter, same_place}
@@ -35,6 +35,12 @@ PeerNo-same a b e = let make : ℕ → PeerNo = λ k. record { 0 = k } in ap mak
 pub AttNo-same : (a b : AttNo) → (a.0 == b.0) ≡ true → a ≡ b
 AttNo-same a b e = let make : ℕ → AttNo = λ k. record { 0 = k } in ap make (eqb-true a.0 b.0 e)
 
+pub FarNo-same : (a b : FarNo) → (a.0 == b.0) ≡ true → a ≡ b
+FarNo-same a b e = let make : ℕ → FarNo = λ k. record { 0 = k } in ap make (eqb-true a.0 b.0 e)
+
+pub FirewallNo-same : (a b : FirewallNo) → (a.0 == b.0) ≡ true → a ≡ b
+FirewallNo-same a b e = let make : ℕ → FirewallNo = λ k. record { 0 = k } in ap make (eqb-true a.0 b.0 e)
+
 pub itself : (n : ℕ) → (n == n) ≡ true
 itself n = eq-eqb n n refl
 
@@ -44,21 +50,25 @@ same_came-true : (a b : Came) → same_came a b ≡ true → a ≡ b
 same_came-true (Host i) (Host j) e = ap Host (EniNo-same i j e)
 same_came-true (Nat n) (Nat o) e = ap Nat (NatNo-same n o e)
 same_came-true (Transit x) (Transit y) e = ap Transit (AttNo-same x y e)
+same_came-true (Firewall x) (Firewall y) e = ap Firewall (FirewallNo-same x y e)
 same_came-true _ _ e = absurd (false≢true e)
 
 same_came-refl : (a : Came) → same_came a a ≡ true
 same_came-refl (Host i) = itself i.0
 same_came-refl (Nat n) = itself n.0
 same_came-refl (Transit x) = itself x.0
+same_came-refl (Firewall x) = itself x.0
 
 same_enter-true : (a b : EnterBy) → same_enter a b ≡ true → a ≡ b
 same_enter-true Gateway Gateway e = refl
 same_enter-true (Peering x) (Peering y) e = ap Peering (PeerNo-same x y e)
+same_enter-true (Far k) (Far l) e = ap Far (FarNo-same k l e)
 same_enter-true _ _ e = absurd (false≢true e)
 
 same_enter-refl : (a : EnterBy) → same_enter a a ≡ true
 same_enter-refl Gateway = refl
 same_enter-refl (Peering x) = itself x.0
+same_enter-refl (Far k) = itself k.0
 
 pub same_place-true : (p q : Place) → same_place p q ≡ true → p ≡ q
 same_place-true (OutOf i) (OutOf j) e = ap OutOf (EniNo-same i j e)
@@ -73,6 +83,9 @@ same_place-true (NatIn n) (NatIn o) e = ap NatIn (NatNo-same n o e)
 same_place-true (Peer x v) (Peer y w) e = let parts = and_parts (x.0 == y.0) (v.0 == w.0) e in ap₂ Peer (PeerNo-same x y parts.0) (VpcNo-same v w parts.1)
 same_place-true (Tgw a s) (Tgw b t) e = let parts = and_parts (a.0 == b.0) (s.0 == t.0) e in ap₂ Tgw (AttNo-same a b parts.0) (SubnetNo-same s t parts.1)
 same_place-true (TgwLeave a s) (TgwLeave b t) e = let parts = and_parts (a.0 == b.0) (s.0 == t.0) e in ap₂ TgwLeave (AttNo-same a b parts.0) (SubnetNo-same s t parts.1)
+same_place-true (FarOut k) (FarOut l) e = ap FarOut (FarNo-same k l e)
+same_place-true (FarIn k) (FarIn l) e = ap FarIn (FarNo-same k l e)
+same_place-true (Inspect x) (Inspect y) e = ap Inspect (FirewallNo-same x y e)
 same_place-true _ _ e = absurd (false≢true e)
 
 pub same_place-refl : (p : Place) → same_place p p ≡ true
@@ -88,6 +101,9 @@ same_place-refl (NatIn n) = itself n.0
 same_place-refl (Peer x v) = and_from (x.0 == x.0) (v.0 == v.0) (itself x.0) (itself v.0)
 same_place-refl (Tgw a s) = and_from (a.0 == a.0) (s.0 == s.0) (itself a.0) (itself s.0)
 same_place-refl (TgwLeave a s) = and_from (a.0 == a.0) (s.0 == s.0) (itself a.0) (itself s.0)
+same_place-refl (FarOut k) = itself k.0
+same_place-refl (FarIn k) = itself k.0
+same_place-refl (Inspect x) = itself x.0
 
 pub places_are_told_apart : (p q : Place) → Decides (same_place p q) (p ≡ q)
 places_are_told_apart p q = (same_place-true p q, λ e. subst (λ (r : Place). same_place p r ≡ true) e (same_place-refl p))
@@ -111,6 +127,11 @@ ends_are_told_apart (Interface i) (Interface j) = (λ e. ap Interface (EniNo-sam
 ends_are_told_apart AtInternet AtInternet = (λ e. refl, λ e. refl)
 ends_are_told_apart (Interface i) AtInternet = (λ e. absurd (false≢true e), λ e. cc)
 ends_are_told_apart AtInternet (Interface j) = (λ e. absurd (false≢true e), λ e. cc)
+ends_are_told_apart (AtFar k) (AtFar l) = (λ e. ap AtFar (FarNo-same k l e), λ e. subst (λ (b : End). same_end (AtFar k) b ≡ true) e (itself k.0))
+ends_are_told_apart (AtFar k) (Interface j) = (λ e. absurd (false≢true e), λ e. cc)
+ends_are_told_apart (AtFar k) AtInternet = (λ e. absurd (false≢true e), λ e. cc)
+ends_are_told_apart (Interface i) (AtFar l) = (λ e. absurd (false≢true e), λ e. cc)
+ends_are_told_apart AtInternet (AtFar l) = (λ e. absurd (false≢true e), λ e. cc)
 
 pub same_dir-true : (a b : Dir) → same_dir a b ≡ true → a ≡ b
 same_dir-true Inward Inward e = refl

@@ -1,25 +1,35 @@
 -- In an accepted description steps lead to sound places, and their stops and rules can be told.
 use Rattle.std.proofs.Common.{Bool, Contains, List, None, Option, Some, [], arith, bytes_eq, cond, false, find, flat_map, inl, inr, is_none, is_some, leb, length, ltb, map, not, option_and_then, option_map, position, refl, slice_index_or, subst, sym, true, unwrap_or, ℕ, ◌&&◌, ◌+◌, ◌==◌, ◌||◌, ◌∙◌, ◌∷◌, ◌≡◌}
-use Rattle.vpc_base.proofs.Lemmas.{Contains-cases, Contains-here, Contains-none, and_from, and_parts, both_ways, cases_Bool, cond_both, false≢true, find-member, flat_map-member, le-leb, ltb-true, or_cases, position-at, row-member, same_bytes}
+use Rattle.vpc_base.proofs.Lemmas.{Contains-cases, Contains-here, Contains-none, and_from, and_parts, both_ways, bytes_self, cases_Bool, cond_both, false≢true, find-member, flat_map-member, le-leb, ltb-true, member-list_any, or_cases, position-at, row-member, same_bytes}
 use Rattle.vpc_base.specs.declared.headers.Dir.TheVariants.{Inward, Outward}
 use Rattle.vpc_base.specs.declared.headers.Label.TheVariants.{Answer, Opening}
-use Rattle.vpc_laws.specs.Types.{Association, AttNo, Attachment, Box5, By, Description, Dir, EniNo, Group, GroupNo, Header, IgwNo, Interface, InternetGateway, Label, NatGateway, NatLife, NatNo, PeerNo, Place, RuleRef, Stop, SubnetNo, TableNo, Target, TgwRoute, TgwTable, TgwTableNo, VpcNo}
+use Rattle.vpc_laws.specs.Types.{Association, AttNo, Attachment, Block, Box5, By, Description, Dir, EniNo, EnterBy, Far, FarKind, FarNo, FirewallEndpoint, FirewallNo, Group, GroupNo, Header, IgwNo, Interface, InternetGateway, Label, NatGateway, NatLife, NatNo, PeerNo, Place, RouteTable, RuleRef, Stop, SubnetNo, TableNo, Target, TgwRoute, TgwTable, TgwTableNo, Vpc, VpcNo}
 use Rattle.vpc_model.specs.declared.outcomes.By.TheVariants as bys
 use Rattle.vpc_model.specs.declared.places.End.TheVariants as ends
 use Rattle.vpc_model.specs.declared.stops.Foreign.TheVariants as foreign
+use Rattle.vpc_model.specs.declared.rows.FarKind.TheVariants as kinds
 use Rattle.vpc_model.specs.declared.rows.NatLife.TheVariants as lives
 use Rattle.vpc_model.specs.declared.places.EnterBy.TheVariants as through
 use Rattle.vpc_model.specs.declared.places.Place.TheVariants as places
 use Rattle.vpc_model.specs.declared.stops.Stop.TheVariants as stops
 use Rattle.vpc_model.specs.declared.rows.Target.TheVariants as targets
-use Rattle.vpc_model.specs.Terms.{Appliances, Connection, IsAccepted, Moment, Next, Step, Translation, acl_at, acl_of, acl_verdict, arrive, attachment_at, attachment_for, attachment_of_id, beats, beats_tgw, blocked, blocked_at, boxes_at, by_attachment, by_pair, by_route, by_tgw_route, by_tgw_table, chosen_route, chosen_tgw_route, crossing, deliver, deliver_by, eni_no, enter_host, entering, first_rule_of, first_subnet, forwarded, from_inward, from_nat, gateway_of, go, go_private, go_public, group_at, group_of_id, has_address, has_block, has_foreign_text, has_gateway, has_rule, has_subnet, has_text, has_vpc, host_of, igw_no, in_passing, interface_at, inward, is_attached, is_attachment, is_blocked, is_candidate, is_eni, is_eni_of, is_entry, is_full, is_gateway, is_group, is_igw, is_in_vpc, is_in_zone, is_listed, is_live, is_nat, is_origin, is_peering, is_route, is_rule, is_side, is_sound, is_subnet, is_subnet_of, is_table, is_tgw_route, is_tgw_table, is_translatable, is_unbeaten, is_unroutable, is_vpc, joins, leave_by, leave_subnet, leaving, nat_at, nat_no, nat_of, new_translation, no_group, no_interface, no_permission, no_route, no_tgw_route, or_else, other_side, out_passing, own_address, own_subnet, owned_by, owner_of, pairs_of, passes, passing_of, peer_no, peering_at, permission_allows, permissions_of, private_of, public_of, rule_of_group, step_at, step_internet, step_into, step_nat_in, step_nat_out, step_of, step_out, stop, subnet_at, subnet_no, subnet_of, table_at, table_of, table_of_attachment, tgw_table_at, tgw_table_of_id, to_attachment, to_host, to_interface, to_internet, to_nat, to_owner, to_peer, to_target, to_transit, to_zone, translate, translation_of, unless_stopped, vpc_at, vpc_no, vpc_of_interface, vpc_of_rules, vpc_of_subnet, zone_subnet}
+use Rattle.vpc_model.specs.Terms.{Appliances, Connection, IsAccepted, Moment, Next, Step, Translation, acl_at, acl_of, acl_verdict, arrive, attachment_at, attachment_for, attachment_of_id, beats, beats_tgw, blocked, blocked_at, boxes_at, by_attachment, by_pair, by_route, by_tgw_route, by_tgw_table, chosen_route, chosen_tgw_route, crossing, deliver, deliver_by, eni_no, enter_host, entering, first_rule_of, first_subnet, forwarded, from_inward, from_nat, gateway_of, go, go_private, go_public, group_at, group_of_id, has_address, has_block, has_foreign_text, has_gateway, has_rule, has_subnet, has_text, has_vpc, host_of, igw_no, in_passing, interface_at, inward, is_attached, is_attachment, is_blocked, is_candidate, is_end, is_eni, is_eni_of, is_entry, is_full, is_gateway, is_group, is_igw, is_in_vpc, is_in_zone, is_listed, is_live, is_nat, is_origin, is_peering, is_route, is_rule, is_side, is_sound, is_subnet, is_subnet_of, is_table, is_tgw_route, is_tgw_table, is_translatable, is_unbeaten, is_unroutable, is_vpc, joins, leave_by, leave_subnet, leaving, nat_at, nat_no, nat_of, new_translation, no_group, no_interface, no_permission, no_route, no_tgw_route, or_else, other_side, out_passing, own_address, own_subnet, owned_by, owner_of, pairs_of, passes, passing_of, peer_no, peering_at, permission_allows, permissions_of, private_of, public_of, rule_of_group, step_at, step_internet, step_into, step_nat_in, step_nat_out, step_of, step_out, stop, subnet_at, subnet_no, subnet_of, table_at, table_of, table_of_attachment, tgw_table_at, tgw_table_of_id, to_attachment, to_host, to_interface, to_internet, to_nat, to_owner, to_peer, to_target, to_transit, to_zone, translate, translation_of, unless_stopped, vpc_at, vpc_no, vpc_of_interface, vpc_of_rules, vpc_of_subnet, zone_subnet}
 use Rattle.prefix_text.specs.Block.{holds}
 use Rattle.vpc_laws.specs.Terms.{AsksGroups, HasAllNamed, HasTarget, IdsHaveNumbers, LeadsWell, LetsPass, NumbersAreInRange, own_connection}
 use Rattle.vpc_laws.proofs.Accepting.{accepted_has_all_named}
 use Rattle.vpc_laws.proofs.Flow.{taken_by}
 use Rattle.vpc_laws.proofs.Numbering.{accepted_numbers_are_in_range, ids_are_found}
 use Rattle.vpc_laws.proofs.Passing.{packets_pass_by_groups}
-use Rattle.vpc_model.specs.Lookup.{no_attachment, no_igw, no_nat, no_subnet, no_table, no_tgw_table}
+use Rattle.vpc_model.specs.Far.{blocks_beyond, described_vpc, far_end_of_id, far_of_id, is_far_end, is_half, is_within, peering_to, table_of_attachment_id, vpc_beside, vpc_of_pair}
+use Rattle.vpc_model.specs.Firewalls.{boxes_behind, edge_table, entrance, entrance_table, firewall_of, firewall_of_id, is_firewall_in, is_followed}
+use Rattle.vpc_model.specs.Lookup.{far_at, firewall_at, has_peering, no_attachment, no_far, no_firewall, no_igw, no_nat, no_subnet, no_table, no_tgw_table, no_vpc}
+use Rattle.vpc_model.specs.Sound.{is_far, is_firewall}
+use Rattle.vpc_model.specs.Step.Enter.{enter_by_route, enter_by_table, enter_firewall, enter_interface, enter_target}
+use Rattle.vpc_model.specs.Step.Far.{in_by, in_by_attachment, in_by_endpoint, in_by_gateway, in_by_peering, out_by, over_half_peering, to_service}
+use Rattle.vpc_model.specs.Step.Inspect.{firewall_subnet, step_inspect}
+use Rattle.vpc_model.specs.Step.Router.{is_beside, to_endpoint, to_far, to_firewall, to_half_peering, to_network_by, to_other, to_private_gateway}
+use Rattle.vpc_model.specs.Step.Transit.{to_attached, to_first, to_leave}
+use Rattle.vpc_model.specs.Transit.{first_described}
 
 -- what is known of a description
 pub record IsKnown (d : Description) : Type 0 where
@@ -138,6 +148,123 @@ leave-found d known a s inside =
     cond_both (has_vpc d att.vpc) (or_else (zone_subnet d a s) (first_subnet d att.subnets)) None (IfFound (is_subnet d))
     (λ there. if_found-else (is_subnet d) (zone_subnet d a s) (first_subnet d att.subnets) (zone-found d known a s inside there) (first_subnet-found d known a inside there att.subnets refl)) (λ _. tt)
 
+first_described-found : (d : Description) → IsKnown d → (ids : List (List ℕ)) → IfFound (is_subnet d) (first_described d ids)
+first_described-found d known [] = tt
+first_described-found d known (id ∷ ids) =
+    let numbers = known.ids in
+    cond_both (has_subnet d id) (Some (subnet_no d id)) None (IfFound (is_subnet d)) (λ there. (numbers.subnet id there).0) (λ _. tt)
+
+-- ---- networks that aren't described
+
+far_of_id-found : (d : Description) (id : List ℕ) → IfFound (is_far d) (far_of_id d id)
+far_of_id-found d id =
+    let p : Far → Bool = λ f. bytes_eq f.id id in
+    let make : ℕ → FarNo = λ k. record { 0 = k } in
+    found-by make (is_far d) p d.fars no_far (λ k inside _. inside) (position p d.fars) refl
+
+-- a network that is an end
+abbrev is_outside : Description → FarNo → Bool
+is_outside d k = is_end d (ends.Far k)
+
+end_by-found : (d : Description) (k : Option FarNo) → IfFound (is_far d) k → IfFound (is_outside d) (option_and_then (λ (k : FarNo). cond (is_far_end d (far_at d k)) (Some k) None) k)
+end_by-found d None found = tt
+end_by-found d (Some k) found =
+    cond_both (is_far_end d (far_at d k)) (Some k) None (IfFound (is_outside d)) (λ ends. and_from (is_far d k) (is_far_end d (far_at d k)) found ends) (λ _. tt)
+
+far_end-found : (d : Description) (id : List ℕ) → IfFound (is_outside d) (far_end_of_id d id)
+far_end-found d id = end_by-found d (far_of_id d id) (far_of_id-found d id)
+
+described-found : (d : Description) → IsKnown d → (vpc : Option (List ℕ)) → IfFound (is_vpc d) (described_vpc d vpc)
+described-found d known None = tt
+described-found d known (Some vpc) = let ids = known.ids in cond_both (has_vpc d vpc) (Some (vpc_no d vpc)) None (IfFound (is_vpc d)) (λ there. (ids.vpc vpc there).0) (λ _. tt)
+
+pair-found : (d : Description) → IsKnown d → (pair : Option (List ℕ × List ℕ)) → IfFound (is_vpc d) (vpc_of_pair d pair)
+pair-found d known None = tt
+pair-found d known (Some pair) =
+    let ids = known.ids in
+    cond_both (has_vpc d pair.0) (Some (vpc_no d pair.0)) (described_vpc d (Some pair.1)) (IfFound (is_vpc d)) (λ there. (ids.vpc pair.0 there).0) (λ _. described-found d known (Some pair.1))
+
+beside-by : (d : Description) → IsKnown d → (id : List ℕ) (kind : FarKind) → IfFound (is_vpc d) (vpc_beside d (record { id = id; kind = kind }))
+beside-by d known id (kinds.PrivateGateway vpc) = described-found d known vpc
+beside-by d known id (kinds.Attachment vpc) = tt
+beside-by d known id (kinds.Peering requester accepter) = let x = peering_at d (peer_no d id) in pair-found d known x.pair
+beside-by d known id (kinds.Endpoint vpc) = described-found d known (Some vpc)
+
+beside-found : (d : Description) → IsKnown d → (f : Far) → IfFound (is_vpc d) (vpc_beside d f)
+beside-found d known f = beside-by d known f.id f.kind
+
+-- by what leads there it is an end
+is_end-by : (d : Description) (k : FarNo) (kind : FarKind) → is_far d k ≡ true → (let f = far_at d k in f.kind ≡ kind) → (let f = far_at d k in is_far_end d (record { id = f.id; kind = kind }) ≡ true) → is_outside d k ≡ true
+is_end-by d k kind inside is ends =
+    let f = far_at d k in
+    and_from (is_far d k) (is_far_end d f) inside (subst (λ (x : FarKind). is_far_end d (record { id = f.id; kind = x }) ≡ true) (sym is) ends)
+
+-- a peering that leads to an end is described
+peering-found : (d : Description) → IsKnown d → (f : Far) (requester accepter : List Block) → is_far_end d f ≡ true → f.kind ≡ kinds.Peering requester accepter → is_peering d (peering_to d f) ≡ true
+peering-found d known f requester accepter ends is =
+    let ids = known.ids in
+    let row = peering_at d (peer_no d f.id) in
+    let half : (has_peering d f.id && is_half d row.pair) ≡ true = subst (λ (x : FarKind). is_far_end d (record { id = f.id; kind = x }) ≡ true) is ends in
+    (ids.peering f.id (and_parts (has_peering d f.id) (is_half d row.pair) half).0).0
+
+beside-described : (d : Description) (v : VpcNo) (vpc : List ℕ) → is_beside v (described_vpc d (Some vpc)) ≡ true → has_vpc d vpc ≡ true
+beside-described d v vpc beside =
+    elim (cases_Bool (has_vpc d vpc)) [
+      | inl there ↦ there
+      | inr lacks ↦ let none : false ≡ true = (rw lacks at beside) in absurd (false≢true none)
+    ]
+
+attachment_id-table : (d : Description) (id : List ℕ) → IfFound (is_tgw_table d) (table_of_attachment_id d id)
+attachment_id-table d id =
+    and_then-found (is_tgw_table d) (λ (x : Association). tgw_table_of_id d x.table) (λ x. tgw_table-found d x.table) (find (λ (x : Association). bytes_eq x.attachment id) d.associations)
+
+-- ---- firewall endpoints, and the tables of gateways
+
+-- a firewall endpoint that is followed, of a described VPC
+abbrev is_watching : Description → FirewallNo → Bool
+is_watching d e = is_sound d (places.Inspect e)
+
+firewall_of_id-found : (d : Description) (id : List ℕ) → IfFound (is_firewall d) (firewall_of_id d id)
+firewall_of_id-found d id =
+    let p : FirewallEndpoint → Bool = λ e. bytes_eq e.id id in
+    let make : ℕ → FirewallNo = λ k. record { 0 = k } in
+    found-by make (is_firewall d) p d.firewalls no_firewall (λ k inside _. inside) (position p d.firewalls) refl
+
+vpc-there : (d : Description) (v : VpcNo) → is_vpc d v ≡ true → let row = vpc_at d v in has_vpc d row.id ≡ true
+vpc-there d v inside = let row = vpc_at d v in member-list_any (λ (x : Vpc). bytes_eq x.id row.id) d.vpcs row (row-member d.vpcs v.0 no_vpc inside) (bytes_self row.id)
+
+firewall_by-found : (d : Description) (v : VpcNo) (e : Option FirewallNo) → is_vpc d v ≡ true → IfFound (is_firewall d) e → IfFound (is_watching d) (option_and_then (λ (e : FirewallNo). cond (is_firewall_in d v e) (Some e) None) e)
+firewall_by-found d v None inside found = tt
+firewall_by-found d v (Some e) inside found =
+    let row = firewall_at d e in
+    let vpc = vpc_at d v in
+    cond_both (is_firewall_in d v e) (Some e) None (IfFound (is_watching d))
+    (λ lies.
+    let parts = and_parts (bytes_eq row.vpc vpc.id) (is_followed d row) lies in
+    let there = subst (λ id. has_vpc d id ≡ true) (sym (same_bytes row.vpc vpc.id parts.0)) (vpc-there d v inside) in
+    and_from (is_firewall d e) (is_followed d row && has_vpc d row.vpc) found (and_from (is_followed d row) (has_vpc d row.vpc) parts.1 there))
+    (λ _. tt)
+
+firewall-found : (d : Description) (v : VpcNo) (id : List ℕ) → is_vpc d v ≡ true → IfFound (is_watching d) (firewall_of d v id)
+firewall-found d v id inside = firewall_by-found d v (firewall_of_id d id) inside (firewall_of_id-found d id)
+
+firewall-subnet : (d : Description) → IsKnown d → (e : FirewallNo) → is_watching d e ≡ true → is_subnet d (firewall_subnet d e) ≡ true
+firewall-subnet d known e works =
+    let named = known.named in
+    let row = firewall_at d e in
+    let outer = and_parts (is_firewall d e) (is_followed d row && has_vpc d row.vpc) works in
+    let inner = and_parts (is_followed d row) (has_vpc d row.vpc) outer.1 in
+    listed-found d known row.vpc row.subnet (named.subnet_of_firewall row (row-member d.firewalls e.0 no_firewall outer.0) inner.0 inner.1)
+
+edge_table-found : (d : Description) (id : List ℕ) → IfFound (is_table d) (edge_table d id)
+edge_table-found d id =
+    let p : RouteTable → Bool = λ t. is_listed id t.gateways in
+    let make : ℕ → TableNo = λ k. record { 0 = k } in
+    found-by make (is_table d) p d.tables no_table (λ k inside _. inside) (position p d.tables) refl
+
+entrance_table-found : (d : Description) (v : VpcNo) (by : EnterBy) → IfFound (is_table d) (entrance_table d v by)
+entrance_table-found d v by = and_then-found (is_table d) (edge_table d) (edge_table-found d) (entrance d v by)
+
 -- ---- crossing and delivering
 
 -- a stop that has a text, if there is one
@@ -240,6 +367,13 @@ subnet-vpc d known s inside =
     let there = named.vpc_of_subnet row (row-member d.subnets s.0 no_subnet inside) in
     (there, (ids.vpc row.vpc there).1)
 
+to_far-well : (d : Description) → IsKnown d → (s : SubnetNo) (h : Header) (k : FarNo) → is_subnet d s ≡ true → is_outside d k ≡ true → LeadsWell d (to_far d s h k)
+to_far-well d known s h k inside there = unless-well d (leaving d s h) (go (places.FarOut k) h) (leaving-told d known s h inside) there
+
+to_half_peering-well : (d : Description) → IsKnown d → (s : SubnetNo) (h : Header) (x : PeerNo) (k : Option FarNo) → is_subnet d s ≡ true → is_peering d x ≡ true → IfFound (is_outside d) k → LeadsWell d (to_half_peering d s h x k)
+to_half_peering-well d known s h x None inside within found = within
+to_half_peering-well d known s h x (Some k) inside within found = to_far-well d known s h k inside found
+
 to_peer-well : (d : Description) → IsKnown d → (s : SubnetNo) (h : Header) (x : PeerNo) (pair : Option (List ℕ × List ℕ)) → is_subnet d s ≡ true → is_peering d x ≡ true → (let row = peering_at d x in row.pair ≡ pair)
     → is_side (vpc_id d s) pair ≡ true → LeadsWell d (to_peer d s h x pair)
 to_peer-well d known s h x None inside within is side = within
@@ -248,12 +382,12 @@ to_peer-well d known s h x (Some pair) inside within is side =
     let v = vpc_of_subnet d s in
     let vpc = subnet-vpc d known s inside in
     let row = peering_at d x in
-    cond_both (has_vpc d (other_side (vpc_id d s) pair)) (unless_stopped (leaving d s h) (go (places.Peer x v) h)) (stop (stops.Unmodelled (foreign.Peering x))) (LeadsWell d)
+    cond_both (has_vpc d (other_side (vpc_id d s) pair)) (unless_stopped (leaving d s h) (go (places.Peer x v) h)) (to_half_peering d s h x (far_end_of_id d row.id)) (LeadsWell d)
     (λ far. unless-well d (leaving d s h) (go (places.Peer x v) h) (leaving-told d known s h inside)
     (and_from (is_peering d x) (is_vpc d v && joins d (vpc_id d s) row.pair) within
     (and_from (is_vpc d v) (joins d (vpc_id d s) row.pair) (range.vpc_of_subnet s inside)
     (subst (λ p. joins d (vpc_id d s) p ≡ true) (sym is) (pair-joins d (vpc_id d s) pair (subst (λ w. has_vpc d w ≡ true) (sym vpc.1) vpc.0) side far)))))
-    (λ _. within)
+    (λ _. to_half_peering-well d known s h x (far_end_of_id d row.id) inside within (far_end-found d row.id))
 
 to_zone-well : (d : Description) → IsKnown d → (s : SubnetNo) (h : Header) (a : AttNo) (t : Option SubnetNo) → is_subnet d s ≡ true → is_attachment d a ≡ true → IfFound (is_subnet d) t → LeadsWell d (to_zone d s h a t)
 to_zone-well d known s h a None inside within found = within
@@ -274,6 +408,38 @@ to_interface-well d known s h j inside within =
     unless-well d (crossing d s (subnet_of d j) h) (cond (is_gateway e.kind) (stop (stops.NotAHost j)) (go (places.Into j) h))
     (crossing-told d known s (subnet_of d j) h inside (range.subnet_of_interface j within)) (into-well d j h within)
 
+to_private_gateway-well : (d : Description) → IsKnown d → (s : SubnetNo) (h : Header) (k : FarNo) (attached : Bool) → is_subnet d s ≡ true → is_outside d k ≡ true → LeadsWell d (to_private_gateway d s h k attached)
+to_private_gateway-well d known s h k attached inside there =
+    cond_both attached (to_far d s h k) (stop (stops.FarDetached k)) (LeadsWell d) (λ _. to_far-well d known s h k inside there) (λ _. there)
+
+to_endpoint-well : (d : Description) → IsKnown d → (s : SubnetNo) (h : Header) (t : TableNo) (k : ℕ) (far : FarNo) (lies : Bool) → is_subnet d s ≡ true → is_route d t k ≡ true → (lies ≡ true → is_outside d far ≡ true) → LeadsWell d (to_endpoint d s h t k far lies)
+to_endpoint-well d known s h t k far lies inside route there =
+    cond_both lies (to_far d s h far) (stop (stops.Unmodelled (foreign.Target t k))) (LeadsWell d) (λ here. to_far-well d known s h far inside (there here)) (λ _. route)
+
+to_network_by-well : (d : Description) → IsKnown d → (s : SubnetNo) (h : Header) (t : TableNo) (k : ℕ) (far : FarNo) (kind : FarKind) → is_subnet d s ≡ true → is_route d t k ≡ true → is_far d far ≡ true → (let f = far_at d far in f.kind ≡ kind)
+    → LeadsWell d (to_network_by d s h t k far kind)
+to_network_by-well d known s h t k far (kinds.PrivateGateway vpc) inside route within is =
+    to_private_gateway-well d known s h far (is_beside (vpc_of_subnet d s) (vpc_beside d (far_at d far))) inside (is_end-by d far (kinds.PrivateGateway vpc) within is refl)
+to_network_by-well d known s h t k far (kinds.Endpoint vpc) inside route within is =
+    let v = vpc_of_subnet d s in
+    let f = far_at d far in
+    to_endpoint-well d known s h t k far (is_beside v (vpc_beside d f)) inside route
+    (λ beside. is_end-by d far (kinds.Endpoint vpc) within is (beside-described d v vpc (subst (λ (x : FarKind). is_beside v (vpc_beside d (record { id = f.id; kind = x })) ≡ true) is beside)))
+to_network_by-well d known s h t k far (kinds.Attachment vpc) inside route within is = route
+to_network_by-well d known s h t k far (kinds.Peering requester accepter) inside route within is = route
+
+to_firewall-well : (d : Description) → IsKnown d → (s : SubnetNo) (h : Header) (t : TableNo) (k : ℕ) (e : Option FirewallNo) → is_subnet d s ≡ true → is_route d t k ≡ true → IfFound (is_watching d) e → LeadsWell d (to_firewall d s h t k e)
+to_firewall-well d known s h t k None inside route found = route
+to_firewall-well d known s h t k (Some e) inside route found =
+    unless-well d (crossing d s (firewall_subnet d e) h) (go (places.Inspect e) h) (crossing-told d known s (firewall_subnet d e) h inside (firewall-subnet d known e found)) found
+
+to_other-well : (d : Description) → IsKnown d → (s : SubnetNo) (h : Header) (t : TableNo) (k : ℕ) (id : List ℕ) (far : Option FarNo) → is_subnet d s ≡ true → is_route d t k ≡ true → IfFound (is_far d) far → LeadsWell d (to_other d s h t k id far)
+to_other-well d known s h t k id None inside route found =
+    let range = known.range in
+    let v = vpc_of_subnet d s in
+    to_firewall-well d known s h t k (firewall_of d v id) inside route (firewall-found d v id (range.vpc_of_subnet s inside))
+to_other-well d known s h t k id (Some far) inside route found = let row = far_at d far in to_network_by-well d known s h t k far row.kind inside route found refl
+
 to_target-well : (d : Description) → IsKnown d → (s : SubnetNo) (h : Header) (t : TableNo) (k : ℕ) (target : Target) → is_subnet d s ≡ true → is_route d t k ≡ true → HasTarget d (vpc_id d s) target → LeadsWell d (to_target d s h t k target)
 to_target-well d known s h t k targets.Local inside route has = to_host-well d known s h (host_of d (vpc_of_subnet d s) h.dst) inside (host-found d (vpc_of_subnet d s) h.dst)
 to_target-well d known s h t k (targets.Internet id) inside route has = let ids = known.ids in to_internet-well d known s h (igw_no d id) inside (ids.gateway id has).0
@@ -281,7 +447,7 @@ to_target-well d known s h t k (targets.Nat id) inside route has = let ids = kno
 to_target-well d known s h t k (targets.Peer id) inside route has = let ids = known.ids in let row = peering_at d (peer_no d id) in to_peer-well d known s h (peer_no d id) row.pair inside (ids.peering id has.0).0 refl has.1
 to_target-well d known s h t k (targets.Transit id) inside route has = to_transit-well d known s h t k (attachment_for d id s) inside route (attachment-found d id s (subnet-vpc d known s inside).0)
 to_target-well d known s h t k (targets.Interface id) inside route has = let ids = known.ids in to_interface-well d known s h (eni_no d id) inside (ids.interface id has.0).0
-to_target-well d known s h t k (targets.Other id) inside route has = route
+to_target-well d known s h t k (targets.Other id) inside route has = to_other-well d known s h t k id (far_of_id d id) inside route (far_of_id-found d id)
 
 by_route-well : (d : Description) → IsKnown d → (s : SubnetNo) (h : Header) (k : Option ℕ) → is_subnet d s ≡ true → IfFound (is_route d (table_of d s)) k → LeadsWell d (by_route d s h (table_of d s) k)
 by_route-well d known s h None inside found = let range = known.range in range.table_of_subnet s inside
@@ -297,14 +463,14 @@ by_route-well d known s h (Some k) inside found =
     (subst (λ v. HasTarget d v r.target) (range.vpc_of_table s inside ∙ sym (subnet-vpc d known s inside).1)
     (named.target_of_route table r (row-member d.tables t.0 no_table parts.0) (row-member table.routes k no_route parts.1) alive)))
 
-route-found : (d : Description) → IsKnown d → (s : SubnetNo) → is_subnet d s ≡ true → (a : ℕ) (o : Option ℕ) → (let table = table_at d (table_of d s) in chosen_route d table.routes a ≡ o) → IfFound (is_route d (table_of d s)) o
-route-found d known s inside a None e = tt
-route-found d known s inside a (Some k) e =
-    let range = known.range in
-    let t = table_of d s in
+chosen-found : (d : Description) (t : TableNo) → is_table d t ≡ true → (a : ℕ) (o : Option ℕ) → (let table = table_at d t in chosen_route d table.routes a ≡ o) → IfFound (is_route d t) o
+chosen-found d t within a None e = tt
+chosen-found d t within a (Some k) e =
     let table = table_at d t in
-    and_from (is_table d t) (ltb k (length table.routes)) (range.table_of_subnet s inside)
-    (position-at (is_unbeaten (is_candidate d table.routes a) (beats d a) table.routes) table.routes k no_route e).0
+    and_from (is_table d t) (ltb k (length table.routes)) within (position-at (is_unbeaten (is_candidate d table.routes a) (beats d a) table.routes) table.routes k no_route e).0
+
+route-found : (d : Description) → IsKnown d → (s : SubnetNo) → is_subnet d s ≡ true → (a : ℕ) (o : Option ℕ) → (let table = table_at d (table_of d s) in chosen_route d table.routes a ≡ o) → IfFound (is_route d (table_of d s)) o
+route-found d known s inside a o e = let range = known.range in chosen-found d (table_of d s) (range.table_of_subnet s inside) a o e
 
 -- ---- gateways
 
@@ -313,6 +479,44 @@ enter_host-well d known v h None inside found = inside
 enter_host-well d known v h (Some i) inside found =
     let range = known.range in
     unless-well d (entering d (subnet_of d i) h) (deliver d i h) (entering-told d known (subnet_of d i) h (range.subnet_of_interface i found)) (deliver-well d i h found)
+
+enter_interface-well : (d : Description) → IsKnown d → (h : Header) (j : EniNo) → is_eni d j ≡ true → LeadsWell d (enter_interface d h j)
+enter_interface-well d known h j within =
+    let range = known.range in
+    let e = interface_at d j in
+    unless-well d (entering d (subnet_of d j) h) (cond (is_gateway e.kind) (stop (stops.NotAHost j)) (go (places.Into j) h))
+    (entering-told d known (subnet_of d j) h (range.subnet_of_interface j within)) (into-well d j h within)
+
+enter_firewall-well : (d : Description) → IsKnown d → (h : Header) (t : TableNo) (k : ℕ) (e : Option FirewallNo) → is_route d t k ≡ true → IfFound (is_watching d) e → LeadsWell d (enter_firewall d h t k e)
+enter_firewall-well d known h t k None route found = route
+enter_firewall-well d known h t k (Some e) route found =
+    unless-well d (entering d (firewall_subnet d e) h) (go (places.Inspect e) h) (entering-told d known (firewall_subnet d e) h (firewall-subnet d known e found)) found
+
+enter_target-well : (d : Description) → IsKnown d → (v : VpcNo) (h : Header) (t : TableNo) (k : ℕ) (vpc : List ℕ) (target : Target) → is_vpc d v ≡ true → is_route d t k ≡ true → HasTarget d vpc target → LeadsWell d (enter_target d v h t k target)
+enter_target-well d known v h t k vpc targets.Local inside route has = enter_host-well d known v h (host_of d v h.dst) inside (host-found d v h.dst)
+enter_target-well d known v h t k vpc (targets.Interface id) inside route has = let ids = known.ids in enter_interface-well d known h (eni_no d id) (ids.interface id has.0).0
+enter_target-well d known v h t k vpc (targets.Other id) inside route has = enter_firewall-well d known h t k (firewall_of d v id) route (firewall-found d v id inside)
+enter_target-well d known v h t k vpc (targets.Internet id) inside route has = route
+enter_target-well d known v h t k vpc (targets.Nat id) inside route has = route
+enter_target-well d known v h t k vpc (targets.Transit id) inside route has = route
+enter_target-well d known v h t k vpc (targets.Peer id) inside route has = route
+
+enter_by_route-well : (d : Description) → IsKnown d → (v : VpcNo) (h : Header) (t : TableNo) (k : Option ℕ) → is_vpc d v ≡ true → is_table d t ≡ true → IfFound (is_route d t) k → LeadsWell d (enter_by_route d v h t k)
+enter_by_route-well d known v h t None inside within found = within
+enter_by_route-well d known v h t (Some k) inside within found =
+    let named = known.named in
+    let table = table_at d t in
+    let r = slice_index_or table.routes k no_route in
+    let parts = and_parts (is_table d t) (ltb k (length table.routes)) found in
+    cond_both r.blackhole (stop (stops.Blackhole t k)) (enter_target d v h t k r.target) (LeadsWell d) (λ _. and_from (is_route d t k) (is_table d t) found within)
+    (λ alive. enter_target-well d known v h t k table.vpc r.target inside found
+    (named.target_of_route table r (row-member d.tables t.0 no_table within) (row-member table.routes k no_route parts.1) alive))
+
+enter_by_table-well : (d : Description) → IsKnown d → (v : VpcNo) (h : Header) (t : Option TableNo) → is_vpc d v ≡ true → IfFound (is_table d) t → LeadsWell d (enter_by_table d v h t)
+enter_by_table-well d known v h None inside found = enter_host-well d known v h (host_of d v h.dst) inside (host-found d v h.dst)
+enter_by_table-well d known v h (Some t) inside found =
+    let table = table_at d t in
+    enter_by_route-well d known v h t (chosen_route d table.routes h.dst) inside found (chosen-found d t found h.dst (chosen_route d table.routes h.dst) refl)
 
 attached-igw : (d : Description) (o : Option IgwNo) → IfFound (is_igw d) o → is_some o ≡ true → is_igw d (unwrap_or o (record { 0 = length d.igws })) ≡ true
 attached-igw d None found e = absurd (false≢true e)
@@ -423,25 +627,40 @@ by_pair-well d known x v h (Some pair) inside joined =
     cond_both (not (has_block d v h.src)) _ _ (LeadsWell d) (λ _. inside)
     (λ _. cond_both (not (has_block d w h.dst)) _ _ (LeadsWell d) (λ _. inside) (λ _. and_from (is_vpc d w) (is_peering d x) within inside))
 
-to_attachment-well : (d : Description) (s : SubnetNo) (h : Header) (t : TgwTableNo) (k : ℕ) (a : Option AttNo) → is_subnet d s ≡ true → has_foreign_text d (foreign.FarAttachment t k) ≡ true → IfFound (is_attachment d) a → LeadsWell d (to_attachment s h t k a)
-to_attachment-well d s h t k None inside far found = far
-to_attachment-well d s h t k (Some a) inside far found = and_from (is_attachment d a) (is_subnet d s) found inside
+to_first-well : (d : Description) (h : Header) (a : AttNo) (s : Option SubnetNo) → is_attachment d a ≡ true → IfFound (is_subnet d) s → LeadsWell d (to_first h a s)
+to_first-well d h a None there found = there
+to_first-well d h a (Some s) there found = and_from (is_attachment d a) (is_subnet d s) there found
 
-by_attachment-well : (d : Description) (s : SubnetNo) (h : Header) (t : TgwTableNo) (k : ℕ) (id : Option (List ℕ)) → is_subnet d s ≡ true → is_tgw_route d t k ≡ true
-    → (let table = tgw_table_at d t in let r = slice_index_or table.routes k no_tgw_route in r.attachment ≡ id) → LeadsWell d (by_attachment d s h t k id)
-by_attachment-well d s h t k None inside route is = let table = tgw_table_at d t in (and_parts (is_tgw_table d t) (ltb k (length table.routes)) route).0
-by_attachment-well d s h t k (Some id) inside route is =
+to_leave-well : (d : Description) → IsKnown d → (h : Header) (a : AttNo) (entered : Option SubnetNo) → is_attachment d a ≡ true → IfFound (is_subnet d) entered → LeadsWell d (to_leave d h a entered)
+to_leave-well d known h a None there inside = let row = attachment_at d a in to_first-well d h a (first_described d row.subnets) there (first_described-found d known row.subnets)
+to_leave-well d known h a (Some s) there inside = and_from (is_attachment d a) (is_subnet d s) there inside
+
+to_attachment-well : (d : Description) → IsKnown d → (entered : Option SubnetNo) (h : Header) (t : TgwTableNo) (k : ℕ) (a : Option AttNo) → IfFound (is_subnet d) entered → has_foreign_text d (foreign.FarAttachment t k) ≡ true → IfFound (is_attachment d) a
+    → LeadsWell d (to_attachment d entered h t k a)
+to_attachment-well d known entered h t k None inside text found = text
+to_attachment-well d known entered h t k (Some a) inside text found = to_leave-well d known h a entered found inside
+
+to_attached-well : (d : Description) → IsKnown d → (entered : Option SubnetNo) (h : Header) (t : TgwTableNo) (k : ℕ) (id : List ℕ) (far : Option FarNo) → IfFound (is_subnet d) entered → has_foreign_text d (foreign.FarAttachment t k) ≡ true → IfFound (is_outside d) far
+    → LeadsWell d (to_attached d entered h t k id far)
+to_attached-well d known entered h t k id None inside text found = to_attachment-well d known entered h t k (attachment_of_id d id) inside text (attachment_of_id-found d id)
+to_attached-well d known entered h t k id (Some far) inside text found = found
+
+by_attachment-well : (d : Description) → IsKnown d → (entered : Option SubnetNo) (h : Header) (t : TgwTableNo) (k : ℕ) (id : Option (List ℕ)) → IfFound (is_subnet d) entered → is_tgw_route d t k ≡ true
+    → (let table = tgw_table_at d t in let r = slice_index_or table.routes k no_tgw_route in r.attachment ≡ id) → LeadsWell d (by_attachment d entered h t k id)
+by_attachment-well d known entered h t k None inside route is = let table = tgw_table_at d t in (and_parts (is_tgw_table d t) (ltb k (length table.routes)) route).0
+by_attachment-well d known entered h t k (Some id) inside route is =
     let table = tgw_table_at d t in
     let r = slice_index_or table.routes k no_tgw_route in
-    let far = and_from (is_tgw_route d t k) (is_some r.attachment) route (subst (λ o. is_some o ≡ true) (sym is) refl) in
-    to_attachment-well d s h t k (attachment_of_id d id) inside far (attachment_of_id-found d id)
+    let text = and_from (is_tgw_route d t k) (is_some r.attachment) route (subst (λ o. is_some o ≡ true) (sym is) refl) in
+    to_attached-well d known entered h t k id (far_end_of_id d id) inside text (far_end-found d id)
 
-by_tgw_route-well : (d : Description) (s : SubnetNo) (h : Header) (t : TgwTableNo) (k : Option ℕ) → is_subnet d s ≡ true → is_tgw_table d t ≡ true → IfFound (is_tgw_route d t) k → LeadsWell d (by_tgw_route d s h t k)
-by_tgw_route-well d s h t None inside within found = within
-by_tgw_route-well d s h t (Some k) inside within found =
+by_tgw_route-well : (d : Description) → IsKnown d → (entered : Option SubnetNo) (h : Header) (t : TgwTableNo) (k : Option ℕ) → IfFound (is_subnet d) entered → is_tgw_table d t ≡ true → IfFound (is_tgw_route d t) k → LeadsWell d (by_tgw_route d entered h t k)
+by_tgw_route-well d known entered h t None inside within found = within
+by_tgw_route-well d known entered h t (Some k) inside within found =
     let table = tgw_table_at d t in
     let r = slice_index_or table.routes k no_tgw_route in
-    cond_both r.blackhole (stop (stops.TgwBlackhole t k)) (by_attachment d s h t k r.attachment) (LeadsWell d) (λ _. and_from (is_tgw_route d t k) (is_tgw_table d t) found within) (λ _. by_attachment-well d s h t k r.attachment inside found refl)
+    cond_both r.blackhole (stop (stops.TgwBlackhole t k)) (by_attachment d entered h t k r.attachment) (LeadsWell d) (λ _. and_from (is_tgw_route d t k) (is_tgw_table d t) found within)
+    (λ _. by_attachment-well d known entered h t k r.attachment inside found refl)
 
 tgw_route-found : (d : Description) (t : TgwTableNo) → is_tgw_table d t ≡ true → (a : ℕ) (o : Option ℕ) → (let table = tgw_table_at d t in chosen_tgw_route table.routes a ≡ o) → IfFound (is_tgw_route d t) o
 tgw_route-found d t within a None e = tt
@@ -450,11 +669,11 @@ tgw_route-found d t within a (Some k) e =
     and_from (is_tgw_table d t) (ltb k (length table.routes)) within
     (position-at (is_unbeaten (λ (r : TgwRoute). holds a r.block) beats_tgw table.routes) table.routes k no_tgw_route e).0
 
-by_tgw_table-well : (d : Description) (a : AttNo) (s : SubnetNo) (h : Header) (t : Option TgwTableNo) → is_attachment d a ≡ true → is_subnet d s ≡ true → IfFound (is_tgw_table d) t → LeadsWell d (by_tgw_table d a s h t)
-by_tgw_table-well d a s h None outer inside found = outer
-by_tgw_table-well d a s h (Some t) outer inside found =
+by_tgw_table-well : (d : Description) → IsKnown d → (a : AttNo) (s : SubnetNo) (h : Header) (t : Option TgwTableNo) → is_attachment d a ≡ true → is_subnet d s ≡ true → IfFound (is_tgw_table d) t → LeadsWell d (by_tgw_table d a s h t)
+by_tgw_table-well d known a s h None outer inside found = outer
+by_tgw_table-well d known a s h (Some t) outer inside found =
     let table = tgw_table_at d t in
-    by_tgw_route-well d s h t (chosen_tgw_route table.routes h.dst) inside found (tgw_route-found d t found h.dst (chosen_tgw_route table.routes h.dst) refl)
+    by_tgw_route-well d known (Some s) h t (chosen_tgw_route table.routes h.dst) inside found (tgw_route-found d t found h.dst (chosen_tgw_route table.routes h.dst) refl)
 
 attachment-table : (d : Description) (a : AttNo) → IfFound (is_tgw_table d) (table_of_attachment d a)
 attachment-table d a =
@@ -464,6 +683,59 @@ attachment-table d a =
 leave_by-well : (d : Description) (a : AttNo) (h : Header) (s : Option SubnetNo) → is_attachment d a ≡ true → IfFound (is_subnet d) s → LeadsWell d (leave_by a h s)
 leave_by-well d a h None inside found = inside
 leave_by-well d a h (Some s) inside found = and_from (is_subnet d s) (is_attachment d a) found inside
+
+-- ---- into networks that aren't described, and from there
+
+over_half_peering-well : (d : Description) (k : FarNo) (x : PeerNo) (h : Header) (beyond : List Block) (v : Option VpcNo) → is_outside d k ≡ true → is_peering d x ≡ true → LeadsWell d (over_half_peering d k x h beyond v)
+over_half_peering-well d k x h beyond None there within = within
+over_half_peering-well d k x h beyond (Some v) there within =
+    cond_both (not (has_block d v h.src)) _ _ (LeadsWell d) (λ _. within)
+    (λ _. cond_both (not (is_within beyond h.dst)) (stop (stops.PeerDestination x)) (arrive (ends.Far k)) (LeadsWell d) (λ _. within) (λ _. there))
+
+to_service-well : (d : Description) (k : FarNo) (h : Header) (v : Option VpcNo) → is_outside d k ≡ true → LeadsWell d (to_service d k h v)
+to_service-well d k h None there = there
+to_service-well d k h (Some v) there = cond_both (has_block d v h.src) (arrive (ends.Far k)) (stop (stops.FarSource k)) (LeadsWell d) (λ _. there) (λ _. there)
+
+out_by-well : (d : Description) → IsKnown d → (k : FarNo) (f : Far) (h : Header) (kind : FarKind) → is_outside d k ≡ true → is_far_end d f ≡ true → f.kind ≡ kind → LeadsWell d (out_by d k f h kind)
+out_by-well d known k f h (kinds.PrivateGateway vpc) there ends is = there
+out_by-well d known k f h (kinds.Attachment vpc) there ends is = there
+out_by-well d known k f h (kinds.Peering requester accepter) there ends is =
+    over_half_peering-well d k (peering_to d f) h (blocks_beyond d f) (vpc_beside d f) there (peering-found d known f requester accepter ends is)
+out_by-well d known k f h (kinds.Endpoint vpc) there ends is = to_service-well d k h (vpc_beside d f) there
+
+in_by_gateway-well : (d : Description) (k : FarNo) (h : Header) (v : Option VpcNo) → is_outside d k ≡ true → IfFound (is_vpc d) v → LeadsWell d (in_by_gateway k h v)
+in_by_gateway-well d k h None there found = there
+in_by_gateway-well d k h (Some v) there found = and_from (is_vpc d v) (is_outside d k) found there
+
+in_by_peering-well : (d : Description) (x : PeerNo) (h : Header) (beyond : List Block) (v : Option VpcNo) → is_peering d x ≡ true → IfFound (is_vpc d) v → LeadsWell d (in_by_peering d x h beyond v)
+in_by_peering-well d x h beyond None within found = within
+in_by_peering-well d x h beyond (Some v) within found =
+    cond_both (not (is_within beyond h.src)) _ _ (LeadsWell d) (λ _. within)
+    (λ _. cond_both (not (has_block d v h.dst)) (stop (stops.PeerDestination x)) (go (places.Enter v (through.Peering x)) h) (LeadsWell d) (λ _. within) (λ _. and_from (is_vpc d v) (is_peering d x) found within))
+
+in_by_attachment-well : (d : Description) → IsKnown d → (k : FarNo) (h : Header) (t : Option TgwTableNo) → is_outside d k ≡ true → IfFound (is_tgw_table d) t → LeadsWell d (in_by_attachment d k h t)
+in_by_attachment-well d known k h None there found = there
+in_by_attachment-well d known k h (Some t) there found =
+    let table = tgw_table_at d t in
+    by_tgw_route-well d known None h t (chosen_tgw_route table.routes h.dst) tt found (tgw_route-found d t found h.dst (chosen_tgw_route table.routes h.dst) refl)
+
+in_by_endpoint-well : (d : Description) (label : Label) (k : FarNo) (h : Header) (v : Option VpcNo) → is_outside d k ≡ true → IfFound (is_vpc d) v → LeadsWell d (in_by_endpoint label k h v)
+in_by_endpoint-well d Opening k h v there found = there
+in_by_endpoint-well d Answer k h v there found = in_by_gateway-well d k h v there found
+
+in_by-well : (d : Description) → IsKnown d → (label : Label) (k : FarNo) (f : Far) (h : Header) (kind : FarKind) → is_outside d k ≡ true → is_far_end d f ≡ true → f.kind ≡ kind → LeadsWell d (in_by d label k f h kind)
+in_by-well d known label k f h (kinds.PrivateGateway vpc) there ends is = in_by_gateway-well d k h (vpc_beside d f) there (beside-found d known f)
+in_by-well d known label k f h (kinds.Attachment vpc) there ends is = in_by_attachment-well d known k h (table_of_attachment_id d f.id) there (attachment_id-table d f.id)
+in_by-well d known label k f h (kinds.Peering requester accepter) there ends is =
+    in_by_peering-well d (peering_to d f) h (blocks_beyond d f) (vpc_beside d f) (peering-found d known f requester accepter ends is) (beside-found d known f)
+in_by-well d known label k f h (kinds.Endpoint vpc) there ends is = in_by_endpoint-well d label k h (vpc_beside d f) there (beside-found d known f)
+
+step_inspect-well : (d : Description) → IsKnown d → (e : FirewallNo) (m : Moment) → is_watching d e ≡ true → LeadsWell d (step_inspect d e m).next
+step_inspect-well d known e m works =
+    let row = firewall_at d e in
+    let s = firewall_subnet d e in
+    cond_both (passes (boxes_behind d e) m.header) _ _ (LeadsWell d)
+    (λ _. and_from (is_subnet d s) (is_firewall d e) (firewall-subnet d known e works) (and_parts (is_firewall d e) (is_followed d row && has_vpc d row.vpc) works).0) (λ _. works)
 
 -- ---- interfaces
 
@@ -506,7 +778,7 @@ step_at-well d known appliances label (places.Router s came) m sound =
     let inside = (and_parts (is_subnet d s) (is_origin d came) sound).0 in
     let table = table_at d (table_of d s) in
     by_route-well d known s m.header (chosen_route d table.routes m.header.dst) inside (route-found d known s inside m.header.dst (chosen_route d table.routes m.header.dst) refl)
-step_at-well d known appliances label (places.Enter v by) m sound = enter_host-well d known v m.header (host_of d v m.header.dst) (and_parts (is_vpc d v) (is_entry d by) sound).0 (host-found d v m.header.dst)
+step_at-well d known appliances label (places.Enter v by) m sound = enter_by_table-well d known v m.header (entrance_table d v by) (and_parts (is_vpc d v) (is_entry d by) sound).0 (entrance_table-found d v by)
 step_at-well d known appliances label (places.IgwOut v) m sound = go_public-well d known v m.header (public_of d v m.header.src) sound
 step_at-well d known appliances label places.Internet m sound = step_internet-well d known m
 step_at-well d known appliances label (places.IgwIn v) m sound = go_private-well d known v m.header (private_of d v m.header.dst) sound
@@ -520,10 +792,17 @@ step_at-well d known appliances label (places.Peer x v) m sound =
     by_pair-well d known x v m.header row.pair outer.0 inner.1
 step_at-well d known appliances label (places.Tgw a s) m sound =
     let parts = and_parts (is_attachment d a) (is_subnet d s) sound in
-    by_tgw_table-well d a s m.header (table_of_attachment d a) parts.0 parts.1 (attachment-table d a)
+    by_tgw_table-well d known a s m.header (table_of_attachment d a) parts.0 parts.1 (attachment-table d a)
 step_at-well d known appliances label (places.TgwLeave a s) m sound =
     let parts = and_parts (is_attachment d a) (is_subnet d s) sound in
     leave_by-well d a m.header (leave_subnet d a s) parts.0 (leave-found d known a s parts.0)
+step_at-well d known appliances label (places.FarOut k) m sound =
+    let f = far_at d k in
+    out_by-well d known k f m.header f.kind sound (and_parts (is_far d k) (is_far_end d f) sound).1 refl
+step_at-well d known appliances label (places.FarIn k) m sound =
+    let f = far_at d k in
+    in_by-well d known label k f m.header f.kind sound (and_parts (is_far d k) (is_far_end d f) sound).1 refl
+step_at-well d known appliances label (places.Inspect e) m sound = step_inspect-well d known e m sound
 
 -- ---- rules
 

@@ -10,7 +10,7 @@ use Rattle.vpc_model.specs.declared.outcomes.Outcome.TheVariants as outcomes
 use Rattle.vpc_model.specs.declared.outcomes.Phase.TheVariants as phases
 use Rattle.vpc_model.specs.declared.stops.Stop.TheVariants as stops
 use Rattle.vpc_model.specs.declared.outcomes.Verdict.TheVariants as verdicts
-use Rattle.vpc_model.specs.Terms.{Appliances, IsAccepted, Moment, Next, Walk, arrive, go, is_end, is_header, is_sound, reply_walk, request_walk, same_end, start_of, step_of, stop, verdict_of, verdict_of_arrival, verdict_of_reply, verdict_of_request, walk_of}
+use Rattle.vpc_model.specs.Terms.{Appliances, Homes, IsAccepted, Moment, Next, Walk, alone, arrive, go, is_end, is_header, is_home, is_sound, reply_walk, request_walk, same_end, start_of, step_of, stop, verdict_of, verdict_of_arrival, verdict_of_reply, verdict_of_request, walk_of}
 use Rattle.vpc_laws.specs.Terms.{EndsSo, EndsWell, Follows, IsNext, IsSoundHop, IsTold, LeadsWell, hop_of, last_moment}
 use Rattle.vpc_laws.proofs.Sounding.{steps_are_sound}
 use Rattle.vpc_laws.proofs.Stepping.{walks_are_of_steps}
@@ -51,25 +51,26 @@ walks_are_sound d appliances label m accepted sound =
 pub start-sound : (d : Description) (end : End) → is_end d end ≡ true → is_sound d (start_of end) ≡ true
 start-sound d (ends.Interface i) e = e
 start-sound d ends.Internet e = refl
+start-sound d (ends.Far k) e = e
 
-reply-told : (d : Description) (start : End) (h : Header) (outcome : Outcome) → EndsWell d outcome → IsTold d (verdict_of_reply start h outcome)
-reply-told d start h (outcomes.Stopped s) well = well
-reply-told d start h (outcomes.Arrived end k) well =
-    cond_both (same_end end start && is_header k (reply_of h)) verdicts.Through (verdicts.Stopped phases.Reply (stops.WrongReturn end)) (IsTold d) (λ _. tt) (λ _. well)
+reply-told : (d : Description) (homes : Homes) (h : Header) (outcome : Outcome) → EndsWell d outcome → IsTold d (verdict_of_reply homes h outcome)
+reply-told d homes h (outcomes.Stopped s) well = well
+reply-told d homes h (outcomes.Arrived end k) well =
+    cond_both (is_home homes end && is_header k (reply_of h)) verdicts.Through (verdicts.Stopped phases.Reply (stops.WrongReturn end)) (IsTold d) (λ _. tt) (λ _. well)
 
-arrival-told : (d : Description) (appliances : Appliances) (start goal : End) (h : Header) (request : Walk) (r : Option Header) → IsAccepted d → is_end d goal ≡ true → IsTold d (verdict_of_arrival d appliances start goal h request r)
-arrival-told d appliances start goal h request None accepted there = there
-arrival-told d appliances start goal h request (Some r) accepted there =
+arrival-told : (d : Description) (appliances : Appliances) (homes : Homes) (goal : End) (h : Header) (request : Walk) (r : Option Header) → IsAccepted d → is_end d goal ≡ true → IsTold d (verdict_of_arrival d appliances homes goal h request r)
+arrival-told d appliances homes goal h request None accepted there = there
+arrival-told d appliances homes goal h request (Some r) accepted there =
     let reply = reply_walk d appliances goal r request in
-    reply-told d start h reply.outcome (walks_are_sound d appliances Answer (record { place = start_of goal; header = r; conns = request.conns; nats = request.nats }) accepted (start-sound d goal there)).1
+    reply-told d homes h reply.outcome (walks_are_sound d appliances Answer (record { place = start_of goal; header = r; conns = request.conns; nats = request.nats }) accepted (start-sound d goal there)).1
 
-request-told : (d : Description) (appliances : Appliances) (start goal : End) (h : Header) (request : Walk) (outcome : Outcome) → IsAccepted d → is_end d goal ≡ true → EndsWell d outcome → IsTold d (verdict_of_request d appliances start goal h request outcome)
-request-told d appliances start goal h request (outcomes.Stopped s) accepted there well = well
-request-told d appliances start goal h request (outcomes.Arrived end k) accepted there well =
-    cond_both (same_end end goal) (verdict_of_arrival d appliances start goal h request (reply_of k)) (verdicts.Stopped phases.Request (stops.WrongPlace end)) (IsTold d)
-    (λ _. arrival-told d appliances start goal h request (reply_of k) accepted there) (λ _. well)
+request-told : (d : Description) (appliances : Appliances) (homes : Homes) (goal : End) (h : Header) (request : Walk) (outcome : Outcome) → IsAccepted d → is_end d goal ≡ true → EndsWell d outcome → IsTold d (verdict_of_request d appliances homes goal h request outcome)
+request-told d appliances homes goal h request (outcomes.Stopped s) accepted there well = well
+request-told d appliances homes goal h request (outcomes.Arrived end k) accepted there well =
+    cond_both (same_end end goal) (verdict_of_arrival d appliances homes goal h request (reply_of k)) (verdicts.Stopped phases.Request (stops.WrongPlace end)) (IsTold d)
+    (λ _. arrival-told d appliances homes goal h request (reply_of k) accepted there) (λ _. well)
 
 pub verdicts_are_told : (d : Description) (appliances : Appliances) (start goal : End) (h : Header) → IsAccepted d → is_end d start ≡ true → is_end d goal ≡ true → IsTold d (verdict_of d appliances start goal h)
 verdicts_are_told d appliances start goal h accepted from there =
     let request = request_walk d appliances start h in
-    request-told d appliances start goal h request request.outcome accepted there (walks_are_sound d appliances Opening (record { place = start_of start; header = h; conns = []; nats = [] }) accepted (start-sound d start from)).1
+    request-told d appliances (alone start) goal h request request.outcome accepted there (walks_are_sound d appliances Opening (record { place = start_of start; header = h; conns = []; nats = [] }) accepted (start-sound d start from)).1

@@ -1,11 +1,14 @@
 -- What holds of accepted descriptions.
 use Rattle.std.specs.Prelude.{Bool, ◌&&◌, ◌≡◌, ◌<◌, ◌≤◌, ◌==◌, ◌++◌, [], Contains, List, bytes_eq, count_by, false, length, true, ℕ}
 use Rattle.std.specs.List.{AllByRecursion, IsDistinct}
-use Rattle.vpc_laws.specs.Types.{Acl, Appliance, Attachment, Description, EniNo, Group, IgwNo, Interface, InternetGateway, NatGateway, NatNo, PeerNo, Permission, PrefixList, Route, RouteTable, Subnet, SubnetNo, Target, TgwTable, Vpc, VpcNo}
+use Rattle.vpc_laws.specs.Types.{Acl, Appliance, Attachment, Block, Description, EniNo, Far, FirewallEndpoint, Group, IgwNo, Interface, InternetGateway, NatGateway, NatNo, PeerNo, Permission, PrefixList, Route, RouteTable, Subnet, SubnetNo, Target, TgwTable, Vpc, VpcNo}
+use Rattle.vpc_model.specs.declared.rows.FarKind.TheVariants as kinds
 use Rattle.vpc_model.specs.declared.rows.NatLife.TheVariants as lives
 use Rattle.vpc_model.specs.declared.rows.Reach.TheVariants as reaches
 use Rattle.vpc_model.specs.declared.rows.Target.TheVariants as targets
 use Rattle.vpc_model.specs.Accepted.{IsAccepted, duplicate_addresses, duplicate_ids, duplicate_publics, ids_by_list, is_interface_in, is_main_of, is_side, is_subnet_of, is_table_of, missing_references, private_addresses, public_addresses, same_address, serves_vpc, too_many_rows, two_acls, two_gateways, two_tables, without_acl, without_table}
+use Rattle.vpc_model.specs.Appliances.{is_at_interface}
+use Rattle.vpc_model.specs.Firewalls.{is_followed}
 use Rattle.vpc_model.specs.Lookup.{acl_of, eni_no, has_address, has_group, has_igw, has_interface, has_list, has_nat, has_peering, has_subnet, has_vpc, igw_at, igw_no, interface_at, is_assigned, is_listed, nat_at, nat_no, peer_no, peering_at, subnet_at, subnet_no, subnet_of, table_at, table_of, vpc_at, vpc_no, vpc_of_interface, vpc_of_subnet}
 use Rattle.vpc_model.specs.Sound.{is_acl, is_eni, is_igw, is_nat, is_peering, is_subnet, is_table, is_vpc}
 
@@ -43,8 +46,8 @@ HasTarget d vpc (targets.Interface id) =
     × (is_subnet_of d vpc e.subnet ≡ true)
 HasTarget d vpc (targets.Other id) = Unit {0}
 
--- what rows name is there, all but the groups that rules name and the far side of peerings and transit
--- gateways
+-- what rows name is there, all but the groups that rules name, the far side of peerings and transit
+-- gateways, and firewall endpoints
 pub record HasAllNamed (d : Description) : Type 0 where
   pub vpc_of_subnet : (s : Subnet) → Contains d.subnets s → has_vpc d s.vpc ≡ true
   pub subnet_of_interface : (e : Interface) → Contains d.interfaces e → has_subnet d e.subnet ≡ true
@@ -69,7 +72,10 @@ pub record HasAllNamed (d : Description) : Type 0 where
       × (is_interface_in d subnet eni address ≡ true)
   pub subnet_of_attachment : (a : Attachment) (s : List ℕ) → Contains d.attachments a
       → has_vpc d a.vpc ≡ true → Contains a.subnets s → is_subnet_of d a.vpc s ≡ true
-  pub interface_of_appliance : (a : Appliance) → Contains d.appliances a → has_interface d a.id ≡ true
+  pub interface_of_appliance : (a : Appliance) → Contains d.appliances a → is_at_interface a.at ≡ true
+      → has_interface d a.id ≡ true
+  pub subnet_of_firewall : (e : FirewallEndpoint) → Contains d.firewalls e → is_followed d e ≡ true
+      → has_vpc d e.vpc ≡ true → is_subnet_of d e.vpc e.subnet ≡ true
 
 abbrev pub AcceptedHasAllNamed : Type 0
 AcceptedHasAllNamed = (d : Description) → IsAccepted d → HasAllNamed d
@@ -167,6 +173,7 @@ pub record HasShortLists (d : Description) : Type 0 where
   pub groups_of_interface : (e : Interface) → Contains d.interfaces e → IsShort e.groups
   pub tables : IsShort d.tables
   pub subnets_of_table : (t : RouteTable) → Contains d.tables t → IsShort t.subnets
+  pub gateways_of_table : (t : RouteTable) → Contains d.tables t → IsShort t.gateways
   pub routes_of_table : (t : RouteTable) → Contains d.tables t → IsShort t.routes
   pub lists : IsShort d.lists
   pub entries_of_list : (l : PrefixList) → Contains d.lists l → IsShort l.entries
@@ -188,6 +195,10 @@ pub record HasShortLists (d : Description) : Type 0 where
   pub tgw_tables : IsShort d.tgw_tables
   pub routes_of_tgw_table : (t : TgwTable) → Contains d.tgw_tables t → IsShort t.routes
   pub appliances : IsShort d.appliances
+  pub fars : IsShort d.fars
+  pub blocks_of_far : (f : Far) (requester accepter : List Block) → Contains d.fars f
+      → f.kind ≡ kinds.Peering requester accepter → IsShort requester × IsShort accepter
+  pub firewalls : IsShort d.firewalls
 
 abbrev pub AcceptedHasShortLists : Type 0
 AcceptedHasShortLists = (d : Description) → IsAccepted d → HasShortLists d

@@ -11,4 +11,5 @@ pub mod Accepted
 pub mod Hosts
 pub mod Access
 pub mod Sound
+pub mod Outside
 pub mod Terms

@@ -1,24 +1,28 @@
 -- Past what a packet goes on from place to place, and what stops it.
 use Rattle.std.specs.Prelude.{◌≡◌, Bool, None, Option, Some, false, true}
 use Rattle.vpc_base.specs.declared.headers.Dir.TheVariants as dirs
-use Rattle.vpc_laws.specs.Types.{AclNo, Came, Description, Dir, EniNo, EnterBy, Header, Label, NatNo, Place, Stop, SubnetNo, VpcNo}
+use Rattle.vpc_laws.specs.Types.{AclNo, Came, Description, Dir, EniNo, EnterBy, FirewallNo, Header, Label, NatNo, Place, Stop, SubnetNo, VpcNo}
 use Rattle.vpc_model.specs.declared.places.Place.TheVariants as places
 use Rattle.vpc_model.specs.declared.stops.Stop.TheVariants as stops
+use Rattle.vpc_model.specs.Step.Inspect.{firewall_subnet}
 use Rattle.vpc_model.specs.Terms.{Appliances, Moment, Next, acl_at, acl_verdict, arrive, crossing, entering, go, host_of, leaving, nat_at, nat_of, own_subnet, step_of, stop, subnet_no, subnet_of}
 
 -- ---- ways from place to place
 
--- the subnet in which the place lies, where a packet with this header comes to an interface or to a NAT gateway
+-- the subnet in which the place lies, where a packet with this header comes to an interface, to a NAT gateway or to a
+-- firewall endpoint
 pub data LiesIn (d : Description) (h : Header) (q : Place) (t : SubnetNo) : Type 0 where
   host : (i : EniNo) → q ≡ places.Into i → t ≡ subnet_of d i → LiesIn d h q t
   nat_answered : (v : VpcNo) (i : EniNo) (n : NatNo) → q ≡ places.NatIn n → host_of d v h.dst ≡ Some i → nat_of d i ≡ Some n → t ≡ subnet_of d i → LiesIn d h q t
   nat_asked : (n : NatNo) → q ≡ places.NatOut n → (let row = nat_at d n in t ≡ subnet_no d (own_subnet row.life)) → LiesIn d h q t
+  firewall : (e : FirewallNo) → q ≡ places.Inspect e → t ≡ firewall_subnet d e → LiesIn d h q t
 
--- packets come to it in a subnet: an interface or a NAT gateway
+-- packets come to it in a subnet: an interface, a NAT gateway or a firewall endpoint
 abbrev pub is_in_subnet : Place → Bool
 is_in_subnet (places.Into i) = true
 is_in_subnet (places.NatOut n) = true
 is_in_subnet (places.NatIn n) = true
+is_in_subnet (places.Inspect e) = true
 is_in_subnet _ = false
 
 -- an ACL is asked of what goes on from it: out of a subnet, or into a VPC

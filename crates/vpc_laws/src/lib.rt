@@ -7,6 +7,7 @@ pub mod access;
 pub mod choice;
 pub mod equality;
 pub mod nats;
+pub mod outside;
 pub mod rewriting;
 pub mod sound;
 pub mod steps;

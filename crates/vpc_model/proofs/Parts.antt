@@ -3,6 +3,7 @@ use Rattle.std.proofs.Common.{◌≡◌, Option, Some, None, refl, ap, sym, ◌�
 use Rattle.std.proofs.lemmas.Option.{same_Some}
 use Rattle.vpc_model.specs.Types.{Component, Stop, StopName, StopRule}
 use Rattle.vpc_model.specs.declared.places.End.TheVariants as ends
+use Rattle.vpc_model.specs.declared.places.Place.TheVariants as places
 use Rattle.vpc_model.specs.declared.stops.Component.TheVariants as at
 use Rattle.vpc_model.specs.declared.stops.Stop.TheVariants as stops
 use Rattle.vpc_model.specs.declared.stops.StopName.TheVariants as is
@@ -41,6 +42,11 @@ rebuilt is.TgwNoZone (at.Attachment a) by.None = Some (stops.TgwNoZone a)
 rebuilt is.TgwNoTable (at.Attachment a) by.None = Some (stops.TgwNoTable a)
 rebuilt is.TgwNoRoute (at.TransitTable t) by.None = Some (stops.TgwNoRoute t)
 rebuilt is.TgwBlackhole (at.TransitTable t) (by.TransitRoute _ k) = Some (stops.TgwBlackhole t k)
+rebuilt is.FarDetached (at.End (ends.Far k)) by.None = Some (stops.FarDetached k)
+rebuilt is.FarNoTable (at.End (ends.Far k)) by.None = Some (stops.FarNoTable k)
+rebuilt is.FarSource (at.End (ends.Far k)) by.None = Some (stops.FarSource k)
+rebuilt is.FarOpens (at.End (ends.Far k)) by.None = Some (stops.FarOpens k)
+rebuilt is.InspectDrop (at.Place (places.Inspect k)) by.None = Some (stops.InspectDrop k)
 rebuilt is.Unmodelled (at.Foreign f) by.None = Some (stops.Unmodelled f)
 rebuilt is.Loop (at.Place p) by.None = Some (stops.Loop p)
 rebuilt is.TooFar (at.Place p) by.None = Some (stops.TooFar p)

@@ -1,14 +1,17 @@
 -- Which descriptions make a network (EC2 API: the ids that Describe calls print name one another). What is
 -- asked, and in which order, is this project's profile.
 use Rattle.std.specs.List.{filter_map, flat_map, list_any}
-use Rattle.std.specs.Prelude.{◌==◌, ◌&&◌, ◌||◌, ◌++◌, ◌∷◌, ◌≡◌, [], if◌then◌else◌, Bool, List, None, Option, Some, bytes_eq, count_by, false, filter, length, map, nat_le, nat_lt, not, true, ℕ}
-use Rattle.vpc_model.specs.Types.{Acl, Appliance, Attachment, Description, Group, Interface, InternetGateway, ListName, NatLife, Permission, Reach, Refusal, Route, RouteTable, Subnet, Target}
+use Rattle.std.specs.Prelude.{◌==◌, ◌&&◌, ◌||◌, ◌++◌, ◌∷◌, ◌≡◌, [], if◌then◌else◌, Bool, List, None, Option, Some, bytes_eq, count_by, drop, false, filter, length, map, nat_le, nat_lt, not, true, ℕ}
+use Rattle.vpc_model.specs.Types.{Acl, Appliance, Attachment, Description, FarKind, FirewallEndpoint, Group, Interface, InternetGateway, ListName, NatLife, Permission, Reach, Refusal, Route, RouteTable, Subnet, Target}
+use Rattle.vpc_model.specs.declared.rows.FarKind.TheVariants as fars
 use Rattle.vpc_model.specs.declared.rows.NatLife.TheVariants as lives
 use Rattle.vpc_model.specs.declared.refusals.ListName.TheVariants as named
 use Rattle.vpc_model.specs.declared.rows.Reach.TheVariants as reaches
 use Rattle.vpc_model.specs.declared.refusals.Refusal.TheVariants as refusals
 use Rattle.vpc_model.specs.declared.rows.Target.TheVariants as targets
 use Rattle.prefix_text.specs.Block.{last_of}
+use Rattle.vpc_model.specs.Appliances.{is_at_interface}
+use Rattle.vpc_model.specs.Firewalls.{is_followed}
 use Rattle.vpc_model.specs.Lookup.{eni_no, has_group, has_igw, has_interface, has_list, has_nat, has_peering, has_subnet, has_vpc, interface_at, is_assigned, is_listed, nat_at, nat_no, peer_no, peering_at, subnet_at, subnet_no, vpc_of_interface}
 
 -- ---- what stands twice
@@ -136,9 +139,13 @@ missing_of_life d id (lives.Live subnet eni address) = wanted (has_subnet d subn
 abbrev pub missing_of_attachment : Description → Attachment → List Refusal
 missing_of_attachment d a = if has_vpc d a.vpc then flat_map (λ s. wanted (is_subnet_of d a.vpc s) a.id s) a.subnets else []
 
--- an appliance's interface
+-- an appliance's interface; a firewall endpoint may be missing
 abbrev pub missing_of_appliance : Description → Appliance → List Refusal
-missing_of_appliance d a = wanted (has_interface d a.id) a.id a.id
+missing_of_appliance d a = if is_at_interface a.at then wanted (has_interface d a.id) a.id a.id else []
+
+-- where a firewall endpoint is followed and its VPC described: its subnet, which is in that VPC
+abbrev pub missing_of_firewall : Description → FirewallEndpoint → List Refusal
+missing_of_firewall d e = if is_followed d e && has_vpc d e.vpc then wanted (is_subnet_of d e.vpc e.subnet) e.id e.subnet else []
 
 -- what rows name and isn't there
 abbrev pub missing_references : Description → List Refusal
@@ -152,6 +159,7 @@ missing_references d =
     ++ flat_map (λ n. missing_of_life d n.id n.life) d.nats
     ++ flat_map (missing_of_attachment d) d.attachments
     ++ flat_map (missing_of_appliance d) d.appliances
+    ++ flat_map (missing_of_firewall d) d.firewalls
 
 -- ---- addresses
 
@@ -285,13 +293,31 @@ is_long_rule p = is_long p.blocks || (is_long p.lists || is_long p.groups)
 abbrev pub is_long_group : Group → Bool
 is_long_group g = is_long g.inward || (is_long g.outward || list_any is_long_rule (g.inward ++ g.outward))
 
+-- the list that tells what leads to a network
+abbrev pub list_of_far : FarKind → ListName
+list_of_far (fars.PrivateGateway vpc) = named.VpnGateways
+list_of_far (fars.Attachment vpc) = named.TransitGatewayAttachments
+list_of_far (fars.Peering requester accepter) = named.VpcPeeringConnections
+list_of_far (fars.Endpoint vpc) = named.VpcEndpoints
+
+-- the blocks of a peering's side
+abbrev pub is_long_far : FarKind → Bool
+is_long_far (fars.PrivateGateway vpc) = false
+is_long_far (fars.Attachment vpc) = false
+is_long_far (fars.Peering requester accepter) = is_long requester || is_long accepter
+is_long_far (fars.Endpoint vpc) = false
+
+-- rows past the 100,000th, by the list that tells the first of them, or blocks of one row
+abbrev pub too_many_fars : Description → List Refusal
+too_many_fars d = map (λ f. refusals.TooManyRows (list_of_far f.kind)) (drop 100000 d.fars ++ filter (λ f. is_long_far f.kind) d.fars)
+
 -- lists that are too long
 abbrev pub too_many_rows : Description → List Refusal
 too_many_rows d =
     too_long named.Vpcs (λ v. is_long v.blocks) d.vpcs
     ++ too_long named.Subnets (λ s. false) d.subnets
     ++ too_long named.NetworkInterfaces (λ e. is_long e.addresses || (is_long e.prefixes || is_long e.groups)) d.interfaces
-    ++ too_long named.RouteTables (λ t. is_long t.subnets || is_long t.routes) d.tables
+    ++ too_long named.RouteTables (λ t. is_long t.subnets || (is_long t.gateways || is_long t.routes)) d.tables
     ++ too_long named.PrefixLists (λ l. is_long l.entries) d.lists
     ++ too_long named.NetworkAcls (λ a. is_long a.subnets || is_long a.rows) d.acls
     ++ too_long named.SecurityGroups is_long_group d.groups
@@ -302,6 +328,8 @@ too_many_rows d =
     ++ too_long named.TransitGatewayAttachments (λ x. false) d.associations
     ++ too_long named.TransitGatewayRoutes (λ t. is_long t.routes) d.tgw_tables
     ++ too_long named.Appliances (λ a. false) d.appliances
+    ++ too_many_fars d
+    ++ too_long named.VpcEndpoints (λ e. false) d.firewalls
 
 -- ---- all of them
 

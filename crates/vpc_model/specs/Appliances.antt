@@ -1,7 +1,8 @@
 -- What middlebox appliances forward. AWS describes no such thing: the boxes of a kind are this project's profile.
 use Rattle.std.specs.List.{list_any}
-use Rattle.std.specs.Prelude.{◌==◌, ◌++◌, ◌∷◌, [], Bool, List, Option, find, map, option_map, ℕ}
-use Rattle.vpc_model.specs.Types.{ApplianceKind, Block, Box5, Description, EniNo, Header}
+use Rattle.std.specs.Prelude.{◌==◌, ◌++◌, ◌∷◌, [], Bool, List, Option, false, filter, find, map, option_map, true, ℕ}
+use Rattle.vpc_model.specs.Types.{ApplianceAt, ApplianceKind, Block, Box5, Description, EniNo, Header}
+use Rattle.vpc_model.specs.declared.rows.ApplianceAt.TheVariants as at
 use Rattle.vpc_model.specs.declared.rows.ApplianceKind.TheVariants as forwards
 use Rattle.header_boxes.specs.Boxes.{holds}
 use Rattle.prefix_text.specs.Block.{last_of}
@@ -34,9 +35,14 @@ boxes_of_kind (forwards.Peer b) = boxes_of_block b
 abbrev pub Appliances : Type 0
 Appliances = List (EniNo × List Box5)
 
--- the appliances of a description
+-- the appliance stands at an interface
+abbrev pub is_at_interface : ApplianceAt → Bool
+is_at_interface at.Interface = true
+is_at_interface at.Endpoint = false
+
+-- the appliances at interfaces of a description
 abbrev pub appliances_of : Description → Appliances
-appliances_of d = map (λ a. (eni_no d a.id, boxes_of_kind a.kind)) d.appliances
+appliances_of d = map (λ a. (eni_no d a.id, boxes_of_kind a.kind)) (filter (λ a. is_at_interface a.at) d.appliances)
 
 -- the boxes of the appliance at an interface, if there is one
 abbrev pub boxes_at : Appliances → EniNo → Option (List Box5)

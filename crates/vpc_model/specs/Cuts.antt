@@ -3,14 +3,17 @@
 -- often, doesn't matter: a number is a cut where it is in the list.
 use Rattle.std.specs.List.{flat_map}
 use Rattle.std.specs.Prelude.{◌++◌, ◌∷◌, ◌+◌, ◌-◌, [], List, None, Option, Some, filter, map, nat_le, ℕ}
-use Rattle.vpc_model.specs.Types.{Acl, AclRow, Appliance, Block, Box5, Description, EniNo, Group, Interface, Permission, Place, PrefixList, Reach, Route, RouteTable, TgwRoute, TgwTable, TgwTableNo, Vpc}
+use Rattle.vpc_model.specs.Types.{Acl, AclRow, Appliance, Block, Box5, Description, EniNo, Far, FarKind, Group, Interface, Permission, Place, PrefixList, Reach, Route, RouteTable, TableNo, TgwRoute, TgwTable, TgwTableNo, Vpc}
 use Rattle.vpc_model.specs.declared.places.Place.TheVariants as places
+use Rattle.vpc_model.specs.declared.rows.FarKind.TheVariants as fars
 use Rattle.vpc_model.specs.declared.rows.Reach.TheVariants as reaches
 use Rattle.prefix_text.specs.Block.{last_of}
 use Rattle.vpc_base.specs.Cuts.{CutLists, joined_cuts, no_cuts}
 use Rattle.vpc_model.specs.Appliances.{boxes_of_kind}
+use Rattle.vpc_model.specs.Far.{table_of_attachment_id}
+use Rattle.vpc_model.specs.Firewalls.{entrance_table}
 use Rattle.vpc_model.specs.Internet.{unroutable_blocks}
-use Rattle.vpc_model.specs.Lookup.{entries_of, group_at, group_of_id, interface_at, table_at, table_of, tgw_table_at}
+use Rattle.vpc_model.specs.Lookup.{entries_of, far_at, group_at, group_of_id, interface_at, table_at, table_of, tgw_table_at}
 use Rattle.vpc_model.specs.Transit.{table_of_attachment}
 
 -- ---- what each thing cuts
@@ -114,6 +117,17 @@ cuts_of_list l = cuts_of_blocks (flat_map block_cuts l.entries)
 abbrev pub cuts_of_table : Description → RouteTable → CutLists
 cuts_of_table d t = all_cuts (cuts_of_route d) t.routes
 
+-- the blocks that a peering's two sides tell (EC2 API, DescribeVpcPeeringConnections)
+abbrev pub blocks_of_far : FarKind → List Block
+blocks_of_far (fars.PrivateGateway vpc) = []
+blocks_of_far (fars.Attachment vpc) = []
+blocks_of_far (fars.Peering requester accepter) = requester ++ accepter
+blocks_of_far (fars.Endpoint vpc) = []
+
+-- the cuts of these blocks
+abbrev pub cuts_of_far : Far → CutLists
+cuts_of_far f = cuts_of_blocks (flat_map block_cuts (blocks_of_far f.kind))
+
 -- the cuts of an appliance's boxes
 abbrev pub cuts_of_appliance : Appliance → CutLists
 cuts_of_appliance a = all_cuts cuts_of_box (boxes_of_kind a.kind)
@@ -139,9 +153,9 @@ fixed_cuts = record {
   q = 2048 ∷ 2049 ∷ [];
 }
 
--- what every place may ask: VPCs, interfaces, ACLs and appliances
+-- what every place may ask: VPCs, interfaces, ACLs, appliances and the blocks of peerings
 abbrev pub unbounded_standing : Description → CutLists
-unbounded_standing d = joined_cuts fixed_cuts (joined_cuts (all_cuts cuts_of_vpc d.vpcs) (joined_cuts (all_cuts cuts_of_interface d.interfaces) (joined_cuts (all_cuts cuts_of_acl d.acls) (all_cuts cuts_of_appliance d.appliances))))
+unbounded_standing d = joined_cuts fixed_cuts (joined_cuts (all_cuts cuts_of_vpc d.vpcs) (joined_cuts (all_cuts cuts_of_interface d.interfaces) (joined_cuts (all_cuts cuts_of_acl d.acls) (joined_cuts (all_cuts cuts_of_appliance d.appliances) (all_cuts cuts_of_far d.fars)))))
 
 -- what only some places ask: prefix lists, route tables, groups and transit gateway tables
 abbrev pub unbounded_asked : Description → CutLists
@@ -179,13 +193,28 @@ abbrev pub cuts_at_tgw_table : Description → Option TgwTableNo → CutLists
 cuts_at_tgw_table d None = no_cuts
 cuts_at_tgw_table d (Some t) = cuts_of_tgw_table (tgw_table_at d t)
 
+-- the cuts of a route table, if there is one
+abbrev pub cuts_at_table : Description → Option TableNo → CutLists
+cuts_at_table d None = no_cuts
+cuts_at_table d (Some t) = cuts_of_table d (table_at d t)
+
+-- the cuts of what routes packets from a network: the table of its attachment
+abbrev pub cuts_from_far : Description → Far → CutLists
+cuts_from_far d f =
+    elim f.kind [
+      | fars.PrivateGateway vpc ↦ no_cuts
+      | fars.Attachment vpc ↦ cuts_at_tgw_table d (table_of_attachment_id d f.id)
+      | fars.Peering requester accepter ↦ no_cuts
+      | fars.Endpoint vpc ↦ no_cuts
+    ]
+
 -- the cuts of the rows that the place asks
 abbrev pub asked_at : Description → Place → CutLists
 asked_at d (places.OutOf i) = cuts_at_interface d i
 asked_at d (places.Into i) = cuts_at_interface d i
 asked_at d (places.Router s came) = cuts_of_table d (table_at d (table_of d s))
 asked_at d (places.Tgw a entered) = cuts_at_tgw_table d (table_of_attachment d a)
-asked_at d (places.Enter v by) = no_cuts
+asked_at d (places.Enter v by) = cuts_at_table d (entrance_table d v by)
 asked_at d (places.IgwOut v) = no_cuts
 asked_at d places.Internet = no_cuts
 asked_at d (places.IgwIn v) = no_cuts
@@ -193,6 +222,9 @@ asked_at d (places.NatOut n) = no_cuts
 asked_at d (places.NatIn n) = no_cuts
 asked_at d (places.Peer x v) = no_cuts
 asked_at d (places.TgwLeave a entered) = no_cuts
+asked_at d (places.FarOut k) = no_cuts
+asked_at d (places.FarIn k) = cuts_from_far d (far_at d k)
+asked_at d (places.Inspect e) = no_cuts
 
 -- the cuts on which the step at a place depends
 abbrev pub cuts_at : Description → Place → CutLists

@@ -14,6 +14,8 @@ pub mod Peerings
 pub mod Nat
 pub mod Transit
 pub mod Appliances
+pub mod Far
+pub mod Firewalls
 pub mod Step
 pub mod Walk
 pub mod Verdict

@@ -3,7 +3,8 @@
 -- described; elsewhere the row is an empty one, and the number is the list's length.
 use Rattle.std.specs.List.{flat_map, list_any, position_or_len}
 use Rattle.std.specs.Prelude.{◌==◌, ◌&&◌, ◌||◌, ◌∷◌, [], Bool, List, None, Option, Some, bytes_eq, false, find, length, option_map, position, slice_index_or, true, unwrap_or, ℕ}
-use Rattle.vpc_model.specs.Types.{Acl, AclNo, AttNo, Attachment, Block, Description, EniNo, Group, GroupNo, GroupScope, IgwNo, Interface, InternetGateway, NatGateway, NatNo, PeerNo, Peering, RouteTable, Subnet, SubnetNo, TableNo, TgwTable, TgwTableNo, Vpc, VpcNo}
+use Rattle.vpc_model.specs.Types.{Acl, AclNo, AttNo, Attachment, Block, Description, EniNo, Far, FarNo, FirewallEndpoint, FirewallNo, Group, GroupNo, GroupScope, IgwNo, Interface, InternetGateway, NatGateway, NatNo, PeerNo, Peering, RouteTable, Subnet, SubnetNo, TableNo, TgwTable, TgwTableNo, Vpc, VpcNo}
+use Rattle.vpc_model.specs.declared.rows.FarKind.TheVariants as fars
 use Rattle.vpc_model.specs.declared.rows.InterfaceKind.TheVariants as kinds
 use Rattle.vpc_model.specs.declared.rows.NatLife.TheVariants as lives
 use Rattle.prefix_text.specs.Block.{holds}
@@ -41,7 +42,7 @@ interface_at d i = slice_index_or d.interfaces i.0 no_interface
 
 -- a table without routes
 abbrev pub no_table : RouteTable
-no_table = record { id = []; vpc = []; main = false; subnets = []; routes = [] }
+no_table = record { id = []; vpc = []; main = false; subnets = []; gateways = []; routes = [] }
 
 -- a row of DescribeRouteTables (EC2 API, DescribeRouteTables)
 abbrev pub table_at : Description → TableNo → RouteTable
@@ -106,6 +107,22 @@ no_tgw_table = record { id = []; routes = [] }
 -- a row of SearchTransitGatewayRoutes, by table (EC2 API, SearchTransitGatewayRoutes)
 abbrev pub tgw_table_at : Description → TgwTableNo → TgwTable
 tgw_table_at d t = slice_index_or d.tgw_tables t.0 no_tgw_table
+
+-- a gateway endpoint of no VPC
+abbrev pub no_far : Far
+no_far = record { id = []; kind = fars.Endpoint [] }
+
+-- the row of a network that isn't described
+abbrev pub far_at : Description → FarNo → Far
+far_at d k = slice_index_or d.fars k.0 no_far
+
+-- a firewall endpoint of no VPC
+abbrev pub no_firewall : FirewallEndpoint
+no_firewall = record { id = []; vpc = []; subnet = [] }
+
+-- a row of DescribeVpcEndpoints that is a firewall endpoint (EC2 API, DescribeVpcEndpoints)
+abbrev pub firewall_at : Description → FirewallNo → FirewallEndpoint
+firewall_at d e = slice_index_or d.firewalls e.0 no_firewall
 
 -- ---- numbers by id
 

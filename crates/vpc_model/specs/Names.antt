@@ -36,6 +36,11 @@ name_text names.TgwNoZone = codes "TgwNoZone"
 name_text names.TgwNoTable = codes "TgwNoTable"
 name_text names.TgwNoRoute = codes "TgwNoRoute"
 name_text names.TgwBlackhole = codes "TgwBlackhole"
+name_text names.FarDetached = codes "FarDetached"
+name_text names.FarNoTable = codes "FarNoTable"
+name_text names.FarSource = codes "FarSource"
+name_text names.FarOpens = codes "FarOpens"
+name_text names.InspectDrop = codes "InspectDrop"
 name_text names.Unmodelled = codes "Unmodelled"
 name_text names.Loop = codes "Loop"
 name_text names.TooFar = codes "TooFar"
@@ -51,7 +56,8 @@ all_names =
     ∷ names.GatewayDetached ∷ names.NoPublic ∷ names.PrivateAddress ∷ names.BlockPublicAccess ∷ names.NatNotAvailable
     ∷ names.NatAnswer ∷ names.NatProtocol ∷ names.NatFull ∷ names.NatUnsolicited ∷ names.PeerNotActive ∷ names.PeerSource
     ∷ names.PeerDestination ∷ names.TgwNoAttachment ∷ names.TgwNoZone ∷ names.TgwNoTable ∷ names.TgwNoRoute
-    ∷ names.TgwBlackhole ∷ names.Unmodelled ∷ names.Loop ∷ names.TooFar ∷ names.WrongPlace ∷ names.WrongReturn
+    ∷ names.TgwBlackhole ∷ names.FarDetached ∷ names.FarNoTable ∷ names.FarSource ∷ names.FarOpens ∷ names.InspectDrop
+    ∷ names.Unmodelled ∷ names.Loop ∷ names.TooFar ∷ names.WrongPlace ∷ names.WrongReturn
     ∷ names.NoReply ∷ []
 
 -- the name that a word spells

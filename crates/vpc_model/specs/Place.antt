@@ -7,3 +7,4 @@ use Rattle.vpc_model.specs.declared.places.Place.TheVariants as places
 abbrev pub start_of : End → Place
 start_of (ends.Interface i) = places.OutOf i
 start_of ends.Internet = places.Internet
+start_of (ends.Far k) = places.FarIn k

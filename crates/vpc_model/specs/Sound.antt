@@ -1,6 +1,6 @@
 -- Numbers in range, places where a packet can be, and stops that can be told.
 use Rattle.std.specs.Prelude.{◌&&◌, ◌||◌, Bool, List, None, Option, Some, bytes_eq, false, is_some, length, nat_le, nat_lt, slice_index_or, true, ℕ}
-use Rattle.vpc_model.specs.Types.{AclNo, AttNo, By, Came, Component, Description, End, EniNo, EnterBy, Foreign, GroupNo, IgwNo, NatLife, NatNo, PeerNo, Place, RuleRef, Stop, StopRule, SubnetNo, TableNo, TgwTableNo, VpcNo}
+use Rattle.vpc_model.specs.Types.{AclNo, AttNo, By, Came, Component, Description, End, EniNo, EnterBy, FarNo, FirewallNo, Foreign, GroupNo, IgwNo, NatLife, NatNo, PeerNo, Place, RuleRef, Stop, StopRule, SubnetNo, TableNo, TgwTableNo, VpcNo}
 use Rattle.vpc_model.specs.declared.outcomes.By.TheVariants as bys
 use Rattle.vpc_model.specs.declared.places.End.TheVariants as ends
 use Rattle.vpc_model.specs.declared.stops.Foreign.TheVariants as foreign
@@ -10,8 +10,10 @@ use Rattle.vpc_model.specs.declared.places.Place.TheVariants as places
 use Rattle.vpc_model.specs.declared.stops.Component.TheVariants as at
 use Rattle.vpc_model.specs.declared.stops.StopRule.TheVariants as by
 use Rattle.vpc_model.specs.declared.places.EnterBy.TheVariants as through
+use Rattle.vpc_model.specs.Far.{is_far_end}
+use Rattle.vpc_model.specs.Firewalls.{is_followed}
 use Rattle.vpc_model.specs.Groups.{permissions_of}
-use Rattle.vpc_model.specs.Lookup.{gateway_of, group_at, has_vpc, nat_at, peering_at, table_at, tgw_table_at, vpc_at}
+use Rattle.vpc_model.specs.Lookup.{far_at, firewall_at, gateway_of, group_at, has_vpc, nat_at, peering_at, table_at, tgw_table_at, vpc_at}
 use Rattle.vpc_model.specs.Step.Transit.{no_tgw_route}
 use Rattle.vpc_model.specs.Told.{component_of, rule_of}
 
@@ -61,6 +63,14 @@ is_attachment d x = nat_lt x.0 (length d.attachments)
 abbrev pub is_tgw_table : Description → TgwTableNo → Bool
 is_tgw_table d x = nat_lt x.0 (length d.tgw_tables)
 
+-- the row of a network that isn't described is there
+abbrev pub is_far : Description → FarNo → Bool
+is_far d x = nat_lt x.0 (length d.fars)
+
+-- a firewall endpoint is described
+abbrev pub is_firewall : Description → FirewallNo → Bool
+is_firewall d x = nat_lt x.0 (length d.firewalls)
+
 -- a route of a table
 abbrev pub is_route : Description → TableNo → ℕ → Bool
 is_route d t k = let table = table_at d t in is_table d t && nat_lt k (length table.routes)
@@ -73,6 +83,7 @@ is_tgw_route d t k = let table = tgw_table_at d t in is_tgw_table d t && nat_lt 
 abbrev pub is_end : Description → End → Bool
 is_end d (ends.Interface i) = is_eni d i
 is_end d ends.Internet = true
+is_end d (ends.Far k) = is_far d k && is_far_end d (far_at d k)
 
 -- a rule of a described group, numbered from 1
 abbrev pub is_rule : Description → RuleRef → Bool
@@ -85,11 +96,13 @@ abbrev pub is_origin : Description → Came → Bool
 is_origin d (from.Host i) = is_eni d i
 is_origin d (from.Nat n) = is_nat d n
 is_origin d (from.Transit a) = is_attachment d a
+is_origin d (from.Firewall e) = is_firewall d e
 
 -- by what a packet enters a VPC
 abbrev pub is_entry : Description → EnterBy → Bool
 is_entry d through.Gateway = true
 is_entry d (through.Peering x) = is_peering d x
+is_entry d (through.Far k) = is_end d (ends.Far k)
 
 -- a NAT gateway that translates
 abbrev pub is_live : NatLife → Bool
@@ -107,7 +120,8 @@ joins d vpc None = false
 joins d vpc (Some pair) = (bytes_eq pair.0 vpc || bytes_eq pair.1 vpc) && (has_vpc d pair.0 && has_vpc d pair.1)
 
 -- a place where a packet can be: its numbers are in range, its NAT gateway is live, its VPC has an internet gateway attached, its
--- peering is active and joins its VPC to another that is described
+-- peering is active and joins its VPC to another that is described, its network is an end, what
+-- stands behind its firewall endpoint is told
 abbrev pub is_sound : Description → Place → Bool
 is_sound d (places.OutOf i) = is_eni d i
 is_sound d (places.Router s came) = is_subnet d s && is_origin d came
@@ -121,6 +135,9 @@ is_sound d (places.NatIn n) = let row = nat_at d n in is_nat d n && is_live row.
 is_sound d (places.Peer x v) = let row = peering_at d x in let vpc = vpc_at d v in is_peering d x && (is_vpc d v && joins d vpc.id row.pair)
 is_sound d (places.Tgw a s) = is_attachment d a && is_subnet d s
 is_sound d (places.TgwLeave a s) = is_attachment d a && is_subnet d s
+is_sound d (places.FarOut k) = is_end d (ends.Far k)
+is_sound d (places.FarIn k) = is_end d (ends.Far k)
+is_sound d (places.Inspect e) = let row = firewall_at d e in is_firewall d e && (is_followed d row && has_vpc d row.vpc)
 
 -- ---- stops that can be told
 

@@ -9,10 +9,14 @@ pub mod Internet
 pub mod Nat
 pub mod Peering
 pub mod Transit
+pub mod Far
+pub mod Inspect
 use Rattle.vpc_model.specs.Types.{Description, Label, Place}
 use Rattle.vpc_model.specs.declared.places.Place.TheVariants as places
 use Rattle.vpc_model.specs.Appliances.{Appliances}
 use Rattle.vpc_model.specs.Step.Enter.{step_enter}
+use Rattle.vpc_model.specs.Step.Far.{step_far_in, step_far_out}
+use Rattle.vpc_model.specs.Step.Inspect.{step_inspect}
 use Rattle.vpc_model.specs.Step.Interface.{step_into, step_out}
 use Rattle.vpc_model.specs.Step.Internet.{step_igw_in, step_igw_out, step_internet}
 use Rattle.vpc_model.specs.Step.Words.{Moment, Step}
@@ -25,7 +29,7 @@ use Rattle.vpc_model.specs.Step.Transit.{step_tgw, step_tgw_leave}
 abbrev pub step_at : Description → Appliances → Label → Place → Moment → Step
 step_at d appliances label (places.OutOf i) m = step_out d label i m
 step_at d appliances label (places.Router s came) m = step_router d s m
-step_at d appliances label (places.Enter v by) m = step_enter d v m
+step_at d appliances label (places.Enter v by) m = step_enter d v by m
 step_at d appliances label (places.Into i) m = step_into d appliances label i m
 step_at d appliances label (places.IgwOut v) m = step_igw_out d v m
 step_at d appliances label places.Internet m = step_internet d m
@@ -35,6 +39,9 @@ step_at d appliances label (places.NatIn n) m = step_nat_in d label n m
 step_at d appliances label (places.Peer x v) m = step_peer d x v m
 step_at d appliances label (places.Tgw a entered) m = step_tgw d a entered m
 step_at d appliances label (places.TgwLeave a entered) m = step_tgw_leave d a entered m
+step_at d appliances label (places.FarOut k) m = step_far_out d k m
+step_at d appliances label (places.FarIn k) m = step_far_in d label k m
+step_at d appliances label (places.Inspect e) m = step_inspect d e m
 
 -- the step of a packet at a place
 abbrev pub step_of : Description → Appliances → Label → Moment → Step

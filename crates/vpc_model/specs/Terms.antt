@@ -32,5 +32,5 @@ pub use Rattle.vpc_model.specs.Step.Transit.{by_attachment, by_tgw_route, by_tgw
 pub use Rattle.vpc_model.specs.Step.Words.{Moment, Next, Step, arrive, go, plain, stop, unless_stopped}
 pub use Rattle.vpc_model.specs.Told.{component_id, component_of, end_id, foreign_id, name_of, place_id, reach_text, route_target_id, rule_of, rule_text, stop_id, stop_rule, target_id, tgw_route_attachment, told_stop}
 pub use Rattle.vpc_model.specs.Transit.{attachment_for, beats_tgw, chosen_tgw_route, first_subnet, is_in_zone, leave_subnet, subnet_in_zone, table_of_attachment, zone_subnet}
-pub use Rattle.vpc_model.specs.Verdict.{hops_after, hops_of_reply, reply_hops, reply_walk, request_walk, same_end, verdict_of, verdict_of_arrival, verdict_of_reply, verdict_of_request}
+pub use Rattle.vpc_model.specs.Verdict.{Homes, alone, homes_among, hops_after, hops_of_reply, is_home, reply_hops, reply_walk, request_walk, same_end, verdict_by, verdict_of, verdict_of_arrival, verdict_of_reply, verdict_of_request}
 pub use Rattle.vpc_model.specs.Walk.{Walk, ended, is_visited, same_place, walk_of, walk_on}

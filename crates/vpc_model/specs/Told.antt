@@ -12,7 +12,7 @@ use Rattle.vpc_model.specs.declared.stops.StopRule.TheVariants as by
 use Rattle.vpc_model.specs.declared.rows.Target.TheVariants as targets
 use Rattle.prefix_text.specs.Block.{block_text}
 use Rattle.vpc_model.specs.Access.{access_of, access_text}
-use Rattle.vpc_model.specs.Lookup.{acl_at, attached_gateway, attachment_at, igw_at, interface_at, nat_at, peering_at, subnet_at, table_at, tgw_table_at, vpc_at}
+use Rattle.vpc_model.specs.Lookup.{acl_at, attached_gateway, attachment_at, far_at, firewall_at, igw_at, interface_at, nat_at, peering_at, subnet_at, table_at, tgw_table_at, vpc_at}
 use Rattle.vpc_model.specs.Step.Router.{no_route}
 use Rattle.vpc_model.specs.Step.Transit.{no_tgw_route}
 
@@ -34,11 +34,15 @@ place_id d (places.NatIn n) = let row = nat_at d n in row.id
 place_id d (places.Peer x v) = let row = peering_at d x in row.id
 place_id d (places.Tgw a s) = let row = attachment_at d a in row.id
 place_id d (places.TgwLeave a s) = let row = attachment_at d a in row.id
+place_id d (places.FarOut k) = let row = far_at d k in row.id
+place_id d (places.FarIn k) = let row = far_at d k in row.id
+place_id d (places.Inspect e) = let row = firewall_at d e in row.id
 
 -- the id of an end
 abbrev pub end_id : Description → End → List ℕ
 end_id d (ends.Interface i) = let e = interface_at d i in e.id
 end_id d ends.Internet = codes "internet"
+end_id d (ends.Far k) = let row = far_at d k in row.id
 
 -- a stop as it is told: its name, its component, and the rule of the component that stopped the packet
 abbrev pub parts_of : Stop → StopName × Component × StopRule
@@ -72,6 +76,11 @@ parts_of (stops.TgwNoZone a) = (is.TgwNoZone, at.Attachment a, by.None)
 parts_of (stops.TgwNoTable a) = (is.TgwNoTable, at.Attachment a, by.None)
 parts_of (stops.TgwNoRoute t) = (is.TgwNoRoute, at.TransitTable t, by.None)
 parts_of (stops.TgwBlackhole t k) = (is.TgwBlackhole, at.TransitTable t, by.TransitRoute t k)
+parts_of (stops.FarDetached k) = (is.FarDetached, at.End (ends.Far k), by.None)
+parts_of (stops.FarNoTable k) = (is.FarNoTable, at.End (ends.Far k), by.None)
+parts_of (stops.FarSource k) = (is.FarSource, at.End (ends.Far k), by.None)
+parts_of (stops.FarOpens k) = (is.FarOpens, at.End (ends.Far k), by.None)
+parts_of (stops.InspectDrop e) = (is.InspectDrop, at.Place (places.Inspect e), by.None)
 parts_of (stops.Unmodelled f) = (is.Unmodelled, at.Foreign f, by.None)
 parts_of (stops.Loop p) = (is.Loop, at.Place p, by.None)
 parts_of (stops.TooFar p) = (is.TooFar, at.Place p, by.None)

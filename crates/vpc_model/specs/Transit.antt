@@ -4,7 +4,7 @@ use Rattle.std.specs.Prelude.{◌==◌, ◌&&◌, ◌||◌, ◌∷◌, [], if◌
 use Rattle.vpc_model.specs.Types.{AttNo, Description, SubnetNo, TgwRoute, TgwTableNo}
 use Rattle.prefix_text.specs.Block.{holds}
 use Rattle.vpc_model.specs.Choice.{chosen_number, or_else}
-use Rattle.vpc_model.specs.Lookup.{attachment_at, has_vpc, subnet_at, subnet_no, tgw_table_of_id}
+use Rattle.vpc_model.specs.Lookup.{attachment_at, has_subnet, has_vpc, subnet_at, subnet_no, tgw_table_of_id}
 
 -- the subnet is in the zone (EC2 API, DescribeSubnets)
 abbrev pub is_in_zone : Description → List ℕ → List ℕ → Bool
@@ -42,6 +42,11 @@ chosen_tgw_route routes a = chosen_number (λ r. holds a r.block) beats_tgw rout
 abbrev pub first_subnet : Description → List (List ℕ) → Option SubnetNo
 first_subnet d [] = None
 first_subnet d (id ∷ ids) = Some (subnet_no d id)
+
+-- the same, where it is described (profile)
+abbrev pub first_described : Description → List (List ℕ) → Option SubnetNo
+first_described d [] = None
+first_described d (id ∷ ids) = if has_subnet d id then Some (subnet_no d id) else None
 
 -- by which subnet a packet leaves: the first in the zone where it entered, else the first; none without a described VPC or a subnet (profile)
 abbrev pub leave_subnet : Description → AttNo → SubnetNo → Option SubnetNo

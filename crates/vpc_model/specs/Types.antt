@@ -32,6 +32,10 @@ pub use Rattle.vpc_model.specs.declared.rows.TgwRoute.{TgwRoute}
 pub use Rattle.vpc_model.specs.declared.rows.TgwTable.{TgwTable}
 pub use Rattle.vpc_model.specs.declared.rows.Appliance.{Appliance}
 pub use Rattle.vpc_model.specs.declared.rows.ApplianceKind.{ApplianceKind}
+pub use Rattle.vpc_model.specs.declared.rows.ApplianceAt.{ApplianceAt}
+pub use Rattle.vpc_model.specs.declared.rows.Far.{Far}
+pub use Rattle.vpc_model.specs.declared.rows.FarKind.{FarKind}
+pub use Rattle.vpc_model.specs.declared.rows.FirewallEndpoint.{FirewallEndpoint}
 pub use Rattle.vpc_model.specs.declared.numbers.VpcNo.{VpcNo}
 pub use Rattle.vpc_model.specs.declared.numbers.SubnetNo.{SubnetNo}
 pub use Rattle.vpc_model.specs.declared.numbers.EniNo.{EniNo}
@@ -43,6 +47,8 @@ pub use Rattle.vpc_model.specs.declared.numbers.NatNo.{NatNo}
 pub use Rattle.vpc_model.specs.declared.numbers.PeerNo.{PeerNo}
 pub use Rattle.vpc_model.specs.declared.numbers.AttNo.{AttNo}
 pub use Rattle.vpc_model.specs.declared.numbers.TgwTableNo.{TgwTableNo}
+pub use Rattle.vpc_model.specs.declared.numbers.FarNo.{FarNo}
+pub use Rattle.vpc_model.specs.declared.numbers.FirewallNo.{FirewallNo}
 pub use Rattle.vpc_model.specs.declared.places.End.{End}
 pub use Rattle.vpc_model.specs.declared.places.Came.{Came}
 pub use Rattle.vpc_model.specs.declared.places.EnterBy.{EnterBy}

@@ -18,12 +18,14 @@ abbrev pub same_came : Came → Came → Bool
 same_came (from.Host i) (from.Host j) = i.0 == j.0
 same_came (from.Nat n) (from.Nat o) = n.0 == o.0
 same_came (from.Transit a) (from.Transit b) = a.0 == b.0
+same_came (from.Firewall e) (from.Firewall f) = e.0 == f.0
 same_came _ _ = false
 
--- entered by the same gateway or peering (profile)
+-- entered by the same gateway, peering or network (profile)
 abbrev pub same_enter : EnterBy → EnterBy → Bool
 same_enter through.Gateway through.Gateway = true
 same_enter (through.Peering x) (through.Peering y) = x.0 == y.0
+same_enter (through.Far k) (through.Far l) = k.0 == l.0
 same_enter _ _ = false
 
 -- two places are one: of one kind, with the same numbers, and a router reached in the same way (profile)
@@ -40,6 +42,9 @@ same_place (places.NatIn n) (places.NatIn o) = n.0 == o.0
 same_place (places.Peer x v) (places.Peer y w) = (x.0 == y.0) && (v.0 == w.0)
 same_place (places.Tgw a s) (places.Tgw b t) = (a.0 == b.0) && (s.0 == t.0)
 same_place (places.TgwLeave a s) (places.TgwLeave b t) = (a.0 == b.0) && (s.0 == t.0)
+same_place (places.FarOut k) (places.FarOut l) = k.0 == l.0
+same_place (places.FarIn k) (places.FarIn l) = k.0 == l.0
+same_place (places.Inspect e) (places.Inspect f) = e.0 == f.0
 same_place _ _ = false
 
 -- the place is among the hops (profile)

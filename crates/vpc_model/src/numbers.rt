@@ -43,3 +43,11 @@ pub struct AttNo(pub u32);
 /// The number of a row in `Description::tgw_tables`, from 0.
 #[derive(Clone, Copy, Debug, PartialEq, Eq, Default)]
 pub struct TgwTableNo(pub u32);
+
+/// The number of a row in `Description::fars`, from 0.
+#[derive(Clone, Copy, Debug, PartialEq, Eq, Default)]
+pub struct FarNo(pub u32);
+
+/// The number of a row in `Description::firewalls`, from 0.
+#[derive(Clone, Copy, Debug, PartialEq, Eq, Default)]
+pub struct FirewallNo(pub u32);

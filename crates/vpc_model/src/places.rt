@@ -2,13 +2,15 @@
 ghost use Rattle.std.specs.Prelude.{◌≡◌};
 ghost use Rattle.vpc_model.specs.Place.{start_of};
 
-use crate::{AttNo, EniNo, NatNo, PeerNo, SubnetNo, VpcNo};
+use crate::{AttNo, EniNo, FarNo, FirewallNo, NatNo, PeerNo, SubnetNo, VpcNo};
 
 /// Where a packet starts or arrives.
 #[derive(Clone, Copy, Debug, PartialEq, Eq)]
 pub enum End {
     Interface(EniNo),
     Internet,
+    /// A network that isn't described.
+    Far(FarNo),
 }
 
 /// From where a packet came to the router of a subnet.
@@ -17,13 +19,17 @@ pub enum Came {
     Host(EniNo),
     Nat(NatNo),
     Transit(AttNo),
+    Firewall(FirewallNo),
 }
 
 /// By what a packet enters a VPC.
 #[derive(Clone, Copy, PartialEq, Eq)]
 pub enum EnterBy {
+    /// Its internet gateway.
     Gateway,
     Peering(PeerNo),
+    /// What leads to a network that isn't described.
+    Far(FarNo),
 }
 
 /// A place of a walk.
@@ -33,7 +39,7 @@ pub enum Place {
     OutOf(EniNo),
     /// At the implicit router of a subnet.
     Router(SubnetNo, Came),
-    /// Entering a VPC from its internet gateway or from a peering.
+    /// Entering a VPC from a gateway of it or from a peering.
     Enter(VpcNo, EnterBy),
     /// Arriving at an interface.
     Into(EniNo),
@@ -52,6 +58,12 @@ pub enum Place {
     Tgw(AttNo, SubnetNo),
     /// Leaving a transit gateway by an attachment, having entered through this subnet.
     TgwLeave(AttNo, SubnetNo),
+    /// On the way into a network that isn't described.
+    FarOut(FarNo),
+    /// On the way from a network that isn't described.
+    FarIn(FarNo),
+    /// At a firewall endpoint.
+    Inspect(FirewallNo),
 }
 
 impl Default for Place {
@@ -67,5 +79,6 @@ pub fn start_place(end: &End) -> Place
     match end {
         End::Interface(eni) => Place::OutOf(*eni),
         End::Internet => Place::Internet,
+        End::Far(far) => Place::FarIn(*far),
     }
 }

@@ -24,6 +24,8 @@ pub enum ListName {
     TransitGatewayAttachments,
     TransitGatewayRoutes,
     Appliances,
+    VpnGateways,
+    VpcEndpoints,
 }
 
 /// Why the rows of a description don't make a network. Only the first cause of a description is told.

@@ -93,7 +93,7 @@ pub struct Route {
     pub propagated: bool,
 }
 
-/// A route table with the subnets that are associated with it (DescribeRouteTables).
+/// A route table with the subnets and gateways that are associated with it (DescribeRouteTables).
 #[derive(Drop)]
 pub struct RouteTable {
     pub id: Id,
@@ -101,6 +101,8 @@ pub struct RouteTable {
     /// Whether it serves the subnets of its VPC that are associated with no table.
     pub main: bool,
     pub subnets: OwnList<Id>,
+    /// The internet gateways and virtual private gateways whose packets it routes as they come in.
+    pub gateways: OwnList<Id>,
     pub routes: OwnList<Route>,
 }
 
@@ -242,13 +244,53 @@ pub enum ApplianceKind {
     Peer(Prefix),
 }
 
-/// An interface whose machine forwards packets that aren't for its own addresses. AWS describes no such
-/// thing: a bundle's `Appliances` are written by hand.
+/// Where a middlebox appliance stands.
+#[derive(Clone, Copy, PartialEq, Eq)]
+pub enum ApplianceAt {
+    /// At an interface whose machine forwards packets that aren't for its own addresses.
+    Interface,
+    /// Behind a firewall endpoint.
+    Endpoint,
+}
+
+/// What forwards packets at an interface or behind a firewall endpoint. AWS describes no such thing: a bundle's `Appliances`
+/// are written by hand.
 #[derive(Drop)]
 pub struct Appliance {
-    /// The id of the interface.
+    /// The id of the interface, or of the endpoint.
     pub id: Id,
+    pub at: ApplianceAt,
     pub kind: ApplianceKind,
+}
+
+/// What leads to a network of which no bundle tells.
+#[derive(Drop)]
+pub enum FarKind {
+    /// A virtual private gateway, with the VPC that it is attached to if it is to one (DescribeVpnGateways).
+    PrivateGateway(Option<Id>),
+    /// An attachment of a transit gateway, with the VPC if it is a VPC's (DescribeTransitGatewayAttachments).
+    Attachment(Option<Id>),
+    /// An active peering, with the blocks of its two VPCs, the requester's first (DescribeVpcPeeringConnections).
+    Peering(OwnList<Prefix>, OwnList<Prefix>),
+    /// A gateway endpoint of a VPC, behind which a service is (DescribeVpcEndpoints).
+    Endpoint(Id),
+}
+
+/// A network that isn't described, by what leads there.
+#[derive(Drop)]
+pub struct Far {
+    /// The id of what leads there.
+    pub id: Id,
+    pub kind: FarKind,
+}
+
+/// An endpoint that sends packets through a firewall: of a Gateway Load Balancer or of Network Firewall
+/// (DescribeVpcEndpoints).
+#[derive(Drop)]
+pub struct FirewallEndpoint {
+    pub id: Id,
+    pub vpc: Id,
+    pub subnet: Id,
 }
 
 /// A VPC to which a security group of another VPC belongs as well (DescribeSecurityGroupVpcAssociations).
@@ -297,6 +339,8 @@ pub struct Description {
     pub associations: OwnList<Association>,
     pub tgw_tables: OwnList<TgwTable>,
     pub appliances: OwnList<Appliance>,
+    pub fars: OwnList<Far>,
+    pub firewalls: OwnList<FirewallEndpoint>,
     pub scope: GroupScope,
 }
 
@@ -317,6 +361,8 @@ impl Drop for Description {
             associations,
             tgw_tables,
             appliances,
+            fars,
+            firewalls,
             scope,
         } = self;
         drop(vpcs);
@@ -333,6 +379,8 @@ impl Drop for Description {
         drop(associations);
         drop(tgw_tables);
         drop(appliances);
+        drop(fars);
+        drop(firewalls);
         drop(scope);
     }
 }

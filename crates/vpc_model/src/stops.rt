@@ -3,7 +3,8 @@ ghost use Rattle.std.specs.Prelude.{◌≡◌};
 ghost use Rattle.vpc_model.specs.Told.{component_of, name_of, parts_of, rule_of};
 
 use crate::{
-    AclNo, AttNo, End, EniNo, IgwNo, NatNo, PeerNo, Place, SubnetNo, TableNo, TgwTableNo, VpcNo,
+    AclNo, AttNo, End, EniNo, FarNo, FirewallNo, IgwNo, NatNo, PeerNo, Place, SubnetNo, TableNo,
+    TgwTableNo, VpcNo,
 };
 
 /// What leads out of the networks that are followed.
@@ -82,6 +83,16 @@ pub enum Stop {
     TgwNoTable(AttNo),
     TgwNoRoute(TgwTableNo),
     TgwBlackhole(TgwTableNo, u32),
+    /// The virtual private gateway isn't attached to the VPC.
+    FarDetached(FarNo),
+    /// The attachment from which the packet comes is associated with no described table.
+    FarNoTable(FarNo),
+    /// The source lies in no block of the gateway endpoint's VPC.
+    FarSource(FarNo),
+    /// A gateway endpoint opens no connections.
+    FarOpens(FarNo),
+    /// The firewall behind an endpoint drops the packet.
+    InspectDrop(FirewallNo),
     /// The packet leaves the networks that are followed.
     Unmodelled(Foreign),
     /// The packet would come to a place for the second time.
@@ -129,6 +140,11 @@ pub enum StopName {
     TgwNoTable,
     TgwNoRoute,
     TgwBlackhole,
+    FarDetached,
+    FarNoTable,
+    FarSource,
+    FarOpens,
+    InspectDrop,
     Unmodelled,
     Loop,
     TooFar,
@@ -214,6 +230,11 @@ impl Stop {
                 at::TransitTable(t),
                 by::TransitRoute(t, k),
             ),
+            Stop::FarDetached(k) => (is::FarDetached, at::End(End::Far(k)), by::None),
+            Stop::FarNoTable(k) => (is::FarNoTable, at::End(End::Far(k)), by::None),
+            Stop::FarSource(k) => (is::FarSource, at::End(End::Far(k)), by::None),
+            Stop::FarOpens(k) => (is::FarOpens, at::End(End::Far(k)), by::None),
+            Stop::InspectDrop(e) => (is::InspectDrop, at::Place(Place::Inspect(e)), by::None),
             Stop::Unmodelled(f) => (is::Unmodelled, at::Foreign(f), by::None),
             Stop::Loop(p) => (is::Loop, at::Place(p), by::None),
             Stop::TooFar(p) => (is::TooFar, at::Place(p), by::None),

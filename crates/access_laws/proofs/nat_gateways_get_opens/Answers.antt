@@ -13,6 +13,7 @@ returns c = λ d appliances v sent came inside accepted have is next at.
     let then = ap (λ (p : Place). (step_at d appliances labels.Opening p inside).next) at in
     elim handed [
       | inl ends ↦ inl (record { by = ends.by; stops_there = then ∙ ends.stops_there })
-      | inr over ↦
-          inr (over.0, then ∙ over.1, λ m there. record { by = stops.NatUnsolicited over.0; stops_there = ap (λ (p : Place). (step_at d appliances labels.Opening p m).next) there })
+      | inr (inl over) ↦
+          inr (inl (over.0, then ∙ over.1, λ m there. record { by = stops.NatUnsolicited over.0; stops_there = ap (λ (p : Place). (step_at d appliances labels.Opening p m).next) there }))
+      | inr (inr by) ↦ inr (inr (record { table = by.table; box = by.box; of_gateway = by.of_gateway; is_box = by.is_box; sends = then ∙ by.sends }))
     ]

@@ -17,4 +17,5 @@ returns c = record {
   associations = λ xs long. rw long refl;
   tgw_tables = λ xs long. rw long refl;
   appliances = λ xs long. rw long refl;
+  firewalls = λ xs long. rw long refl;
 }

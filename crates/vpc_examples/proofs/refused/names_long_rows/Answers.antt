@@ -8,6 +8,7 @@ returns c = record {
   delegated = λ xs long. rw long refl;
   member_of = λ xs long. rw long refl;
   table_subnets = λ xs long. rw long refl;
+  table_gateways = λ xs long. rw long refl;
   routes = λ xs long. rw long refl;
   entries = λ xs long. rw long refl;
   acl_subnets = λ xs long. rw long refl;
@@ -20,4 +21,6 @@ returns c = record {
   gateway_vpcs = λ xs long. rw long refl;
   attached = λ xs long. rw long refl;
   tgw_routes = λ xs long. rw long refl;
+  requester = λ xs long. rw long refl;
+  accepter = λ xs long. rw long refl;
 }
