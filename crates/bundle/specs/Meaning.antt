@@ -3,7 +3,7 @@ use Rattle.std.specs.Prelude.{◌≡◌, Bool, Err, List, None, Ok, Option, Resu
 use Rattle.serde_json.specs.Data.{Data}
 use Rattle.json_fields.specs.FieldFault.{and_then}
 use Rattle.json_fields.specs.declared.fault.FieldFault.TheVariants as faults
-use Rattle.bundle.specs.Types.{Acl, Appliance, Description, FieldFault, FilterRows, GatewayRows, Group, GroupScope, NetworkRows, Refusal}
+use Rattle.bundle.specs.Types.{Acl, Appliance, Description, FieldFault, FilterRows, GatewayRows, Group, GroupScope, NetworkRows, OutsideRows, Refusal}
 use Rattle.vpc_model.specs.declared.refusals.Refusal.TheVariants as refusals
 use Rattle.vpc_model.specs.Accepted.{refusal_of}
 use Rattle.read_network.specs.Appliances.{appliances_of}
@@ -11,6 +11,7 @@ use Rattle.read_network.specs.Network.{network_of}
 use Rattle.read_filters.specs.Filters.{filters_of}
 use Rattle.read_filters.specs.GroupRules.{group_rules_of}
 use Rattle.read_gateways.specs.Gateways.{gateways_of}
+use Rattle.read_gateways.specs.Outside.{outside_of}
 use Rattle.read_gateways.specs.Scope.{scope_of}
 use Rattle.bundle.specs.Instances.{instances_of}
 use Rattle.bundle.specs.Json.{IsJson, IsNoJson}
@@ -20,8 +21,8 @@ use Rattle.bundle.specs.declared.refusal.BundleRefusal.TheVariants as causes
 -- ---- the rows of a bundle
 
 -- the rows of all lists
-abbrev pub with_rows : NetworkRows → List Acl → List Group → GatewayRows → List Appliance → GroupScope → Description
-with_rows network acls groups gateways appliances scope =
+abbrev pub with_rows : NetworkRows → List Acl → List Group → GatewayRows → List Appliance → OutsideRows → GroupScope → Description
+with_rows network acls groups gateways appliances outside scope =
     record {
       vpcs = network.vpcs;
       subnets = network.subnets;
@@ -37,17 +38,21 @@ with_rows network acls groups gateways appliances scope =
       associations = gateways.associations;
       tgw_tables = gateways.tgw_tables;
       appliances = appliances;
+      fars = outside.fars;
+      firewalls = outside.firewalls;
       scope = scope;
     }
 
--- the description of these rows, with what a bundle tells apart from them: the rules of groups, the instances of
--- interfaces, and where groups count beside their own VPC (EC2 API, DescribeSecurityGroupRules, DescribeInstances and those of the scope)
+-- the description of these rows, with what a bundle tells apart from them: the rules of groups, networks that it doesn't
+-- describe, the instances of interfaces, and where groups count beside their own VPC (EC2 API, DescribeSecurityGroupRules,
+-- DescribeInstances and those of the others)
 abbrev pub with_later_lists : Data → NetworkRows → FilterRows → GatewayRows → List Appliance → Result Description FieldFault
 with_later_lists bundle network filters gateways appliances =
     and_then (group_rules_of bundle filters.groups) (λ groups.
+    and_then (outside_of bundle) (λ outside.
     and_then (instances_of bundle network.interfaces) (λ interfaces.
     and_then (scope_of bundle) (λ scope.
-    Ok (with_rows (record network { interfaces = interfaces }) filters.acls groups gateways appliances scope))))
+    Ok (with_rows (record network { interfaces = interfaces }) filters.acls groups gateways appliances outside scope)))))
 
 -- the description that a bundle gives, or its first fault, in the order of reading (profile)
 abbrev pub description_of : Data → Result Description FieldFault

@@ -9,7 +9,7 @@ use crate::BundleRefusal;
 use crate::instances::read_instances;
 use json_fields::FieldFault;
 use read_filters::{FilterRows, read_filters, read_group_rules};
-use read_gateways::{GatewayRows, read_gateways, read_group_scope};
+use read_gateways::{GatewayRows, OutsideRows, read_gateways, read_group_scope, read_outside};
 use read_network::{NetworkRows, read_appliances, read_network};
 use reference_check::Network;
 use serde_json::Value;
@@ -24,9 +24,10 @@ fn with_rows(
     groups: Vec<Group>,
     gateways: GatewayRows,
     appliances: Vec<Appliance>,
+    outside: OutsideRows,
     scope: GroupScope,
 ) -> Description
-    ensures { result ≡ with_rows network acls groups.items gateways appliances.items scope }
+    ensures { result ≡ with_rows network acls groups.items gateways appliances.items outside scope }
 {
     Description {
         vpcs: network.vpcs,
@@ -43,11 +44,13 @@ fn with_rows(
         associations: gateways.associations,
         tgw_tables: gateways.tgw_tables,
         appliances: OwnList::of(appliances),
+        fars: outside.fars,
+        firewalls: outside.firewalls,
         scope,
     }
 }
 
-// The rows of all lists, with what later lists tell of groups and interfaces.
+// The rows of all lists, with what later lists tell of groups, interfaces and networks that aren't described.
 fn with_later_lists(
     alloc: Global,
     bundle: &Value,
@@ -60,13 +63,22 @@ fn with_later_lists(
         (view bundle.now) network filters gateways appliances.items) result }
 {
     let groups = read_group_rules(alloc, bundle, filters.groups.into_vec())?;
+    let outside = read_outside(alloc, bundle)?;
     let interfaces = read_instances(alloc, bundle, network.interfaces.into_vec())?;
     let scope = read_group_scope(alloc, bundle)?;
     let network = NetworkRows {
         interfaces: OwnList::of(interfaces),
         ..network
     };
-    Ok(with_rows(network, filters.acls, groups, gateways, appliances, scope))
+    Ok(with_rows(
+        network,
+        filters.acls,
+        groups,
+        gateways,
+        appliances,
+        outside,
+        scope,
+    ))
 }
 
 // The rows of a bundle, or its first fault.

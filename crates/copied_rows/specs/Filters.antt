@@ -6,20 +6,4 @@ use Rattle.vpc_model.specs.declared.rows.Group.{Group}
 
 -- these in place of its own, and all else the same
 abbrev pub with_filters : Description → List Acl → List Group → Description
-with_filters d acls groups = record {
-  vpcs = d.vpcs;
-  subnets = d.subnets;
-  interfaces = d.interfaces;
-  tables = d.tables;
-  lists = d.lists;
-  acls = acls;
-  groups = groups;
-  igws = d.igws;
-  nats = d.nats;
-  peerings = d.peerings;
-  attachments = d.attachments;
-  associations = d.associations;
-  tgw_tables = d.tgw_tables;
-  appliances = d.appliances;
-  scope = d.scope;
-}
+with_filters d acls groups = record d { acls = acls; groups = groups }

@@ -50,6 +50,8 @@ pub fn copied_with(
         associations: copied_list(alloc, &d.associations)?,
         tgw_tables: copied_list(alloc, &d.tgw_tables)?,
         appliances: copied_list(alloc, &d.appliances)?,
+        fars: copied_list(alloc, &d.fars)?,
+        firewalls: copied_list(alloc, &d.firewalls)?,
         scope: copied_scope(alloc, &d.scope)?,
     })
 }

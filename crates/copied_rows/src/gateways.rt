@@ -82,7 +82,8 @@ impl CopiedRow for Association {
     }
 }
 
-fn copied_id(alloc: Global, id: &Option<Id>) -> Result<Option<Id>, NoMemory>
+/// The id once more, if there is one.
+pub(crate) fn copied_id(alloc: Global, id: &Option<Id>) -> Result<Option<Id>, NoMemory>
     ensures { IfOk result (λ i. i ≡ id.now) }
 {
     match id {

@@ -6,6 +6,7 @@ mod filters;
 mod gateways;
 mod lists;
 mod networks;
+mod outside;
 
 pub use description::copied_with;
 pub use lists::{CopiedRow, add_copies, copied_list};

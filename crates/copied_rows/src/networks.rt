@@ -86,6 +86,7 @@ impl CopiedRow for RouteTable {
             vpc: self.vpc.copied(alloc)?,
             main: self.main,
             subnets: copied_list(alloc, &self.subnets)?,
+            gateways: copied_list(alloc, &self.gateways)?,
             routes: copied_list(alloc, &self.routes)?,
         })
     }
@@ -115,6 +116,7 @@ impl CopiedRow for Appliance {
     fn copied(&self, alloc: Global) -> Result<Appliance, NoMemory> {
         Ok(Appliance {
             id: self.id.copied(alloc)?,
+            at: self.at,
             kind: copied_kind(&self.kind),
         })
     }

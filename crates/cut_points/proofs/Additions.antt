@@ -1,6 +1,7 @@
 -- Cuts that are added one after another.
 use Rattle.std.proofs.Common.{◌≡◌, ◌+◌, ◌<◌, ◌≤◌, ℕ, List, [], ◌∷◌, ◌++◌, Option, Some, None, refl, ap, append_assoc, arith, length, drop, filter, map, Bool, get_or, sym, ◌∙◌, add-one, drop-cons}
 use Rattle.std.specs.List.{flat_map}
+use Rattle.std.proofs.lemmas.Grind.{flat_map-append}
 use Rattle.std.proofs.lemmas.List.{append-nil, drop_all, map-append}
 use Rattle.std.proofs.lemmas.List.Elements.{filter-append}
 use Rattle.vpc_base.specs.Cuts.{CutLists, joined_cuts, no_cuts}
@@ -47,6 +48,12 @@ gathered_with-append f g xs ys = gathered_with-more g (all_cuts f xs) (all_cuts 
 pub gathered_with-interface : (g : CutLists) (own blocks : List ℕ) → gathered_with (gathered_with g (cuts_of_blocks own)) (cuts_of_blocks blocks) ≡ gathered_with g (cuts_of_blocks (own ++ blocks))
 gathered_with-interface g own blocks = gathered_with-more g (cuts_of_blocks own) (cuts_of_blocks blocks)
 
+-- the blocks of a peering's sides
+pub gathered_with-sides : (g : CutLists) (one other : List Block)
+    → gathered_with (gathered_with g (cuts_of_blocks (flat_map block_cuts one))) (cuts_of_blocks (flat_map block_cuts other)) ≡ gathered_with g (cuts_of_blocks (flat_map block_cuts (one ++ other)))
+gathered_with-sides g one other =
+    gathered_with-interface g (flat_map block_cuts one) (flat_map block_cuts other) ∙ ap (λ own. gathered_with g (cuts_of_blocks own)) (sym (flat_map-append block_cuts one other))
+
 -- the blocks of a rule, and then its protocol and range
 pub gathered_with-rule : (g : CutLists) (addr : List ℕ) (proto : Option ℕ) (from to : ℕ) → gathered_with (gathered_with g (cuts_of_blocks addr)) (cuts_of_rule proto from to []) ≡ gathered_with g (record { proto = proto_cuts proto; addr = addr; p = shifted_edges (edges from to); q = edges from to })
 gathered_with-rule g addr proto from to = gathered_with-more g (cuts_of_blocks addr) (cuts_of_rule proto from to []) ∙ rw append-nil
@@ -79,6 +86,8 @@ pub two_ranges : (p : ℕ → Bool) (f : ℕ → ℕ) (q : ℕ → Bool) (old a 
 two_ranges p f q old a b = simp (filter-append, map-append, append_assoc)
 
 pub ruleset untouched_sides = append-nil
+
+pub ruleset sides = (gathered_with-sides, gathered_with-none)
 
 pub ruleset additions = (gathered_with-more, gathered_with-none)
 

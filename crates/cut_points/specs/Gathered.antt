@@ -1,11 +1,12 @@
 -- What is gathered: the cuts of each row, without the entries of the prefix lists that it names, since each
 -- list gives its own.
+use Rattle.std.specs.List.{flat_map}
 use Rattle.std.specs.Prelude.{◌-◌, List, Option, filter, map, nat_le, ℕ}
-use Rattle.cut_points.specs.Types.{ApplianceKind, Block, Description, Group, Permission, Reach, Route, RouteTable}
+use Rattle.cut_points.specs.Types.{ApplianceKind, Block, Description, FarKind, Group, Permission, Reach, Route, RouteTable}
 use Rattle.vpc_model.specs.declared.rows.Reach.TheVariants as reaches
 use Rattle.vpc_base.specs.Cuts.{CutLists, joined_cuts, no_cuts}
 use Rattle.vpc_model.specs.Appliances.{boxes_of_kind}
-use Rattle.vpc_model.specs.Cuts.{all_cuts, all_permissions, block_cuts, cuts_of_blocks, cuts_of_box, cuts_of_list, cuts_of_rule, cuts_of_tgw_table, on_sides, pair_cuts, unbounded_standing}
+use Rattle.vpc_model.specs.Cuts.{all_cuts, all_permissions, block_cuts, blocks_of_far, cuts_of_blocks, cuts_of_box, cuts_of_list, cuts_of_rule, cuts_of_tgw_table, on_sides, pair_cuts, unbounded_standing}
 
 -- the gathered cuts and those of the others that lie on their sides
 unfoldable pub gathered_with : CutLists → CutLists → CutLists
@@ -30,6 +31,10 @@ cuts_of_pair x = cuts_of_blocks (pair_cuts x)
 -- the cuts of what an appliance forwards
 abbrev pub cuts_of_kind : ApplianceKind → CutLists
 cuts_of_kind k = all_cuts cuts_of_box (boxes_of_kind k)
+
+-- the cuts of the blocks that a peering's two sides tell
+abbrev pub cuts_of_far_kind : FarKind → CutLists
+cuts_of_far_kind k = cuts_of_blocks (flat_map block_cuts (blocks_of_far k))
 
 -- the cuts of a permission but for its prefix lists
 abbrev pub own_cuts_of_permission : Permission → CutLists

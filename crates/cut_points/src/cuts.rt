@@ -54,7 +54,8 @@ fn add_standing(gathered: &mut Gathered, d: &Description) -> Result<(), AllocErr
     add_all(gathered, d.vpcs.as_slice())?;
     add_all(gathered, d.interfaces.as_slice())?;
     add_all(gathered, d.acls.as_slice())?;
-    add_all(gathered, d.appliances.as_slice())
+    add_all(gathered, d.appliances.as_slice())?;
+    add_all(gathered, d.fars.as_slice())
 }
 
 // What only some places ask.
@@ -100,8 +101,8 @@ fn sorted(gathered: Gathered) -> Cuts
 /// carry, and around each private and public address. The sides q and p are cut at the first port and
 /// one past the last of each rule's range, p also 1,024 below these and at 1,024, where the ports that a
 /// NAT gateway takes begin, and q around the ICMP echo request (2,048). Each box of what an appliance
-/// forwards cuts all sides, by its ranges of p and of q both p and q. A number past the last one of its
-/// side is no cut. Takes time n log n in the rows of the description. Fails for want of memory alone.
+/// forwards cuts all sides, by its ranges of p and of q both p and q. Of networks that aren't described the
+/// blocks of peerings cut addresses. A number past the last one of its side is no cut. Takes time n log n in the rows of the description. Fails for want of memory alone.
 pub fn cuts_of(alloc: Global, d: &Description) -> Result<Cuts, NoMemory>
     ensures ascending { IfOk result AreAscending }
     ensures members { IfOk result (HasCuts (cuts_of d.now)) }

@@ -1,17 +1,21 @@
 // What each row cuts.
 ghost use Rattle.std.specs.Prelude.{◌≡◌, ◌+◌, ◌∷◌, ◌++◌, [], OnOk};
 ghost use Rattle.std.specs.List.{flat_map};
-ghost use Rattle.vpc_model.specs.Cuts.{address_cuts, all_cuts, block_cuts, cuts_of_acl, cuts_of_acl_row, cuts_of_appliance, cuts_of_blocks, cuts_of_box, cuts_of_interface, cuts_of_list, cuts_of_tgw_route, cuts_of_tgw_table, cuts_of_vpc};
+ghost use Rattle.vpc_model.specs.Cuts.{address_cuts, all_cuts, block_cuts, cuts_of_acl, cuts_of_acl_row, cuts_of_appliance};
+ghost use Rattle.vpc_model.specs.Cuts.{cuts_of_blocks, cuts_of_box, cuts_of_far, cuts_of_interface, cuts_of_list};
+ghost use Rattle.vpc_model.specs.Cuts.{cuts_of_tgw_route, cuts_of_tgw_table, cuts_of_vpc};
 ghost use Rattle.vpc_model.specs.Appliances.{boxes_of_kind};
-ghost use Rattle.cut_points.specs.Gathered.{cuts_of_block, cuts_of_kind, cuts_of_pair, gathered_with, own_cuts_of_group, own_cuts_of_permission, own_cuts_of_reach, own_cuts_of_route, own_cuts_of_table};
+ghost use Rattle.cut_points.specs.Gathered.{cuts_of_block, cuts_of_far_kind, cuts_of_kind, cuts_of_pair, gathered_with};
+ghost use Rattle.cut_points.specs.Gathered.{own_cuts_of_group, own_cuts_of_permission, own_cuts_of_reach};
+ghost use Rattle.cut_points.specs.Gathered.{own_cuts_of_route, own_cuts_of_table};
 
 use crate::gathered::Gathered;
 use header_boxes::Box5;
 use prefix_text::Prefix;
 use std::alloc::AllocError;
 use vpc_model::{
-    Acl, AclRow, Appliance, ApplianceKind, Group, Interface, Permission, PrefixList, Reach, Route,
-    RouteTable, TgwRoute, TgwTable, Vpc,
+    Acl, AclRow, Appliance, ApplianceKind, Far, FarKind, Group, Interface, Permission, PrefixList,
+    Reach, Route, RouteTable, TgwRoute, TgwTable, Vpc,
 };
 
 /// A row, or a part of one, that cuts the sides of headers. The entries of a prefix list that it names are left to
@@ -208,6 +212,30 @@ impl Cutting for ApplianceKind {
 
 impl Cutting for Appliance {
     ghost cuts = { cuts_of_appliance };
+
+    fn add_to(&self, gathered: &mut Gathered) -> Result<(), AllocError> {
+        self.kind.add_to(gathered)
+    }
+}
+
+// The blocks of a peering's two sides.
+#[tactic(auto, using(crate::proofs::Additions::sides))]
+impl Cutting for FarKind {
+    ghost cuts = { cuts_of_far_kind };
+
+    fn add_to(&self, gathered: &mut Gathered) -> Result<(), AllocError> {
+        match self {
+            FarKind::Peering(requester, accepter) => {
+                add_blocks(gathered, requester.as_slice())?;
+                add_blocks(gathered, accepter.as_slice())
+            }
+            FarKind::PrivateGateway(_) | FarKind::Attachment(_) | FarKind::Endpoint(_) => Ok(()),
+        }
+    }
+}
+
+impl Cutting for Far {
+    ghost cuts = { cuts_of_far };
 
     fn add_to(&self, gathered: &mut Gathered) -> Result<(), AllocError> {
         self.kind.add_to(gathered)

@@ -1,9 +1,10 @@
 -- Rows of which some are dropped, told in one pass.
-use Rattle.std.proofs.Common.{◌≡◌, ◌∙◌, ◌++◌, ◌∷◌, ◌||◌, ℕ, Bool, true, false, List, [], refl, ap, sym, subst, not, filter, bytes_eq, cond, append_assoc}
+use Rattle.std.proofs.Common.{◌≡◌, ◌∙◌, ◌++◌, ◌∷◌, ◌||◌, ℕ, Bool, true, false, List, [], None, Option, Some, refl, ap, sym, subst, not, filter, bytes_eq, cond, append_assoc}
 use Rattle.std.specs.List.{list_any}
+use Rattle.std.proofs.lemmas.List.{append-nil}
 use Rattle.std.proofs.lemmas.List.Folds.{list_any-append}
 use Rattle.std.proofs.lemmas.Slice.Eq.{bytes_eq-Decides}
-use Rattle.json_fields.specs.Kept.{firsts_by, first_of_each, with_another}
+use Rattle.json_fields.specs.Kept.{firsts_by, first_of_each, those_there, with_another}
 
 -- the rows whose keys were not seen
 abbrev pub unseen : {A K : Type 0} → (K → K → Bool) → (A → K) → List K → List A → List A
@@ -103,6 +104,11 @@ pub dropped-seen_id : {A : Type 0} (id_of : A → List ℕ) (seen : List (List �
     → list_any (bytes_eq (id_of row)) seen ≡ true
     → unseen bytes_eq id_of seen (first_of_each id_of (row ∷ rows)) ≡ unseen bytes_eq id_of seen (first_of_each id_of rows)
 dropped-seen_id id_of seen row rows known = dropped-seen bytes_eq (λ x y. (bytes_eq-Decides x y).0) id_of seen row rows known
+
+-- a value that may be there, before others
+pub there_next : {A : Type 0} (before : List A) (o : Option A) (others : List (Option A)) → before ++ those_there (o ∷ others) ≡ (before ++ those_there (o ∷ [])) ++ those_there others
+there_next before None others = ap (λ xs. xs ++ those_there others) (sym (append-nil before))
+there_next before (Some a) others = sym (append_assoc before (a ∷ []) (those_there others))
 
 -- the lemmas by which a loop over rows keeps the first of each id
 pub ruleset first_rows = (unseen-none, kept-new_id, dropped-seen_id)

@@ -6,7 +6,7 @@ use indexmap::IndexSet;
 use std::alloc::{AllocError, Global};
 use std::marker::Model;
 use vpc_base::NoMemory;
-use vpc_model::{Association, Attachment, Id, Peering, PrefixList};
+use vpc_model::{Association, Attachment, Far, Id, Peering, PrefixList};
 
 /// The values that are there, in order.
 pub fn those_there<T: Drop>(alloc: Global, all: Vec<Option<T>>) -> Result<Vec<T>, AllocError>
@@ -111,6 +111,14 @@ impl HasId for Association {
 
     fn id(&self) -> &Id {
         &self.attachment
+    }
+}
+
+impl HasId for Far {
+    ghost id_of = { λ row. row.id };
+
+    fn id(&self) -> &Id {
+        &self.id
     }
 }
 

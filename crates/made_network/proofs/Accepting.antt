@@ -158,7 +158,7 @@ no-long_lists n most =
         (
           short-lists named.NetworkInterfaces (λ (e : Interface). is_long e.addresses || (is_long e.prefixes || is_long e.groups)) made_interface n most (λ k. refl),
           (
-            short-lists named.RouteTables (λ (t : RouteTable). is_long t.subnets || is_long t.routes) made_table n most (λ k. refl),
+            short-lists named.RouteTables (λ (t : RouteTable). is_long t.subnets || (is_long t.gateways || is_long t.routes)) made_table n most (λ k. refl),
             (
               refl,
               (
@@ -177,7 +177,7 @@ no-long_lists n most =
                             short-lists named.TransitGatewayAttachments (λ (x : Association). false) made_association n most (λ k. refl),
                             (
                               one_list named.TransitGatewayRoutes (λ (t : TgwTable). is_long t.routes) (made_gateway_table n) (short _ n most),
-                              (refl, tt),
+                              (refl, (refl, (refl, tt))),
                             ),
                           ),
                         ),

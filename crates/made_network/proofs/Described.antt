@@ -4,7 +4,7 @@ use Rattle.std.specs.List.{flat_map}
 use Rattle.std.proofs.lemmas.Bool.{and_from, cond-true}
 use Rattle.std.proofs.lemmas.Grind.{flat_map-append}
 use Rattle.vpc_base.proofs.Members.{nothing-append}
-use Rattle.vpc_model.specs.Accepted.{is_subnet_of, missing_of_acl, missing_of_appliance, missing_of_attachment, missing_of_group, missing_of_igw, missing_of_interface, missing_of_life, missing_of_subnet, missing_of_table, missing_references, wanted}
+use Rattle.vpc_model.specs.Accepted.{is_subnet_of, missing_of_acl, missing_of_appliance, missing_of_attachment, missing_of_firewall, missing_of_group, missing_of_igw, missing_of_interface, missing_of_life, missing_of_subnet, missing_of_table, missing_references, wanted}
 use Rattle.vpc_model.specs.Lookup.{has_group, has_list, has_subnet, has_vpc, no_subnet, subnet_at, subnet_no}
 use Rattle.vpc_model.specs.declared.rows.NatGateway.{NatGateway}
 use Rattle.made_network.specs.Types.{Group, Permission, Subnet, Vpc}
@@ -100,4 +100,6 @@ nothing-missing n most =
     let n6 = nothing-append m5 (flat_map (missing_of_igw d) d.igws) n5 refl in
     let n7 = nothing-append m6 (flat_map (λ (g : NatGateway). missing_of_life d g.id g.life) d.nats) n6 refl in
     let n8 = nothing-append m7 (flat_map (missing_of_attachment d) d.attachments) n7 (flat_map-each (missing_of_attachment d) made_attachment 1 n (λ k one. of_attachment n k most one)) in
-    nothing-append m8 (flat_map (missing_of_appliance d) d.appliances) n8 refl
+    let m9 = m8 ++ flat_map (missing_of_appliance d) d.appliances in
+    let n9 = nothing-append m8 (flat_map (missing_of_appliance d) d.appliances) n8 refl in
+    nothing-append m9 (flat_map (missing_of_firewall d) d.firewalls) n9 refl

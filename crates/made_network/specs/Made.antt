@@ -91,7 +91,7 @@ route_to_gateway = record { reach = reaches.Block all_vpcs; target = targets.Tra
 
 -- the VPC's main table
 abbrev pub made_table : ℕ → RouteTable
-made_table k = record { id = table_id k; vpc = vpc_id k; main = true; subnets = []; routes = local_route k ∷ route_to_gateway ∷ [] }
+made_table k = record { id = table_id k; vpc = vpc_id k; main = true; subnets = []; gateways = []; routes = local_route k ∷ route_to_gateway ∷ [] }
 
 -- row 100 allows everything in one direction
 abbrev pub open_row : Bool → AclRow
@@ -147,6 +147,8 @@ made n = record {
   associations = for_each made_association n;
   tgw_tables = made_gateway_table n ∷ [];
   appliances = [];
+  fars = [];
+  firewalls = [];
   scope = no_scope;
 }
 

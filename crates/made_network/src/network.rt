@@ -60,6 +60,8 @@ fn description(alloc: Global, n: u8) -> Result<Description, NoMemory>
         associations: rows(alloc, n)?,
         tgw_tables: only_row(alloc, gateway_table(alloc, n)?)?,
         appliances: no_rows(alloc),
+        fars: no_rows(alloc),
+        firewalls: no_rows(alloc),
         scope: no_scope(alloc),
     })
 }

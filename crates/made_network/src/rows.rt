@@ -112,6 +112,7 @@ impl MadeRow for RouteTable {
             vpc: numbered(alloc, "vpc", number)?,
             main: true,
             subnets: no_rows(alloc),
+            gateways: no_rows(alloc),
             routes: two_rows(alloc, local_route(number), route_to_gateway(alloc)?)?,
         })
     }

@@ -5,4 +5,5 @@ pub mod Peerings
 pub mod Transit
 pub mod Gateways
 pub mod Scope
+pub mod Outside
 pub mod Terms

@@ -16,7 +16,8 @@ fn side_of(alloc: Global, row: &Value, path: &Path, side: &str) -> Result<Id, Fi
     id_within(alloc, row, path, side, "VpcId")
 }
 
-fn is_active(alloc: Global, row: &Value, path: &Path) -> Result<bool, FieldFault>
+/// Whether the peering is active.
+pub fn is_active(alloc: Global, row: &Value, path: &Path) -> Result<bool, FieldFault>
     ensures { Reads (λ x. x) (is_active_of (view row.now) path.now) result }
 {
     match str_within(alloc, row, path, "Status", "Code") {

@@ -2,8 +2,9 @@
 ghost use Rattle.std.specs.Prelude.{◌≡◌};
 ghost use Rattle.serde_json.specs.View.{view};
 ghost use Rattle.json_fields.specs.FieldFault.{Reads};
-ghost use Rattle.read_gateways.specs.Transit.{association_of, attachment_of, destination_of, first_attachment, head_of, id_item, ipv4_route_of, is_ipv6, is_usable, is_usable_of, named_attachment, tgw_route_of, tgw_table_of};
+ghost use Rattle.read_gateways.specs.Transit.{association_of, attachment_of, destination_of, first_attachment, head_of, ipv4_route_of, is_ipv6, is_usable, is_usable_of, named_attachment, tgw_route_of, tgw_table_of};
 
+use crate::ids::{IdItems, first_id};
 use crate::texts::text_is;
 use json_fields::{
     FieldFault, Path, ReadRow, id_at, id_if_within, read_items, read_kept_items, str_at,
@@ -14,7 +15,8 @@ use std::alloc::Global;
 use vpc_base::OwnList;
 use vpc_model::{Association, Attachment, Id, TgwRoute, TgwTable};
 
-fn is_usable(state: &str) -> bool
+/// Whether an attachment in this state carries packets.
+pub fn is_usable(state: &str) -> bool
     ensures { result ≡ is_usable state.now }
 {
     state == "available" || state == "modifying"
@@ -27,25 +29,6 @@ pub fn is_usable_at(alloc: Global, row: &Value, path: &Path) -> Result<bool, Fie
     match str_at(alloc, row, path, "State") {
         Ok(state) => Ok(is_usable(state)),
         Err(fault) => Err(fault),
-    }
-}
-
-/// The items of an attachment's `SubnetIds`, which are ids themselves.
-struct SubnetIds;
-
-impl ReadRow for SubnetIds {
-    type Row = Id;
-
-    ghost meaning = { id_item };
-
-    fn read(alloc: Global, row: &Value, path: &Path) -> Result<Id, FieldFault> {
-        let Some(text) = row.as_str() else {
-            return Err(FieldFault::wrong_shape_of(alloc, path));
-        };
-        match Id::of(alloc, text.as_bytes())? {
-            Some(id) => Ok(id),
-            None => Err(FieldFault::bad_text_of(alloc, path)),
-        }
     }
 }
 
@@ -70,7 +53,7 @@ fn attachment_of(alloc: Global, row: &Value, path: &Path) -> Result<Option<Attac
     ensures { Reads (λ x. x) (attachment_of (view row.now) path.now) result }
 {
     let head = head_of(alloc, row, path)?;
-    let subnets = read_items::<SubnetIds>(alloc, row, path, "SubnetIds")?;
+    let subnets = read_items::<IdItems>(alloc, row, path, "SubnetIds")?;
     if !is_usable_at(alloc, row, path)? {
         return Ok(None);
     }
@@ -168,11 +151,8 @@ impl ReadRow for NamedAttachments {
 fn first_attachment(alloc: Global, row: &Value, path: &Path) -> Result<Option<Id>, FieldFault>
     ensures { Reads (λ x. x) (first_attachment (view row.now) path.now) result }
 {
-    let mut all = read_items::<NamedAttachments>(alloc, row, path, "TransitGatewayAttachments")?;
-    if all.len() == 0 {
-        return Ok(None);
-    }
-    Ok(Some(all.swap_remove(0)))
+    let all = read_items::<NamedAttachments>(alloc, row, path, "TransitGatewayAttachments")?;
+    Ok(first_id(all))
 }
 
 fn ipv4_route_of(

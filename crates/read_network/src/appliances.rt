@@ -2,13 +2,20 @@
 ghost use Rattle.std.specs.Prelude.{◌≡◌};
 ghost use Rattle.serde_json.specs.View.{view};
 ghost use Rattle.json_fields.specs.FieldFault.{Reads};
-ghost use Rattle.read_network.specs.Appliances.{appliance_of, appliances_of, kind_at, kind_by, ports_of, service_of, some_ports};
+ghost use Rattle.read_network.specs.Appliances.{appliance_of, appliances_of, behind_endpoint, kind_at, kind_by, ports_of, service_of, some_ports, standing_of};
 
-use json_fields::{FieldFault, Path, ReadRow, id_at, prefix_at, read_list, str_at};
+use json_fields::{FieldFault, Path, ReadRow, id_if, prefix_at, read_list, str_at};
 use prefix_text::read_range;
 use serde_json::Value;
 use std::alloc::Global;
-use vpc_model::{Appliance, ApplianceKind};
+use vpc_model::{Appliance, ApplianceAt, ApplianceKind, Id};
+
+/// Where an appliance stands.
+#[derive(Drop)]
+struct Standing {
+    id: Id,
+    at: ApplianceAt,
+}
 
 fn some_ports(range: (u16, u16)) -> Option<(u16, u16)>
     ensures { result ≡ some_ports range }
@@ -66,12 +73,40 @@ fn kind_at(alloc: Global, row: &Value, path: &Path) -> Result<ApplianceKind, Fie
     }
 }
 
+fn behind_endpoint(alloc: Global, row: &Value, path: &Path) -> Result<Standing, FieldFault>
+    ensures { Reads (λ x. x) (behind_endpoint (view row.now) path.now) result }
+{
+    match id_if(alloc, row, path, "VpcEndpointId")? {
+        Some(id) => Ok(Standing {
+            id,
+            at: ApplianceAt::Endpoint,
+        }),
+        None => Err(FieldFault::wrong_shape(alloc, path, "NetworkInterfaceId")),
+    }
+}
+
+fn standing_of(alloc: Global, row: &Value, path: &Path) -> Result<Standing, FieldFault>
+    ensures { Reads (λ x. x) (standing_of (view row.now) path.now) result }
+{
+    match id_if(alloc, row, path, "NetworkInterfaceId")? {
+        Some(id) => Ok(Standing {
+            id,
+            at: ApplianceAt::Interface,
+        }),
+        None => behind_endpoint(alloc, row, path),
+    }
+}
+
 fn appliance_of(alloc: Global, row: &Value, path: &Path) -> Result<Appliance, FieldFault>
     ensures { Reads (λ x. x) (appliance_of (view row.now) path.now) result }
 {
-    let id = id_at(alloc, row, path, "NetworkInterfaceId")?;
+    let standing = standing_of(alloc, row, path)?;
     let kind = kind_at(alloc, row, path)?;
-    Ok(Appliance { id, kind })
+    Ok(Appliance {
+        id: standing.id,
+        at: standing.at,
+        kind,
+    })
 }
 
 /// The rows of `Appliances`.
@@ -90,8 +125,8 @@ impl ReadRow for Appliances {
 /// The appliances of a bundle, or the first fault where a row can't be read. It takes time linear in
 /// the bundle.
 ///
-/// No call of AWS prints the list `Appliances`. Each of its rows has a `NetworkInterfaceId` and a
-/// `Kind`: `all`, `none`, `service` with `Ports` such as `80-443`, or `peer` with a `Prefix`.
+/// No call of AWS prints the list `Appliances`. Each of its rows has a `NetworkInterfaceId`, or else a `VpcEndpointId`,
+/// and a `Kind`: `all`, `none`, `service` with `Ports` such as `80-443`, or `peer` with a `Prefix`.
 pub fn read_appliances(alloc: Global, bundle: &Value) -> Result<Vec<Appliance>, FieldFault>
     ensures { Reads (λ v. v.items) (appliances_of (view bundle.now)) result }
 {

@@ -1,8 +1,9 @@
 // Route tables.
-ghost use Rattle.std.specs.Prelude.{◌≡◌, IfOk};
+ghost use Rattle.std.specs.Prelude.{◌≡◌, ◌++◌, ◌∷◌, [], IfOk, OnOk};
 ghost use Rattle.serde_json.specs.View.{view};
 ghost use Rattle.json_fields.specs.FieldFault.{Reads};
-ghost use Rattle.read_network.specs.Tables.{is_main, subnets_of, table_association, table_of};
+ghost use Rattle.json_fields.specs.Kept.{those_there};
+ghost use Rattle.read_network.specs.Tables.{is_main, served_of, table_association, table_of};
 
 use crate::routes::Routes;
 use json_fields::{FieldFault, Path, ReadRow, flag_if, id_at, id_if, read_items, read_kept_items};
@@ -16,6 +17,14 @@ use vpc_model::{Id, Route, RouteTable};
 struct TableAssociation {
     main: bool,
     subnet: Option<Id>,
+    gateway: Option<Id>,
+}
+
+/// Whose packets a route table routes, but for those of its VPC's other subnets where it is the main one.
+#[derive(Drop)]
+struct Served {
+    subnets: OwnList<Id>,
+    gateways: OwnList<Id>,
 }
 
 fn table_association(
@@ -27,9 +36,11 @@ fn table_association(
 {
     let main = flag_if(alloc, row, path, "Main")?;
     let subnet = id_if(alloc, row, path, "SubnetId")?;
+    let gateway = id_if(alloc, row, path, "GatewayId")?;
     Ok(TableAssociation {
         main: main.unwrap_or(false),
         subnet,
+        gateway,
     })
 }
 
@@ -52,16 +63,30 @@ fn is_main(associations: &[TableAssociation]) -> bool
     associations.iter().any(|association| association.main)
 }
 
-fn subnets_of(alloc: Global, associations: Vec<TableAssociation>) -> Result<Vec<Id>, AllocError>
-    ensures { IfOk result (λ v. v.items ≡ subnets_of associations.items) }
+// Adds the id after those that are there, if it is told.
+fn add_told(ids: &mut Vec<Id>, id: Option<Id>) -> Result<(), AllocError>
+    ensures { OnOk result (ids.new.items ≡ ids.old.items ++ those_there (id ∷ [])) }
+{
+    if let Some(id) = id {
+        ids.push(id)?;
+    }
+    Ok(())
+}
+
+#[tactic(auto, using(json_fields::proofs::KeptLemmas::there_next))]
+fn served_of(alloc: Global, associations: Vec<TableAssociation>) -> Result<Served, AllocError>
+    ensures { IfOk result (λ served. served ≡ served_of associations.items) }
 {
     let mut subnets = Vec::new(alloc);
+    let mut gateways = Vec::new(alloc);
     for association in associations {
-        if let Some(subnet) = association.subnet {
-            subnets.push(subnet)?;
-        }
+        add_told(&mut subnets, association.subnet)?;
+        add_told(&mut gateways, association.gateway)?;
     }
-    Ok(subnets)
+    Ok(Served {
+        subnets: OwnList::of(subnets),
+        gateways: OwnList::of(gateways),
+    })
 }
 
 fn table_of(alloc: Global, row: &Value, path: &Path) -> Result<RouteTable, FieldFault>
@@ -72,12 +97,13 @@ fn table_of(alloc: Global, row: &Value, path: &Path) -> Result<RouteTable, Field
     let associations = read_items::<TableAssociations>(alloc, row, path, "Associations")?;
     let routes = read_kept_items::<Route, Routes>(alloc, row, path, "Routes")?;
     let main = is_main(associations.as_slice());
-    let subnets = subnets_of(alloc, associations)?;
+    let served = served_of(alloc, associations)?;
     Ok(RouteTable {
         id,
         vpc,
         main,
-        subnets: OwnList::of(subnets),
+        subnets: served.subnets,
+        gateways: served.gateways,
         routes: OwnList::of(routes),
     })
 }
