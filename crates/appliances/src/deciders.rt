@@ -86,8 +86,8 @@ impl Deciders {
         (self.decide)(k, h)
     }
 
-    /// Whether the appliance of this number forwards the headers of an image. It asks the boxes, not the closure: those up to
-    /// the first one that has the low corner.
+    /// Whether the appliance of this number forwards the headers of an image. It asks the boxes, not the
+    /// closure: those up to the first one that has the low corner.
     pub fn passes_on(&self, k: u32, i: &Image) -> Part<bool>
         requires number { k < length self.now.appliances }
         requires valid { IsValidImage i.now }

@@ -1,6 +1,6 @@
 // The appliances of a network.
-ghost use Rattle.std.specs.Prelude.{◌≡◌, ◌<◌, ◌^◌, ◌++◌, ◌∷◌, [], Contains, IfOk, OnOk, length, map};
-ghost use Rattle.vpc_model.specs.Appliances.{appliances_of, boxes_of_kind};
+ghost use Rattle.std.specs.Prelude.{◌≡◌, ◌<◌, ◌^◌, ◌++◌, ◌∷◌, [], Contains, IfOk, IsTrue, OnOk, filter, length, map};
+ghost use Rattle.vpc_model.specs.Appliances.{appliances_of, boxes_of_kind, is_at_interface};
 ghost use Rattle.vpc_model.specs.Lookup.{eni_no};
 ghost use Rattle.appliances.specs.Passing.{kind_passes_at};
 
@@ -10,7 +10,16 @@ use reference_check::Network;
 use std::alloc::Global;
 use std::marker::Model;
 use vpc_base::{Header, NoMemory, OwnList};
-use vpc_model::{Appliance, ApplianceKind, EniNo};
+use vpc_model::{Appliance, ApplianceAt, ApplianceKind, EniNo};
+
+fn is_at_interface(at: ApplianceAt) -> bool
+    ensures { result ≡ is_at_interface at }
+{
+    match at {
+        ApplianceAt::Interface => true,
+        ApplianceAt::Endpoint => false,
+    }
+}
 
 fn copy_of(kind: &ApplianceKind) -> ApplianceKind
     ensures { result ≡ kind.now }
@@ -28,7 +37,8 @@ fn row_of(
     n: &Network,
     appliance: &Appliance,
 ) -> Result<(EniNo, OwnList<Box5>), NoMemory>
-    requires { Contains n.now.appliances appliance.now }
+    requires described { Contains n.now.appliances appliance.now }
+    requires interface { IsTrue (is_at_interface appliance.now.at) }
     ensures { IfOk result (λ r. r ≡ (eni_no n.now appliance.now.id, boxes_of_kind appliance.now.kind)) }
 {
     let _ = n.description();
@@ -51,12 +61,14 @@ fn rows_of(alloc: Global, n: &Network) -> Result<Vec<(EniNo, OwnList<Box5>)>, No
     let appliances = n.description().appliances.as_slice();
     let mut rows = Vec::with_capacity(alloc, appliances.len())?;
     for appliance in appliances {
-        add(&mut rows, row_of(alloc, n, appliance)?)?;
+        if is_at_interface(appliance.at) {
+            add(&mut rows, row_of(alloc, n, appliance)?)?;
+        }
     }
     Ok(rows)
 }
 
-/// The interfaces of the described appliances, in their order, with the boxes of what each forwards.
+/// The interfaces at which appliances are described, in their order, with the boxes of what each forwards.
 pub fn appliances_of(
     alloc: Global,
     n: &Network,
@@ -69,7 +81,7 @@ pub fn appliances_of(
     Ok(OwnList::of(rows))
 }
 
-/// The kinds of the described appliances, in their order. Contracts see their list.
+/// The kinds of the appliances at interfaces, in their order. Contracts see their list.
 pub struct Kinds {
     kinds: Vec<ApplianceKind>,
 }
@@ -91,14 +103,17 @@ impl Model for Kinds {
 }
 
 impl Kinds {
-    /// The kinds of a network's appliances.
+    /// The kinds of a network's appliances at interfaces.
     pub fn of(alloc: Global, n: &Network) -> Result<Kinds, NoMemory>
-        ensures { IfOk result (λ k. k ≡ map (λ a. a.kind) n.now.appliances) }
+        ensures { IfOk result (λ k. k ≡ map (λ a. a.kind)
+            (filter (λ a. is_at_interface a.at) n.now.appliances)) }
     {
         let appliances = n.description().appliances.as_slice();
         let mut kinds = Vec::with_capacity(alloc, appliances.len())?;
         for appliance in appliances {
-            add(&mut kinds, copy_of(&appliance.kind))?;
+            if is_at_interface(appliance.at) {
+                add(&mut kinds, copy_of(&appliance.kind))?;
+            }
         }
         Ok(Kinds { kinds })
     }

@@ -1,12 +1,13 @@
 -- The interfaces that belong to no gateway, and their order.
-use Rattle.std.proofs.Common.{All, AllPairs, Bool, IsPermutation, IsSortedByKey, List, [], ap, append-nil, arith, bytes_eq, cond, false, filter, get_or, is_lt, length, map, nat_cmp, subst, sym, true, ℕ, ◌++◌, ◌+◌, ◌<◌, ◌^◌, ◌∙◌, ◌∷◌, ◌≡◌}
+use Rattle.std.proofs.Common.{All, AllPairs, Bool, IsPermutation, IsSortedByKey, List, [], ap, arith, bytes_eq, cond, false, filter, get_or, length, map, nat_cmp, subst, sym, true, ℕ, ◌++◌, ◌+◌, ◌<◌, ◌^◌, ◌∙◌, ◌∷◌, ◌≡◌}
 use Rattle.std.specs.Cmp.Lexicographic.{slice_cmp}
 use Rattle.std.specs.List.{IsDistinct, range_with_len}
-use Rattle.vpc_base.proofs.Lemmas.{All-filter, All-permutation, AllPairs-filter, IsDistinct-IsPermutation, IsDistinct-from_apart, apart_from_distinct, comes-before, false_from_ne_true, filter_of_map_range_with_len_more, get_or-map-range_with_len, get_or_default, length-map-range_with_len, lt-ltb, nat_list_cmp_total, nat_list_eq_equiv, ranks_by, same_bytes, sorted_far}
+use Rattle.vpc_base.proofs.Lemmas.{All-filter, All-permutation, AllPairs-filter, IsDistinct-from_apart, false_from_ne_true, filter_of_map_range_with_len_more, get_or-map-range_with_len, get_or_default, length-map-range_with_len, lt-ltb, same_bytes}
 use Rattle.vpc_laws.proofs.Lemmas.{accepted_has_short_lists, accepted_numbers_are_own}
 use Rattle.vpc_laws.specs.Types.{Description, EniNo, Interface}
 use Rattle.vpc_model.specs.Terms.{IsAccepted, eni_no, interface_at, is_eni, no_interface}
-use Rattle.described_hosts.specs.Hosts.{AreHostsById, ComesBefore, hosts_of, id_of, is_host, numbered}
+use Rattle.described_hosts.proofs.Sorting.{ascend}
+use Rattle.described_hosts.specs.Hosts.{AreHostsById, hosts_of, id_of, is_host, numbered}
 
 -- ---- in the order of the description
 
@@ -69,18 +70,11 @@ hosts_apart d accepted =
     IsDistinct-from_apart (same_id d) (hosts_of d)
     (AllPairs-filter (λ i j. same_id d i j ≡ false) (λ (i : EniNo). is_host (interface_at d i)) (map numbered (range_with_len 0 (length d.interfaces))) (rows_apart d accepted))
 
-ascend : (d : Description) (hosts sorted : List EniNo) → IsDistinct (same_id d) hosts → IsPermutation hosts sorted → IsSortedByKey (id_of d) (slice_cmp nat_cmp) sorted → AllPairs (ComesBefore d) sorted
-ascend d hosts sorted distinct moved up i j x less within =
-    let still = IsDistinct-IsPermutation (same_id d) (λ a b. nat_list_eq_equiv.symm (id_of d a) (id_of d b)) hosts sorted moved distinct in
-    comes-before (id_of d (get_or sorted i x)) (id_of d (get_or sorted j x))
-    (apart_from_distinct (same_id d) sorted i j x still less within)
-    (sorted_far (λ (a b : EniNo). is_lt (slice_cmp nat_cmp (id_of d a) (id_of d b))) (ranks_by nat_list_cmp_total (id_of d)) sorted up i j x (omega arith) within)
-
 pub hosts_by_id : (d : Description) (hosts sorted : List EniNo) → IsAccepted d → hosts ≡ hosts_of d → IsPermutation hosts sorted → IsSortedByKey (id_of d) (slice_cmp nat_cmp) sorted
     → AreHostsById d sorted
 hosts_by_id d hosts sorted accepted are moved up =
     let all = subst (λ (xs : List EniNo). IsPermutation xs sorted) are moved in
-    record { all = all; ascending = ascend d (hosts_of d) sorted (hosts_apart d accepted) all up }
+    record { all = all; ascending = ascend (id_of d) (hosts_of d) sorted (hosts_apart d accepted) all up }
 
 pub hosts_are_described : (d : Description) (hosts : List EniNo) → AreHostsById d hosts → All (λ i. is_eni d i ≡ true) hosts
 hosts_are_described d hosts by_id =

@@ -6,6 +6,7 @@ use Rattle.image_tests.specs.Types.{Entry, Run}
 use Rattle.vpc_laws.specs.Types.{Description, PeerNo, Peering, VpcNo}
 use Rattle.vpc_model.specs.Terms.{IsAccepted, has_block, has_vpc, is_vpc, other_side, peering_at, vpc_at, vpc_no}
 use Rattle.vpc_laws.proofs.Numbering.{accepted_numbers_are_own, ids_are_found}
+use Rattle.edge_gateways.specs.FarBlocks.{HasBlocksBeyond}
 use Rattle.edge_gateways.specs.Terms.{AreEdgesOf, CanCarry, HasBlocksOf, HasPairsOf, HasPeeringsOf, Owner, Sides, carry_if, has_address, is_one_of, other_of, sides_if, sides_of}
 use Rattle.reference_check.proofs.VpcIds.{ids_agree}
 use Rattle.vpc_model.specs.Lookup.{no_peering, no_vpc}
@@ -69,11 +70,13 @@ receiver-lies d x v can =
       | inr other ↦ rw other ((ids_are_found d).vpc can.pair.0 can.one).0
     ]
 
-pub are_edges : (d : Description) (publics : List (Entry ℕ)) (owners : List (Entry Owner)) (sets : List (List Run)) (pairs : List (Option Sides)) → IsAccepted d → HasPairsOf d publics owners → HasPeeringsOf d sets pairs
-    → AreEdgesOf d (record { publics = publics; owners = owners; blocks = sets; sides = pairs })
-are_edges d publics owners sets pairs accepted has_pairs has_peerings = record {
+pub are_edges : (d : Description) (publics : List (Entry ℕ)) (owners : List (Entry Owner)) (sets : List (List Run)) (pairs : List (Option Sides)) (beyond : List (List Run))
+    → IsAccepted d → HasPairsOf d publics owners → HasPeeringsOf d sets pairs → AllZip (HasBlocksBeyond d) d.fars beyond
+    → AreEdgesOf d (record { publics = publics; owners = owners; blocks = sets; sides = pairs; beyond = beyond })
+are_edges d publics owners sets pairs beyond accepted has_pairs has_peerings has_beyond = record {
   pairs = has_pairs;
   peerings = has_peerings;
+  beyond = has_beyond;
   carriers = λ x v can. ap (is_one_of v) (sides-at d pairs x v has_peerings.sides can) ∙ sends d x v accepted can;
   carries = λ x v h can.
       let receiver = ap (other_of v) (sides-at d pairs x v has_peerings.sides can) ∙ receives d x v accepted can in

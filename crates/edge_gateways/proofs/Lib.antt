@@ -1,5 +1,6 @@
 pub mod PairSteps
 pub mod Publics
+pub mod FarBlocks
 pub mod Carrying
 pub mod Ranges
 pub mod Turning

@@ -1,15 +1,19 @@
 -- What edges answer for all headers of a body.
-use Rattle.std.proofs.Common.{◌≡◌, ◌∙◌, ℕ, Bool, List, Option, ap, arith, false, is_some, option_map, refl, sym, true}
-use Rattle.vpc_base.specs.Cuts.{CutLists}
-use Rattle.vpc_laws.specs.Types.{Box5, Header, VpcNo}
+use Rattle.std.proofs.Common.{◌≡◌, ◌∙◌, ◌+◌, ℕ, Bool, List, Option, ap, arith, false, is_some, option_map, refl, sym, true}
+use Rattle.vpc_base.specs.Cuts.{AreAmong, CutLists}
+use Rattle.vpc_laws.specs.Types.{Box5, Description, Header, VpcNo}
 use Rattle.vpc_base.proofs.Options.{is_some-option_map}
 use Rattle.header_boxes.specs.Boxes.{IsValid}
 use Rattle.box_images.proofs.Reducing.{reduced_all, reduced_by, reduced_nothing}
 use Rattle.box_images.specs.Answers.{Answers}
+use Rattle.box_images.specs.Fields.{number_of}
 use Rattle.box_images.specs.Images.{header_at}
+use Rattle.box_images.specs.declared.fields.Side.{Side}
 use Rattle.box_images.specs.declared.images.Image.{Image}
 use Rattle.box_images.specs.declared.images.Part.{Part}
-use Rattle.cut_laws.specs.Dividing.{CutOut}
+use Rattle.cut_laws.specs.Dividing.{CutOut, DivideTurns}
+use Rattle.image_tests.proofs.Answering.{answers_more, answers_same}
+use Rattle.vpc_model.specs.Cuts.{standing_cuts}
 use Rattle.number_tables.specs.Entries.{value_at}
 use Rattle.number_tables.specs.Keys.{key_of}
 use Rattle.number_tables.specs.declared.tables.Entry.{Entry}
@@ -50,3 +54,12 @@ owner-answers owners i x told is k = record {
   aligned = λ cuts divide. k.aligned cuts (λ a fits some. divide a fits
       (is_some-option_map (λ (o : Owner). (o.vpc, o.own)) (value_at a owners) ∙ ap (λ n. is_some (value_at n owners)) (sym (low-key a)) ∙ some));
 }
+
+-- ---- blocks of VPCs and networks
+
+-- a test of addresses that turns at standing cuts alone, in other words
+pub answers_standing : (d : Description) (f g : ℕ → Bool) (i : Image) (s : Side) (x : Part Bool) → DivideTurns f (standing_cuts d) → ((a : ℕ) → f a ≡ g a)
+    → Answers (DivideTurns f) (λ h. f (number_of (header_at i h) s)) i.part x → Answers (AreAmong (standing_cuts d)) (λ h. g (number_of (header_at i h) s)) i.part x
+answers_standing d f g i s x turns same k =
+    answers_same (AreAmong (standing_cuts d)) (λ h. f (number_of (header_at i h) s)) (λ h. g (number_of (header_at i h) s)) i.part x (λ h. same (number_of (header_at i h) s))
+    (answers_more (DivideTurns f) (AreAmong (standing_cuts d)) (λ h. f (number_of (header_at i h) s)) i.part x (λ cuts among a fits turn. among.addr (a + 1) (turns a fits turn)) k)

@@ -90,7 +90,7 @@ owners_are_cut_out d m edges a fits some =
 -- ---- peerings
 
 -- the addresses of a described VPC
-vpc-divides : (d : Description) (m : EdgeLists) (v : VpcNo) → AreEdgesOf d m → is_vpc d v ≡ true → DivideTurns (has_address m.blocks v) (standing_cuts d)
+pub vpc-divides : (d : Description) (m : EdgeLists) (v : VpcNo) → AreEdgesOf d m → is_vpc d v ≡ true → DivideTurns (has_address m.blocks v) (standing_cuts d)
 vpc-divides d m v edges lies a fits turn =
     let row = vpc_at d v in
     let same : (b : ℕ) → has_address m.blocks v b ≡ has_block d v b = λ b. has_address-is d m.blocks v b edges.peerings.blocks lies in

@@ -1,4 +1,5 @@
 -- What the maps of a network's edges tell, and what the description has in their place.
+use Rattle.std.specs.List.{AllZip}
 use Rattle.std.specs.Prelude.{◌≡◌, Bool, List, None, Option, Some, slice_index_or, true, ℕ}
 use Rattle.address_sets.specs.declared.sets.Run.{Run}
 use Rattle.number_tables.specs.declared.tables.Entry.{Entry}
@@ -13,17 +14,19 @@ use Rattle.vpc_model.specs.Sound.{is_vpc}
 use Rattle.edge_gateways.specs.declared.pairs.Owner.{Owner}
 use Rattle.edge_gateways.specs.declared.peerings.Carry.{Carry}
 use Rattle.edge_gateways.specs.declared.sides.Sides.{Sides}
+use Rattle.edge_gateways.specs.FarBlocks.{HasBlocksBeyond}
 use Rattle.edge_gateways.specs.Carry.{carried, carry_if}
 use Rattle.edge_gateways.specs.Pairs.{HasPairsOf, owner_at, public_at}
 use Rattle.edge_gateways.specs.Sides.{HasPeeringsOf, is_one_of}
 
--- public addresses by private ones and the other way round, the addresses of each VPC's blocks, and the sides
--- of each peering
+-- public addresses by private ones and the other way round, the addresses of each VPC's blocks, the sides of each
+-- peering, and the addresses of the blocks of each network that isn't described
 pub record EdgeLists : Type 0 where
   pub publics : List (Entry ℕ)
   pub owners : List (Entry Owner)
   pub blocks : List (List Run)
   pub sides : List (Option Sides)
+  pub beyond : List (List Run)
 
 -- ---- what the maps tell
 
@@ -63,5 +66,6 @@ carry_of d v h pair = carry_if (has_block d v h.src) (has_block d (vpc_no d (oth
 pub record AreEdgesOf (d : Description) (m : EdgeLists) : Type 0 where
   pub pairs : HasPairsOf d m.publics m.owners
   pub peerings : HasPeeringsOf d m.blocks m.sides
+  pub beyond : AllZip (HasBlocksBeyond d) d.fars m.beyond
   pub carriers : (x : PeerNo) (v : VpcNo) → CanCarry d x v → is_carrier m x v ≡ true
   pub carries : (x : PeerNo) (v : VpcNo) (h : Header) → (can : CanCarry d x v) → carry m x v h ≡ carry_of d v h can.pair

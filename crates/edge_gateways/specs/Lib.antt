@@ -1,5 +1,6 @@
 pub mod Pairs
 pub mod Sides
+pub mod FarBlocks
 pub mod Carry
 pub mod Edges
 pub mod OnImages

@@ -1,8 +1,10 @@
-//! What internet gateways and peerings ask of addresses: which public address belongs to which private one,
-//! which addresses are non-routable on the internet, and which lie in the blocks of peered VPCs.
+//! What internet gateways, peerings and gateway endpoints ask of addresses: which public address belongs to
+//! which private one, which addresses are non-routable on the internet, and which lie in the blocks of VPCs
+//! and of networks that aren't described.
 #![tactic(auto)]
 
 mod addresses;
+mod beyond;
 mod blocks;
 mod internet;
 mod laws;

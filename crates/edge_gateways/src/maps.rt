@@ -2,19 +2,23 @@
 ghost use Rattle.std.specs.Prelude.{◌≡◌};
 
 use crate::addresses::AddressMaps;
+use crate::beyond::beyond_of;
+use crate::blocks::{is_in, is_in_on};
 use crate::peerings::{Carry, PeeringMaps};
-use box_images::{Image, Part};
+use address_sets::AddressSet;
+use box_images::{Image, Part, Side};
 use reference_check::Network;
 use std::alloc::Global;
 use std::marker::Model;
 use vpc_base::{Header, NoMemory};
-use vpc_model::{PeerNo, VpcNo};
+use vpc_model::{FarNo, PeerNo, VpcNo};
 
-/// The public addresses of a network, the blocks of its VPCs, and the sides of its peerings. Contracts see
-/// these lists, and `of` says what the description has in their place.
+/// The public addresses of a network, the blocks of its VPCs and of networks that aren't described, and the
+/// sides of its peerings. Contracts see these lists, and `of` says what the description has in their place.
 pub struct EdgeMaps {
     addresses: AddressMaps,
     peerings: PeeringMaps,
+    beyond: Vec<AddressSet>,
 }
 
 impl Drop for EdgeMaps {
@@ -22,9 +26,11 @@ impl Drop for EdgeMaps {
         let EdgeMaps {
             addresses,
             peerings,
+            beyond,
         } = self;
         drop(addresses);
         drop(peerings);
+        drop(beyond);
     }
 }
 
@@ -38,6 +44,7 @@ impl Model for EdgeMaps {
       owners = m.addresses.owners;
       blocks = m.peerings.blocks.items;
       sides = m.peerings.sides.items;
+      beyond = m.beyond.items;
     } };
 }
 
@@ -45,21 +52,32 @@ impl EdgeMaps {
     ghost use Rattle.std.specs.Prelude.{IfOk, IsTrue, is_some};
     ghost use Rattle.box_images.specs.Answers.{Answers};
     ghost use Rattle.box_images.specs.Images.{IsImageOfWalk, IsValidImage, header_at};
+    ghost use Rattle.box_images.specs.Fields.{number_of};
     ghost use Rattle.cut_laws.specs.Dividing.{CutOut};
+    ghost use Rattle.image_tests.specs.Tests.{IsAddressSide};
+    ghost use Rattle.vpc_base.specs.Cuts.{AreAmong};
+    ghost use Rattle.vpc_model.specs.Cuts.{standing_cuts};
+    ghost use Rattle.vpc_model.specs.Far.{blocks_beyond, is_within};
+    ghost use Rattle.vpc_model.specs.Lookup.{far_at};
+    ghost use Rattle.vpc_model.specs.Peerings.{has_block};
+    ghost use Rattle.vpc_model.specs.Sound.{is_far, is_vpc};
+    ghost use Rattle.vpc_model.specs.declared.rows.Description.{Description};
     ghost use Rattle.edge_gateways.specs.Edges.{AreEdgesOf, carry, is_carrier, owner_in, public_in};
     ghost use Rattle.edge_gateways.specs.OnImages.{DivideSides};
 
-    /// The maps of a network. It takes time n log n in its interfaces' addresses, its VPCs' blocks and its
-    /// peerings.
+    /// The maps of a network. It takes time n log n in its interfaces' addresses, in the blocks of its VPCs
+    /// and of networks that aren't described, and in its peerings.
     pub fn of(alloc: Global, n: &Network) -> Result<EdgeMaps, NoMemory>
         ensures { IfOk result (AreEdgesOf n.now) }
     {
         let _ = n.description();
         let addresses = AddressMaps::of(alloc, n)?;
         let peerings = PeeringMaps::of(alloc, n)?;
+        let beyond = beyond_of(alloc, n)?;
         Ok(EdgeMaps {
             addresses,
             peerings,
+            beyond,
         })
     }
 
@@ -116,6 +134,48 @@ impl EdgeMaps {
             i.now.part result }
     {
         self.addresses.owner_on(i)
+    }
+
+    /// Whether a block of the VPC holds the address.
+    pub fn is_inside(&self, v: VpcNo, address: u32) -> bool
+        ensures { (d : Description) → AreEdgesOf d self.now → IsTrue (is_vpc d v)
+            → result ≡ has_block d v address }
+    {
+        self.peerings.has_address(v, address)
+    }
+
+    /// Whether a block of the VPC holds an address of the headers of an image.
+    pub fn is_inside_on(&self, v: VpcNo, i: &Image, side: Side) -> Part<bool>
+        requires valid { IsValidImage i.now }
+        requires walk { IsImageOfWalk i.now }
+        requires address { IsAddressSide side }
+        ensures { (d : Description) → AreEdgesOf d self.now → IsTrue (is_vpc d v)
+            → Answers (AreAmong (standing_cuts d))
+            (λ h. has_block d v (number_of (header_at i.now h) side)) i.now.part result }
+    {
+        self.peerings.address_on(v, i, side)
+    }
+
+    /// Whether a block that is told of a network that isn't described holds the address.
+    pub fn is_beyond(&self, k: FarNo, address: u32) -> bool
+        ensures { (d : Description) → AreEdgesOf d self.now → IsTrue (is_far d k)
+            → result ≡ is_within (blocks_beyond d (far_at d k)) address }
+    {
+        is_in(self.beyond.as_slice(), k.0, address)
+    }
+
+    /// Whether a block that is told of a network that isn't described holds an address of the headers of
+    /// an image.
+    pub fn is_beyond_on(&self, k: FarNo, i: &Image, side: Side) -> Part<bool>
+        requires valid { IsValidImage i.now }
+        requires walk { IsImageOfWalk i.now }
+        requires address { IsAddressSide side }
+        ensures { (d : Description) → AreEdgesOf d self.now → IsTrue (is_far d k)
+            → Answers (AreAmong (standing_cuts d))
+            (λ h. is_within (blocks_beyond d (far_at d k)) (number_of (header_at i.now h) side))
+            i.now.part result }
+    {
+        is_in_on(self.beyond.as_slice(), k.0, i, side)
     }
 
     /// Whether a peering carries packets, for all headers of an image. The destination is asked where the

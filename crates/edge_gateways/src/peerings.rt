@@ -9,11 +9,10 @@ ghost use Rattle.edge_gateways.specs.Carry.{carried};
 ghost use Rattle.edge_gateways.specs.OnImages.{DivideSides};
 ghost use Rattle.edge_gateways.specs.Sides.{HasPeeringsOf, has_address, is_one_of, other_of};
 
-use crate::blocks::blocks_of;
+use crate::blocks::{blocks_of, is_in, is_in_on};
 use crate::sides::{Sides, all_sides};
 use address_sets::AddressSet;
 use box_images::{Image, Part, Side};
-use image_tests::set_on;
 use reference_check::Network;
 use std::alloc::{AllocError, Global};
 use vpc_base::Header;
@@ -80,16 +79,11 @@ impl PeeringMaps {
         Ok(PeeringMaps { blocks, sides })
     }
 
-    // Whether a block of the VPC holds the address.
-    fn has_address(&self, v: VpcNo, a: u32) -> bool
+    /// Whether a block of the VPC holds the address.
+    pub fn has_address(&self, v: VpcNo, a: u32) -> bool
         ensures { result ≡ has_address self.now.blocks.items v a }
     {
-        let v = v.0 as usize;
-        if v < self.blocks.len() {
-            self.blocks[v].has(a)
-        } else {
-            false
-        }
+        is_in(self.blocks.as_slice(), v.0, a)
     }
 
     fn sides_of(&self, x: PeerNo) -> Option<Sides>
@@ -123,8 +117,8 @@ impl PeeringMaps {
         Carry::Yes
     }
 
-    // Whether a block of the VPC holds the source or the destination.
-    fn address_on(&self, v: VpcNo, i: &Image, side: Side) -> Part<bool>
+    /// Whether a block of the VPC holds the source or the destination.
+    pub fn address_on(&self, v: VpcNo, i: &Image, side: Side) -> Part<bool>
         requires valid { IsValidImage i.now }
         requires walk { IsImageOfWalk i.now }
         requires address { IsAddressSide side }
@@ -132,15 +126,7 @@ impl PeeringMaps {
             (λ h. has_address self.now.blocks.items v (number_of (header_at i.now h) side))
             i.now.part result }
     {
-        let v = v.0 as usize;
-        if v < self.blocks.len() {
-            set_on(i, side, &self.blocks[v])
-        } else {
-            Part {
-                body: i.part,
-                told: false,
-            }
-        }
+        is_in_on(self.blocks.as_slice(), v.0, i, side)
     }
 
     pub fn carries_on(&self, x: PeerNo, sender: VpcNo, i: &Image) -> Part<Carry>

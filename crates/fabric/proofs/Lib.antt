@@ -4,6 +4,8 @@ pub mod HostRows
 pub mod RowFacts
 pub mod SiteRows
 pub mod TargetRows
+pub mod NamedRows
+pub mod Entrances
 pub mod Peered
 pub mod Routing
 pub mod Publics

@@ -14,6 +14,7 @@ use Rattle.transit_gateway.specs.Lists.{TransitLists}
 use Rattle.vpc_laws.specs.Types.{Access, Acl, Description, EniNo, NatNo, RouteTable, SubnetNo, VpcNo}
 use Rattle.fabric.specs.Hosts.{AreHosts}
 use Rattle.fabric.specs.Nats.{AreNats}
+use Rattle.fabric.specs.Outside.{AreOutsideOf, OutsideLists}
 use Rattle.fabric.specs.Sites.{accesses_in, ends_in, nat_subnets_in, subnets_in, vpcs_in}
 use Rattle.fabric.specs.Targets.{targets_in}
 use Rattle.vpc_model.specs.Cuts.{cuts_of_table}
@@ -30,7 +31,8 @@ abbrev pub IsAclIndex : Acl → TriedRows → Type 0
 IsAclIndex a x = SortsRows a.rows x
 
 -- the indexes of all ACLs, groups and route tables, of the edges, of the transit gateways, NAT gateways by their interfaces, interfaces by
--- their assigned addresses, where interfaces, subnets and NAT gateways lie, the modes of subnets, which VPCs peerings join, and what routes lead to
+-- their assigned addresses, where interfaces, subnets and NAT gateways lie, the modes of subnets, which VPCs peerings join, what routes lead to,
+-- and the tables of gateways and what stands behind firewall endpoints
 pub record IndexLists : Type 0 where
   pub acls : List TriedRows
   pub groups : GroupLists
@@ -45,6 +47,7 @@ pub record IndexLists : Type 0 where
   pub nat_subnets : List SubnetNo
   pub ends : List (Option VpcNo × Option VpcNo)
   pub targets : List (List ℕ)
+  pub outside : OutsideLists
 
 -- they are those of the description
 pub record AreIndexesOf (d : Description) (x : IndexLists) : Type 0 where
@@ -62,3 +65,4 @@ pub record AreIndexesOf (d : Description) (x : IndexLists) : Type 0 where
   pub nat_subnets : x.nat_subnets ≡ nat_subnets_in d
   pub ends : x.ends ≡ ends_in d
   pub targets : x.targets ≡ targets_in d
+  pub outside : AreOutsideOf d x.outside

@@ -2,10 +2,15 @@
 #![tactic(auto)]
 
 mod acls;
+mod firewalls;
+mod gateway_tables;
 mod hosts;
 mod modes;
+mod named;
 mod nats;
 mod network;
+mod outside;
+mod outside_rows;
 mod routes;
 pub mod rows;
 mod sites;

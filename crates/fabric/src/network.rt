@@ -6,10 +6,12 @@ ghost use Rattle.security_groups.specs.Index.{HasRulesOf};
 ghost use Rattle.transit_gateway.specs.Index.{IsTransitOf};
 ghost use Rattle.fabric.specs.Hosts.{AreHosts};
 ghost use Rattle.fabric.specs.Indexes.{AreIndexesOf, IsAclIndex, IsRouteIndex};
+ghost use Rattle.fabric.specs.Outside.{AreOutsideOf};
 
 use crate::acls::acl_indexes;
 use crate::hosts::hosts_by_address;
 use crate::nats::nats_by_interface;
+use crate::outside_rows::OutsideRows;
 use crate::routes::route_indexes;
 use crate::sites::{
     accesses_by_subnet, ends_by_peering, subnets_by_interface, subnets_by_nat, vpcs_by_subnet,
@@ -42,6 +44,7 @@ struct Indexes {
     nat_subnets: Vec<SubnetNo>,
     ends: Vec<(Option<VpcNo>, Option<VpcNo>)>,
     targets: Vec<OwnList<u32>>,
+    outside: OutsideRows,
 }
 
 impl Drop for Indexes {
@@ -60,6 +63,7 @@ impl Drop for Indexes {
             nat_subnets,
             ends,
             targets,
+            outside,
         } = self;
         drop(acls);
         drop(groups);
@@ -74,6 +78,7 @@ impl Drop for Indexes {
         drop(nat_subnets);
         drop(ends);
         drop(targets);
+        drop(outside);
     }
 }
 
@@ -96,6 +101,7 @@ impl Model for Indexes {
       nat_subnets = x.nat_subnets.items;
       ends = x.ends.items;
       targets = x.targets.items;
+      outside = x.outside;
     } };
 }
 
@@ -115,6 +121,7 @@ fn indexes_of(alloc: Global, n: &Network) -> Result<Indexes, NoMemory>
     let nat_subnets = subnets_by_nat(alloc, n)?;
     let ends = ends_by_peering(alloc, n)?;
     let targets = targets_by_route(alloc, n)?;
+    let outside = OutsideRows::of(alloc, n)?;
     Ok(Indexes {
         acls,
         groups,
@@ -129,6 +136,7 @@ fn indexes_of(alloc: Global, n: &Network) -> Result<Indexes, NoMemory>
         nat_subnets,
         ends,
         targets,
+        outside,
     })
 }
 
@@ -219,6 +227,12 @@ impl Indexes {
             result ≡ slice_index_or self.now.ends x.0 none }
     {
         self.ends[x.0 as usize]
+    }
+
+    fn outside(&self) -> &OutsideRows
+        ensures { result.now ≡ self.now.outside }
+    {
+        &self.outside
     }
 
     fn target_number(&self, t: TableNo, k: u32) -> u32
@@ -332,9 +346,9 @@ impl Fabric {
         self.indexes.nat_of(i)
     }
 
-    /// The interfaces by the keys of their VPCs and the private addresses that are assigned to them: a look-up
-    /// reads about log2 n entries where a search goes through all interfaces, and the next key says up to
-    /// where none is assigned.
+    /// The interfaces by the keys of their VPCs and the private addresses that are assigned to them: a
+    /// look-up reads about log2 n entries where a search goes through all interfaces, and the next key says
+    /// up to where none is assigned.
     pub fn hosts(&self) -> &NumberTable<EniNo>
         ensures { AreHosts self.now result.now }
     {
@@ -380,6 +394,13 @@ impl Fabric {
         ensures { let row = peering_at self.now x in result ≡ ends_by self.now row.pair }
     {
         self.indexes.ends_of(x)
+    }
+
+    // The tables of gateways, and what stands behind firewall endpoints.
+    pub(crate) fn outside(&self) -> &OutsideRows
+        ensures { AreOutsideOf self.now result.now }
+    {
+        self.indexes.outside()
     }
 
     /// The number of the internet gateway, NAT gateway, peering or interface that a route leads to.

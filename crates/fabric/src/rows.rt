@@ -4,13 +4,13 @@ ghost use Rattle.std.specs.Prelude.{◌≡◌, IsTrue};
 ghost use Rattle.fabric.specs.Sites.{far_vpc};
 ghost use Rattle.fabric.specs.Targets.{route_at};
 ghost use Rattle.vpc_model.specs.Lookup as rows;
-ghost use Rattle.vpc_model.specs.Sound.{is_eni, is_live, is_nat, is_peering, is_route, is_subnet, is_table, is_vpc};
+ghost use Rattle.vpc_model.specs.Sound.{is_eni, is_far, is_live, is_nat, is_peering, is_route, is_subnet, is_table, is_vpc};
 ghost use Rattle.vpc_model.specs.Step.Nat.{own_subnet};
 
 use crate::Fabric;
 use vpc_model::{
-    EniNo, Interface, NatGateway, NatNo, PeerNo, Peering, Route, RouteTable, Subnet, SubnetNo,
-    TableNo, Vpc, VpcNo,
+    EniNo, Far, FarNo, Interface, NatGateway, NatNo, PeerNo, Peering, Route, RouteTable, Subnet,
+    SubnetNo, TableNo, Vpc, VpcNo,
 };
 
 /// The row of an interface.
@@ -59,6 +59,14 @@ pub fn nat_at<'a>(f: &'a Fabric, n: NatNo) -> &'a NatGateway
     ensures { result.now ≡ rows.nat_at f.now n }
 {
     f.network().nat_at(n)
+}
+
+/// The row of a network that isn't described.
+pub fn far_at<'a>(f: &'a Fabric, k: FarNo) -> &'a Far
+    requires { IsTrue (is_far f.now k) }
+    ensures { result.now ≡ rows.far_at f.now k }
+{
+    f.network().far_at(k)
 }
 
 /// The row of a peering.

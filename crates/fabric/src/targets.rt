@@ -8,7 +8,8 @@ use std::alloc::{AllocError, Global};
 use vpc_base::OwnList;
 use vpc_model::{Id, RouteTable, Target};
 
-// The number of an internet gateway: of one that isn't described, as only a blackhole names it, how many there are.
+// The number of an internet gateway: of one that isn't described, as only a blackhole names it, how many
+// there are.
 fn igw_number(n: &Network, id: &Id) -> u32
     ensures { let g = igw_no n.now id.now in result ≡ g.0 }
 {
@@ -28,16 +29,6 @@ fn nat_number(n: &Network, id: &Id) -> u32
     }
 }
 
-// The number of a peering, likewise.
-fn peering_number(n: &Network, id: &Id) -> u32
-    ensures { let x = peer_no n.now id.now in result ≡ x.0 }
-{
-    match n.peering(id.bytes()) {
-        Some(x) => x.0,
-        None => n.description().peerings.as_slice().len() as u32,
-    }
-}
-
 // The number of an interface, likewise.
 fn eni_number(n: &Network, id: &Id) -> u32
     ensures { let i = eni_no n.now id.now in result ≡ i.0 }
@@ -54,7 +45,7 @@ fn target_number(n: &Network, target: &Target) -> u32
     match target {
         Target::Internet(id) => igw_number(n, id),
         Target::Nat(id) => nat_number(n, id),
-        Target::Peer(id) => peering_number(n, id),
+        Target::Peer(id) => n.peering_number(id).0,
         Target::Interface(id) => eni_number(n, id),
         Target::Local => 0,
         Target::Transit(_) => 0,

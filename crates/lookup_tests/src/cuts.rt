@@ -7,7 +7,7 @@ use std::alloc::Global;
 use std::process::Abort;
 use std::test::Fail;
 use vpc_base::OwnList;
-use vpc_model::{AclRow, Appliance, ApplianceKind, Description};
+use vpc_model::{AclRow, Appliance, ApplianceAt, ApplianceKind, Description};
 
 fn one_rule(alloc: Global) -> Result<Description, Fail> {
     let row = AclRow {
@@ -25,7 +25,11 @@ fn one_rule(alloc: Global) -> Result<Description, Fail> {
 
 fn appliance(alloc: Global, name: &[u8], kind: ApplianceKind) -> Result<Appliance, Fail> {
     let id = id_of(alloc, name)?;
-    Ok(Appliance { id, kind })
+    Ok(Appliance {
+        id,
+        at: ApplianceAt::Interface,
+        kind,
+    })
 }
 
 fn two_appliances(alloc: Global) -> Result<Description, Fail> {

@@ -70,6 +70,8 @@ pub fn description_of(
         associations: none(alloc),
         tgw_tables: none(alloc),
         appliances,
+        fars: none(alloc),
+        firewalls: none(alloc),
         scope: GroupScope {
             gateways: none(alloc),
             attachments: none(alloc),

@@ -49,4 +49,6 @@ accepted_is_counted d h =
       peerings = counted (length d.peerings) short.peerings;
       attachments = counted (length d.attachments) short.attachments;
       tgw_tables = counted (length d.tgw_tables) short.tgw_tables;
+      fars = counted (length d.fars) short.fars;
+      firewalls = counted (length d.firewalls) short.firewalls;
     }

@@ -4,7 +4,7 @@ use Rattle.std.specs.List.{AllByRecursion, Contains, count_by, list_any}
 use Rattle.std.specs.Option.{option_or}
 use Rattle.std.proofs.lemmas.Bool.{and_from, and_parts, both_ways, cases_Bool, cases_lt, le-leb, leb-true, or_from, or_right}
 use Rattle.std.proofs.lemmas.Bool.Decides.{nat_tests}
-use Rattle.std.proofs.lemmas.List.{get_or-take, length-take-le, take_more}
+use Rattle.std.proofs.lemmas.List.{append-nil, get_or-take, length-take-le, take_more}
 use Rattle.std.proofs.lemmas.List.Elements.{All-append, All-contains, All-map, Contains-get_or, recursion_from_All}
 use Rattle.std.proofs.lemmas.List.Folds.{find-append}
 use Rattle.std.proofs.lemmas.List.Quantifiers.{position-Some}
@@ -52,6 +52,16 @@ none-has k (r ∷ rs) none = by (has_key k r) refl none (none-has k rs)
     by false e h next = ap (λ b. b || list_any (has_key k) rs) e ∙ next h
 
 -- ---- the runs of one interface
+
+-- without blocks it has none
+pub adds-none : (d : Description) (n : ℕ) (e : Interface) (runs : List (KeyRun ℕ)) → e.prefixes ≡ [] → AddsBlocks d n e runs runs
+adds-none d n e runs none = record {
+  runs = [];
+  apart = record { apart = tt; some = λ k x within. absurd (omega arith) };
+  same = λ a. ap (list_any (holds a)) (sym none);
+  fit = λ k x within. absurd (omega arith);
+  added = sym (append-nil runs);
+}
 
 -- each has the one value
 value_of-one : (v n k : ℕ) (rs : List Run) → value_of k (map (key_run v n) rs) ≡ cond (list_any (has_key k) (map (key_run v n) rs)) (Some n) None

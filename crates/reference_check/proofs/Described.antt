@@ -32,7 +32,7 @@ each-nil f (x ∷ xs) zero d e h = left-nil (f x) (flat_map f xs) e
 each-nil f (x ∷ xs) (suc k) d e h = each-nil f xs k d (right-nil (f x) (flat_map f xs) e) (omega arith)
 
 pub subnets_of-nil : (d : Description) → missing_references d ≡ [] → flat_map (missing_of_subnet d) d.subnets ≡ []
-subnets_of-nil d e = left-nil _ _ (left-nil _ _ (left-nil _ _ (left-nil _ _ (left-nil _ _ (left-nil _ _ (left-nil _ _ (left-nil _ _ e)))))))
+subnets_of-nil d e = left-nil _ _ (left-nil _ _ (left-nil _ _ (left-nil _ _ (left-nil _ _ (left-nil _ _ (left-nil _ _ (left-nil _ _ (left-nil _ _ e))))))))
 
 -- each subnet's VPC is described
 pub subnet-described : (d : Description) (k : ℕ) (s : Subnet) → missing_references d ≡ [] → k < length d.subnets → has_vpc d (get_or d.subnets k s).vpc ≡ true
@@ -42,7 +42,7 @@ subnet-described d k s e h =
 
 pub interfaces_of-nil : (d : Description) → missing_references d ≡ [] → flat_map (missing_of_interface d) d.interfaces ≡ []
 interfaces_of-nil d e =
-    right-nil (flat_map (missing_of_subnet d) d.subnets) _ (left-nil _ _ (left-nil _ _ (left-nil _ _ (left-nil _ _ (left-nil _ _ (left-nil _ _ (left-nil _ _ e)))))))
+    right-nil (flat_map (missing_of_subnet d) d.subnets) _ (left-nil _ _ (left-nil _ _ (left-nil _ _ (left-nil _ _ (left-nil _ _ (left-nil _ _ (left-nil _ _ (left-nil _ _ e))))))))
 
 -- each interface's subnet is described
 pub interface-described : (d : Description) (k : ℕ) (x : Interface) → missing_references d ≡ [] → k < length d.interfaces → has_subnet d (get_or d.interfaces k x).subnet ≡ true

@@ -1,6 +1,8 @@
 pub mod Accepted
 pub mod Adding
 pub mod Alone
+pub mod Behind
+pub mod Beside
 pub mod Causes
 pub mod Delegating
 pub mod Described

@@ -4,7 +4,7 @@ use Rattle.std.specs.Prelude.{◌++◌, ◌≡◌, [], List}
 use Rattle.vpc_model.specs.Accepted.{duplicate_ids, duplicates_in}
 use Rattle.vpc_model.specs.declared.refusals.Refusal.{Refusal}
 use Rattle.vpc_model.specs.declared.rows.Description.{Description}
-use Rattle.reference_check.specs.Numbered.{AreFilterIds, AreGatewayIds, AreNetworkIds, filter_ids_of, gateway_ids_of, network_ids_of}
+use Rattle.reference_check.specs.Numbered.{AreFilterIds, AreGatewayIds, AreNetworkIds, AreOutsideIds, filter_ids_of, gateway_ids_of, network_ids_of}
 use Rattle.reference_check.specs.declared.directory.AllIds.{AllIds}
 
 -- ids that stand twice, of the lists of networks, of filters and of gateways
@@ -18,6 +18,7 @@ pub record AreAllIds (d : Description) (ids : AllIds) : Type 0 where
   pub networks : AreNetworkIds d ids.networks
   pub filters : AreFilterIds d ids.filters
   pub gateways : AreGatewayIds d ids.gateways
+  pub outside : AreOutsideIds d ids.outside
 
 -- a description and the ids of its lists, of which none stands twice
 pub record IsDirectory (d : Description) (ids : AllIds) : Type 0 where

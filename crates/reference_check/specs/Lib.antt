@@ -13,5 +13,6 @@ pub mod LongLists
 pub mod Missing
 pub mod Network
 pub mod Numbered
+pub mod Outside
 pub mod Taken
 pub mod Told

@@ -1,7 +1,7 @@
 -- Rows that others name, where they are wanted.
 use Rattle.std.specs.List.{flat_map}
 use Rattle.std.specs.Prelude.{◌&&◌, ◌++◌, Bool, List, ℕ}
-use Rattle.vpc_model.specs.Accepted.{is_side, is_subnet_of, missing_of_acl, missing_of_appliance, missing_of_attachment, missing_of_group, missing_of_igw, missing_of_interface, missing_of_life, missing_of_subnet, missing_of_table, serves_vpc, wanted}
+use Rattle.vpc_model.specs.Accepted.{is_side, is_subnet_of, missing_of_acl, missing_of_appliance, missing_of_attachment, missing_of_firewall, missing_of_group, missing_of_igw, missing_of_interface, missing_of_life, missing_of_subnet, missing_of_table, serves_vpc, wanted}
 use Rattle.vpc_model.specs.Lookup.{eni_no, has_interface, has_list, has_nat, has_peering, interface_at, nat_at, nat_no, peer_no, peering_at}
 use Rattle.vpc_model.specs.declared.refusals.Refusal.{Refusal}
 use Rattle.vpc_model.specs.declared.rows.Description.{Description}
@@ -32,12 +32,13 @@ missing_networks d =
 abbrev pub missing_filters : Description → List Refusal
 missing_filters d = flat_map (missing_of_acl d) d.acls ++ flat_map (missing_of_group d) d.groups
 
--- what gateways, attachments and appliances name
+-- what gateways, attachments, appliances and firewall endpoints name
 abbrev pub missing_gateways : Description → List Refusal
 missing_gateways d =
     flat_map (missing_of_igw d) d.igws
     ++ (flat_map (λ n. missing_of_life d n.id n.life) d.nats
-    ++ (flat_map (missing_of_attachment d) d.attachments ++ flat_map (missing_of_appliance d) d.appliances))
+    ++ (flat_map (missing_of_attachment d) d.attachments
+    ++ (flat_map (missing_of_appliance d) d.appliances ++ flat_map (missing_of_firewall d) d.firewalls)))
 
 -- all of it
 abbrev pub missing_by_part : Description → List Refusal

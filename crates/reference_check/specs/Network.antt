@@ -20,6 +20,8 @@ pub record AreCounted (d : Description) : Type 0 where
   pub peerings : length d.peerings < 2 ^ 32
   pub attachments : length d.attachments < 2 ^ 32
   pub tgw_tables : length d.tgw_tables < 2 ^ 32
+  pub fars : length d.fars < 2 ^ 32
+  pub firewalls : length d.firewalls < 2 ^ 32
 
 -- a description that is accepted, its addresses, and what is attached to its subnets and VPCs
 pub record IsNetwork (d : Description) (h : Hosts) (a : Attached) : Type 0 where

@@ -1,9 +1,11 @@
 -- The ids of a description's rows, list by list.
-use Rattle.std.specs.Prelude.{◌∷◌, ◌≡◌, [], List, map, ℕ}
+use Rattle.std.specs.Prelude.{◌∷◌, ◌≡◌, [], List, bytes_eq, map, position, ℕ}
 use Rattle.vpc_model.specs.declared.rows.Description.{Description}
 use Rattle.reference_check.specs.declared.directory.FilterIds.{FilterIds}
 use Rattle.reference_check.specs.declared.directory.GatewayIds.{GatewayIds}
 use Rattle.reference_check.specs.declared.directory.NetworkIds.{NetworkIds}
+use Rattle.reference_check.specs.declared.directory.OutsideIds.{OutsideIds}
+use Rattle.reference_check.specs.FirstNumbers.{number_in}
 
 -- of VPCs, subnets, interfaces, tables and prefix lists
 abbrev pub network_ids_of : Description → List (List (List ℕ))
@@ -47,3 +49,9 @@ pub record AreGatewayIds (d : Description) (n : GatewayIds) : Type 0 where
   pub peerings : n.peerings ≡ map (λ x. x.id) d.peerings
   pub attachments : n.attachments ≡ map (λ a. a.id) d.attachments
   pub tgw_tables : n.tgw_tables ≡ map (λ t. t.id) d.tgw_tables
+  pub appliances : n.appliances ≡ map (λ a. a.id) d.appliances
+
+-- what finds the first row with an id, where ids may stand twice
+pub record AreOutsideIds (d : Description) (n : OutsideIds) : Type 0 where
+  pub fars : (id : List ℕ) → number_in n.fars id ≡ position (λ f. bytes_eq f.id id) d.fars
+  pub firewalls : (id : List ℕ) → number_in n.firewalls id ≡ position (λ e. bytes_eq e.id id) d.firewalls

@@ -1,14 +1,16 @@
 -- Numbers that are taken, in runs that lie apart.
 use Rattle.std.specs.Map.{lookup}
 use Rattle.std.specs.Ordering.{is_eq, nat_cmp}
-use Rattle.std.specs.Prelude.{◌<◌, ◌≡◌, ◌≤◌, ◌⊎◌, ◌^◌, List, None, Option, Some, true, ℕ}
+use Rattle.std.specs.Prelude.{◌++◌, ◌<◌, ◌≡◌, ◌≤◌, ◌⊎◌, ◌^◌, List, None, Option, Result, Some, true, ℕ}
 use Rattle.number_tables.specs.Keys as keys
 use Rattle.address_sets.specs.declared.sets.Run.{Run}
-use Rattle.vpc_model.specs.Accepted.{Claim}
+use Rattle.vpc_model.specs.Accepted.{Claim, least_shared}
 use Rattle.vpc_model.specs.Lookup.{has_vpc}
+use Rattle.vpc_model.specs.declared.refusals.Refusal.{Refusal}
 use Rattle.vpc_model.specs.declared.rows.Description.{Description}
-use Rattle.reference_check.specs.Claimed.{AreSome, is_claimed}
+use Rattle.reference_check.specs.Claimed.{AreSome, claim_of, is_claimed}
 use Rattle.reference_check.specs.Keys.{key_of}
+use Rattle.reference_check.specs.Told.{Tells}
 
 -- the first number of the run with this last one; each run stands as its last number and its first
 abbrev pub first_at : List (ℕ × ℕ) → ℕ → Option ℕ
@@ -43,3 +45,15 @@ pub record AreTaken (d : Description) (claims : List Claim) (runs : List (ℕ ×
   pub some : AreSome claims
   pub claimed : (vpc : List ℕ) (a : ℕ) → has_vpc d vpc ≡ true → a < 2 ^ 32 → IsTaken runs (key_of d (vpc, a)) → is_claimed vpc a claims ≡ true
   pub taken : (vpc : List ℕ) (a : ℕ) → has_vpc d vpc ≡ true → a < 2 ^ 32 → is_claimed vpc a claims ≡ true → IsTaken runs (key_of d (vpc, a))
+
+-- the least address of a run in a VPC that is claimed, whatever claims took these keys
+abbrev pub IsLeastClaimed : Description → List (ℕ × ℕ) → List ℕ → Run → Option ℕ → Type 0
+IsLeastClaimed d runs vpc run least = (claims : List Claim) → AreTaken d claims runs → least ≡ least_shared claims (claim_of vpc run)
+
+-- what is wrong beside the claims that took these keys is told
+abbrev pub TellsBeside : {A : Type 0} → Description → List (ℕ × ℕ) → (List Claim → List Refusal) → Result A Refusal → Type 0
+TellsBeside d runs causes result = (claims : List Claim) → AreTaken d claims runs → Tells (causes claims) result
+
+-- likewise beside the claims of others and, after them, of one's own
+abbrev pub TellsBesideBoth : {A : Type 0} → Description → List (ℕ × ℕ) → List (ℕ × ℕ) → (List Claim → List Refusal) → Result A Refusal → Type 0
+TellsBesideBoth d runs own causes result = (claims before : List Claim) → AreTaken d claims runs → AreTaken d before own → Tells (causes (claims ++ before)) result

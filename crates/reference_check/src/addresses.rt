@@ -154,8 +154,8 @@ fn checked_keys(alloc: Global, d: &Description, ids: &NetworkIds) -> Result<Numb
     assigned_keys(alloc, d, ids)
 }
 
-/// The keys of all assigned addresses, or the first address that is claimed twice in a VPC. The references of the
-/// description were checked.
+/// The keys of all assigned addresses, or the first address that is claimed twice in a VPC. The references of
+/// the description were checked.
 pub fn private_keys(alloc: Global, d: &Description, ids: &NetworkIds) -> Result<Numbers, Refusal>
     requires numbered { AreNetworkIds d.now ids.now }
     requires complete { missing_references d.now ≡ [] }

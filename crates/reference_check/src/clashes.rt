@@ -3,11 +3,13 @@ ghost use Rattle.std.specs.Prelude.{◌≡◌, ◌≤◌, ◌++◌, ◌∷◌, [
 ghost use Rattle.std.specs.List.{flat_map};
 ghost use Rattle.number_tables.specs.Keys.{key_of};
 ghost use Rattle.address_sets.specs.Runs.{AreRuns, is_in, run_of};
-ghost use Rattle.vpc_model.specs.Accepted.{Claim, address_clashes, claims_of, clash_with, duplicate_addresses, interface_clashes, least_shared, missing_references};
+ghost use Rattle.vpc_model.specs.Accepted.{Claim, address_clashes, claims_of, clash_with, duplicate_addresses};
+ghost use Rattle.vpc_model.specs.Accepted.{interface_clashes, missing_references};
 ghost use Rattle.vpc_model.specs.Lookup.{has_subnet, has_vpc, vpc_no};
 ghost use Rattle.reference_check.specs.Claimed.{alone, alone_in, claim_of, own_claims, own_clashes, run_at};
 ghost use Rattle.reference_check.specs.Numbered.{AreNetworkIds};
-ghost use Rattle.reference_check.specs.Taken.{AreTaken, IsFree, IsTaken, Takes};
+ghost use Rattle.reference_check.specs.Taken.{AreTaken, IsFree, IsLeastClaimed, IsTaken, Takes};
+ghost use Rattle.reference_check.specs.Taken.{TellsBeside, TellsBesideBoth};
 ghost use Rattle.reference_check.specs.Told.{Tells};
 
 use crate::directory::NetworkIds;
@@ -34,7 +36,7 @@ fn least_in(taken: &Taken, d: &Description, vpc: &Id, v: u32, run: Run) -> Optio
     requires numbered { v ≡ (vpc_no d.now vpc.now).0 }
     requires described { IsTrue (has_vpc d.now vpc.now) }
     requires some { run.first ≤ run.last }
-    ensures shared { (claims : List Claim) → AreTaken d.now claims taken.now → result ≡ least_shared claims (claim_of vpc.now run) }
+    ensures shared { IsLeastClaimed d.now taken.now vpc.now run result }
     ensures free { IfNone result (IsFree taken.now v run) }
 {
     let _ = d;
@@ -57,7 +59,7 @@ fn check_run(
     requires numbered { v ≡ (vpc_no d.now vpc.now).0 }
     requires described { IsTrue (has_vpc d.now vpc.now) }
     requires some { run.first ≤ run.last }
-    ensures told { (claims : List Claim) → AreTaken d.now claims taken.now → Tells (clash_with claims (claim_of vpc.now run)) result }
+    ensures told { TellsBeside d.now taken.now (λ claims. clash_with claims (claim_of vpc.now run)) result }
     ensures free { OnOk result (IsFree taken.now v run) }
 {
     match least_in(taken, d, vpc, v, run) {
@@ -99,8 +101,8 @@ fn add_own(
 ) -> Result<(), Refusal>
     requires numbered { v ≡ (vpc_no d.now vpc.now).0 }
     requires described { IsTrue (has_vpc d.now vpc.now) }
-    ensures told { (claims : List Claim) (before : List Claim) → AreTaken d.now claims taken.now → AreTaken d.now before own.old
-        → Tells (clash_with (claims ++ before) (alone (vpc.now, address))) result }
+    ensures told { TellsBesideBoth d.now taken.now own.old
+        (λ claims. clash_with claims (alone (vpc.now, address))) result }
     ensures added { (before : List Claim) → AreTaken d.now before own.old
         → OnOk result (AreTaken d.now (before ++ alone (vpc.now, address) ∷ []) own.new) }
     ensures free { OnOk result (IsFree taken.now v (run_at address)) }
@@ -123,8 +125,8 @@ fn check_addresses(
 ) -> Result<(), Refusal>
     requires numbered { v ≡ (vpc_no d.now vpc.now).0 }
     requires described { IsTrue (has_vpc d.now vpc.now) }
-    ensures told { (claims : List Claim) → AreTaken d.now claims taken.now
-        → Tells (address_clashes claims (alone_in vpc.now addresses.now)) result }
+    ensures told { TellsBeside d.now taken.now
+        (λ claims. address_clashes claims (alone_in vpc.now addresses.now)) result }
     ensures free { OnOk result (All (λ x. IsFree taken.now v (run_at x.0)) addresses.now) }
 {
     let mut own = Taken::new(alloc);
@@ -145,8 +147,8 @@ fn check_blocks(
 ) -> Result<(), Refusal>
     requires numbered { v ≡ (vpc_no d.now vpc.now).0 }
     requires described { IsTrue (has_vpc d.now vpc.now) }
-    ensures told { (claims : List Claim) → AreTaken d.now claims taken.now
-        → Tells (flat_map (λ b. clash_with claims (claim_of vpc.now (run_of b))) blocks.now) result }
+    ensures told { TellsBeside d.now taken.now
+        (λ claims. flat_map (λ b. clash_with claims (claim_of vpc.now (run_of b))) blocks.now) result }
     ensures free { OnOk result (All (λ b. IsFree taken.now v (run_of b)) blocks.now) }
 {
     for block in blocks {
@@ -230,8 +232,7 @@ fn claim_own(
 ) -> Result<(), Refusal>
     requires numbered { v ≡ (vpc_no d.now vpc.now).0 }
     requires described { IsTrue (has_vpc d.now vpc.now) }
-    ensures told { (claims : List Claim) → AreTaken d.now claims taken.old
-        → Tells (own_clashes claims vpc.now interface.now) result }
+    ensures told { TellsBeside d.now taken.old (λ claims. own_clashes claims vpc.now interface.now) result }
     ensures added { (claims : List Claim) → AreTaken d.now claims taken.old
         → OnOk result (AreTaken d.now (claims ++ own_claims vpc.now interface.now) taken.new) }
 {
@@ -252,7 +253,8 @@ fn claim_interface(
     requires numbered { AreNetworkIds d.now ids.now }
     requires complete { missing_references d.now ≡ [] }
     requires described { IsTrue (has_subnet d.now interface.now.subnet) }
-    ensures told { (claims : List Claim) → AreTaken d.now claims taken.old → Tells (interface_clashes d.now claims interface.now) result }
+    ensures told { TellsBeside d.now taken.old
+        (λ claims. interface_clashes d.now claims interface.now) result }
     ensures added { (claims : List Claim) → AreTaken d.now claims taken.old
         → OnOk result (AreTaken d.now (claims ++ claims_of d.now interface.now) taken.new) }
 {
@@ -265,8 +267,8 @@ fn claim_interface(
     claim_own(alloc, taken, d, &subnet.vpc, v as u32, interface)
 }
 
-/// The first address of a VPC that is claimed twice: by two interfaces, or as two addresses of one. The references of
-/// the description were checked. It takes time n log n.
+/// The first address of a VPC that is claimed twice: by two interfaces, or as two addresses of one. The
+/// references of the description were checked. It takes time n log n.
 pub fn check_claims(alloc: Global, d: &Description, ids: &NetworkIds) -> Result<(), Refusal>
     requires numbered { AreNetworkIds d.now ids.now }
     requires complete { missing_references d.now ≡ [] }

@@ -80,8 +80,8 @@ fn all_blocks(
     Ok(runs)
 }
 
-/// What finds the interface of a VPC that has an address in a delegated block, in a description whose references were
-/// checked and in which no address is claimed twice. It takes time n log n.
+/// What finds the interface of a VPC that has an address in a delegated block, in a description whose
+/// references were checked and in which no address is claimed twice. It takes time n log n.
 pub fn blocks_of(
     alloc: Global,
     d: &Description,

@@ -2,14 +2,20 @@
 ghost use Rattle.std.specs.Prelude.{◌≡◌, OnOk};
 ghost use Rattle.std.specs.List.{flat_map};
 ghost use Rattle.vpc_model.specs.Accepted.{duplicates_in};
+ghost use Rattle.vpc_model.specs.Firewalls.{is_behind_endpoint, is_followed};
 ghost use Rattle.reference_check.specs.Told.{Tells};
-ghost use Rattle.reference_check.specs.Numbered.{AreFilterIds, AreGatewayIds, AreNetworkIds, filter_ids_of, gateway_ids_of, network_ids_of};
+ghost use Rattle.reference_check.specs.Numbered.{AreFilterIds, AreGatewayIds, AreNetworkIds, AreOutsideIds};
+ghost use Rattle.reference_check.specs.Numbered.{filter_ids_of, gateway_ids_of, network_ids_of};
 
 use crate::duplicates::{no_duplicates, number};
+use crate::first_numbers::FirstNumbers;
 use crate::ids::Ids;
-use std::alloc::Global;
+use std::alloc::{AllocError, Global};
 use std::marker::Model;
-use vpc_model::{Description, Id, Interface, NatGateway, Peering, PrefixList, Refusal, Subnet};
+use vpc_model::{
+    ApplianceAt, Description, FirewallEndpoint, Id, Interface, NatGateway, Peering, PrefixList,
+    Refusal, Subnet,
+};
 
 /// The ids of VPCs, subnets, interfaces and prefix lists.
 #[derive(Drop)]
@@ -26,7 +32,7 @@ pub struct FilterIds {
     pub groups: Ids,
 }
 
-/// The ids of gateways and of what is attached to them.
+/// The ids of gateways and of what is attached to them, and of appliances.
 #[derive(Drop)]
 pub struct GatewayIds {
     pub igws: Ids,
@@ -34,6 +40,15 @@ pub struct GatewayIds {
     pub peerings: Ids,
     pub attachments: Ids,
     pub tgw_tables: Ids,
+    pub appliances: Ids,
+}
+
+/// The ids of what leads to networks that aren't described, and of firewall endpoints. An id may stand twice:
+/// the first row counts.
+#[derive(Drop)]
+pub struct OutsideIds {
+    pub fars: FirstNumbers,
+    pub firewalls: FirstNumbers,
 }
 
 fn number_networks(alloc: Global, d: &Description, ids: &mut NetworkIds) -> Result<(), Refusal>
@@ -65,7 +80,15 @@ fn number_gateways(alloc: Global, d: &Description, ids: &mut GatewayIds) -> Resu
     number(alloc, d.attachments.as_slice(), &mut ids.attachments)?;
     no_duplicates(alloc, d.associations.as_slice())?;
     number(alloc, d.tgw_tables.as_slice(), &mut ids.tgw_tables)?;
-    no_duplicates(alloc, d.appliances.as_slice())
+    number(alloc, d.appliances.as_slice(), &mut ids.appliances)
+}
+
+fn number_outside(alloc: Global, d: &Description, ids: &mut OutsideIds) -> Result<(), AllocError>
+    ensures { OnOk result (AreOutsideIds d.now ids.new) }
+{
+    ids.fars = FirstNumbers::of(alloc, d.fars.as_slice())?;
+    ids.firewalls = FirstNumbers::of(alloc, d.firewalls.as_slice())?;
+    Ok(())
 }
 
 /// The ids of all lists.
@@ -73,6 +96,7 @@ pub struct AllIds {
     pub networks: NetworkIds,
     pub filters: FilterIds,
     pub gateways: GatewayIds,
+    pub outside: OutsideIds,
 }
 
 impl Drop for AllIds {
@@ -81,10 +105,12 @@ impl Drop for AllIds {
             networks,
             filters,
             gateways,
+            outside,
         } = self;
         drop(networks);
         drop(filters);
         drop(gateways);
+        drop(outside);
     }
 }
 
@@ -108,6 +134,11 @@ impl AllIds {
                 peerings: Ids::new(alloc),
                 attachments: Ids::new(alloc),
                 tgw_tables: Ids::new(alloc),
+                appliances: Ids::new(alloc),
+            },
+            outside: OutsideIds {
+                fars: FirstNumbers::new(alloc),
+                firewalls: FirstNumbers::new(alloc),
             },
         }
     }
@@ -118,7 +149,9 @@ impl AllIds {
     {
         number_networks(alloc, d, &mut self.networks)?;
         number_filters(alloc, d, &mut self.filters)?;
-        number_gateways(alloc, d, &mut self.gateways)
+        number_gateways(alloc, d, &mut self.gateways)?;
+        number_outside(alloc, d, &mut self.outside)?;
+        Ok(())
     }
 }
 
@@ -158,6 +191,15 @@ pub enum Kind {
     Group,
     List,
     InternetGateway,
+}
+
+fn is_behind_endpoint(at: ApplianceAt) -> bool
+    ensures { result ≡ is_behind_endpoint at }
+{
+    match at {
+        ApplianceAt::Interface => false,
+        ApplianceAt::Endpoint => true,
+    }
 }
 
 impl Directory {
@@ -259,6 +301,16 @@ impl Directory {
         match self.ids.gateways.peerings.number(id.bytes()) {
             Some(k) => Some(&self.d.peerings.as_slice()[k]),
             None => None,
+        }
+    }
+
+    /// Whether it is told what stands behind a firewall endpoint.
+    pub fn is_followed(&self, endpoint: &FirewallEndpoint) -> bool
+        ensures { result ≡ is_followed self.now endpoint.now }
+    {
+        match self.ids.gateways.appliances.number(endpoint.id.bytes()) {
+            Some(k) => is_behind_endpoint(self.d.appliances.as_slice()[k].at),
+            None => false,
         }
     }
 }

@@ -5,10 +5,10 @@ ghost use Rattle.reference_check.specs.FirstNumbers.{number_in};
 use indexmap::IndexMap;
 use std::alloc::{AllocError, Global};
 use std::marker::Model;
-use vpc_model::{Association, Attachment, Group, Id, Subnet};
+use vpc_model::{Association, Attachment, Far, FirewallEndpoint, Group, Id, Subnet};
 
 /// A row that names something by its id: an association its attachment, an attachment its gateway, a subnet
-/// its zone, a group or an id itself.
+/// its zone, a network what leads there, a group, a firewall endpoint or an id itself.
 pub trait Naming {
     ghost name_of: { Self → List ℕ };
 
@@ -56,6 +56,22 @@ impl Naming for Group {
     }
 }
 
+impl Naming for Far {
+    ghost name_of = { λ r. r.id };
+
+    fn name(&self) -> &Id {
+        &self.id
+    }
+}
+
+impl Naming for FirewallEndpoint {
+    ghost name_of = { λ r. r.id };
+
+    fn name(&self) -> &Id {
+        &self.id
+    }
+}
+
 /// The number of the first row that names each id. Contracts see the ids, each with its number.
 pub struct FirstNumbers {
     numbers: IndexMap<Vec<u8>, usize>,
@@ -79,7 +95,8 @@ impl Model for FirstNumbers {
 impl FirstNumbers {
     ghost use Rattle.std.specs.Prelude.{None, Some, [], ◌++◌, ◌∷◌, if◌then◌else◌, IsTrue, is_some, OnOk};
 
-    fn new(alloc: Global) -> FirstNumbers
+    /// Of no rows.
+    pub(crate) fn new(alloc: Global) -> FirstNumbers
         ensures { result ≡ [] }
     {
         FirstNumbers {

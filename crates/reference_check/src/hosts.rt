@@ -98,8 +98,8 @@ impl Hosts {
         }
     }
 
-    /// The private addresses of a description whose references were checked, or the first that is claimed twice
-    /// in a VPC.
+    /// The private addresses of a description whose references were checked, or the first that is claimed
+    /// twice in a VPC.
     pub fn of(alloc: Global, d: &Description, ids: &NetworkIds) -> Result<Hosts, Refusal>
         requires numbered { AreNetworkIds d.now ids.now }
         requires complete { missing_references d.now ≡ [] }
@@ -131,8 +131,8 @@ impl Hosts {
         }
     }
 
-    /// To which interface of a VPC the address is delegated, as one of a block, if it is to any; and the last address
-    /// up to which the same holds of all. It reads about log2 n blocks.
+    /// To which interface of a VPC the address is delegated, as one of a block, if it is to any; and the last
+    /// address up to which the same holds of all. It reads about log2 n blocks.
     pub fn delegated(&self, d: &Description, v: VpcNo, address: u32) -> (u32, Option<EniNo>)
         requires hosts { AreHosts d.now self.now }
         requires differ { duplicate_ids d.now ≡ [] }

@@ -1,14 +1,14 @@
 // Lists that are too long.
-ghost use Rattle.std.specs.Prelude.{◌≡◌};
+ghost use Rattle.std.specs.Prelude.{◌≡◌, drop, filter};
 ghost use Rattle.std.specs.List.{list_any};
-ghost use Rattle.vpc_model.specs.Accepted.{is_long, is_long_rule, too_long, too_many_rows};
-ghost use Rattle.reference_check.specs.LongLists.{long_by_part, long_filters, long_gateways, long_networks};
+ghost use Rattle.vpc_model.specs.Accepted.{is_long, is_long_far, is_long_rule, list_of_far, too_long, too_many_rows};
+ghost use Rattle.reference_check.specs.LongLists as long;
 ghost use Rattle.reference_check.specs.Told.{Tells};
 
 use vpc_model::{
-    Acl, Appliance, Association, Attachment, Description, Group, Interface, InternetGateway,
-    ListName, NatGateway, Peering, Permission, PrefixList, Refusal, RouteTable, Subnet, TgwTable,
-    Vpc,
+    Acl, Appliance, Association, Attachment, Description, Far, FarKind, FirewallEndpoint, Group,
+    Interface, InternetGateway, ListName, NatGateway, Peering, Permission, PrefixList, Refusal,
+    RouteTable, Subnet, TgwTable, Vpc,
 };
 
 // More items than a list may have (profile).
@@ -61,10 +61,11 @@ impl HasLists for Interface {
 impl HasLists for RouteTable {
     ghost use Rattle.std.specs.Prelude.{◌||◌};
 
-    ghost is_long_row = { λ t. is_long t.subnets || is_long t.routes };
+    ghost is_long_row = { λ t. is_long t.subnets || (is_long t.gateways || is_long t.routes) };
 
     fn has_long_list(&self) -> bool {
-        is_long(self.subnets.as_slice()) || is_long(self.routes.as_slice())
+        is_long(self.subnets.as_slice())
+            || (is_long(self.gateways.as_slice()) || is_long(self.routes.as_slice()))
     }
 }
 
@@ -171,6 +172,16 @@ impl HasLists for Appliance {
     }
 }
 
+impl HasLists for FirewallEndpoint {
+    ghost use Rattle.std.specs.Prelude.{false};
+
+    ghost is_long_row = { λ e. false };
+
+    fn has_long_list(&self) -> bool {
+        false
+    }
+}
+
 fn has_long_row<R: HasLists>(rows: &[R]) -> bool
     ensures { result ≡ list_any R.is_long_row rows.now }
 {
@@ -187,7 +198,7 @@ fn check_list<R: HasLists>(name: ListName, rows: &[R]) -> Result<(), Refusal>
 }
 
 fn check_networks(d: &Description) -> Result<(), Refusal>
-    ensures { Tells (long_networks d.now) result }
+    ensures { Tells (long.long_networks d.now) result }
 {
     check_list(ListName::Vpcs, d.vpcs.as_slice())?;
     check_list(ListName::Subnets, d.subnets.as_slice())?;
@@ -197,14 +208,14 @@ fn check_networks(d: &Description) -> Result<(), Refusal>
 }
 
 fn check_filters(d: &Description) -> Result<(), Refusal>
-    ensures { Tells (long_filters d.now) result }
+    ensures { Tells (long.long_filters d.now) result }
 {
     check_list(ListName::NetworkAcls, d.acls.as_slice())?;
     check_list(ListName::SecurityGroups, d.groups.as_slice())
 }
 
 fn check_gateways(d: &Description) -> Result<(), Refusal>
-    ensures { Tells (long_gateways d.now) result }
+    ensures { Tells (long.long_gateways d.now) result }
 {
     check_list(ListName::InternetGateways, d.igws.as_slice())?;
     check_list(ListName::NatGateways, d.nats.as_slice())?;
@@ -221,12 +232,67 @@ fn check_gateways(d: &Description) -> Result<(), Refusal>
     check_list(ListName::Appliances, d.appliances.as_slice())
 }
 
+// The list that tells what leads to a network.
+fn list_of_far(kind: &FarKind) -> ListName
+    ensures { result ≡ list_of_far kind.now }
+{
+    match kind {
+        FarKind::PrivateGateway(_) => ListName::VpnGateways,
+        FarKind::Attachment(_) => ListName::TransitGatewayAttachments,
+        FarKind::Peering(_, _) => ListName::VpcPeeringConnections,
+        FarKind::Endpoint(_) => ListName::VpcEndpoints,
+    }
+}
+
+// Whether a side of a peering has too many blocks.
+fn is_long_far(kind: &FarKind) -> bool
+    ensures { result ≡ is_long_far kind.now }
+{
+    match kind {
+        FarKind::Peering(requester, accepter) => {
+            is_long(requester.as_slice()) || is_long(accepter.as_slice())
+        }
+        FarKind::PrivateGateway(_) | FarKind::Attachment(_) | FarKind::Endpoint(_) => false,
+    }
+}
+
+// Refuses more networks than a list may have, by the list that tells the first of those past the others.
+fn check_count(fars: &[Far], most: usize) -> Result<(), Refusal>
+    ensures { Tells (long.told_by_list (drop most fars.now)) result }
+{
+    match fars.get(most) {
+        Some(far) => Err(Refusal::TooManyRows(list_of_far(&far.kind))),
+        None => Ok(()),
+    }
+}
+
+// Refuses the first network with too many blocks.
+fn check_blocks(fars: &[Far]) -> Result<(), Refusal>
+    ensures { Tells (long.told_by_list (filter (λ f. is_long_far f.kind) fars.now)) result }
+{
+    for far in fars {
+        if is_long_far(&far.kind) {
+            return Err(Refusal::TooManyRows(list_of_far(&far.kind)));
+        }
+    }
+    Ok(())
+}
+
+fn check_outside(d: &Description) -> Result<(), Refusal>
+    ensures { Tells (long.long_outside d.now) result }
+{
+    check_count(d.fars.as_slice(), 100_000)?;
+    check_blocks(d.fars.as_slice())?;
+    check_list(ListName::VpcEndpoints, d.firewalls.as_slice())
+}
+
 fn check_parts(d: &Description) -> Result<(), Refusal>
-    ensures { Tells (long_by_part d.now) result }
+    ensures { Tells (long.long_by_part d.now) result }
 {
     check_networks(d)?;
     check_filters(d)?;
-    check_gateways(d)
+    check_gateways(d)?;
+    check_outside(d)
 }
 
 /// The first list of more than 100,000 rows, or with such a list in one of its rows.

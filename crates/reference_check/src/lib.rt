@@ -14,6 +14,7 @@ mod lengths;
 mod network;
 mod numbered;
 mod numbers;
+mod outside;
 mod places;
 mod references;
 mod rows;

@@ -131,6 +131,7 @@ impl Network {
     ghost use Rattle.vpc_model.specs.Lookup.{acl_of, attachment_of_id, eni_no, entries_of, gateway_of, group_of_id, has_igw, has_interface, has_nat, has_peering, has_subnet, has_vpc, host_of, igw_no, nat_no, peer_no, subnet_no, table_of, tgw_table_of_id, vpc_no};
     ghost use Rattle.vpc_model.specs.Sound.{is_subnet, is_vpc};
     ghost use Rattle.reference_check.specs.Delegated.{IsDelegatedUpTo};
+    ghost use Rattle.reference_check.specs.Network.{AreCounted};
 
     /// The network that a description makes, or the first reason why it makes none.
     pub fn of(alloc: Global, d: Description) -> Result<Network, Refusal>
@@ -155,6 +156,14 @@ impl Network {
         ensures accepted { IsAccepted self.now }
     {
         self.rows.description()
+    }
+
+    /// Its rows, found by their ids.
+    pub(crate) fn directory(&self) -> &Directory
+        ensures value { result.now ≡ self.now }
+        ensures counted { AreCounted self.now }
+    {
+        &self.rows
     }
 
     /// The VPC with this id.
@@ -272,8 +281,8 @@ impl Network {
         }
     }
 
-    /// To which interface of a VPC the address is delegated, as one of a block, if it is to any; and the last address up to
-    /// which the same holds of all. It reads about log2 n blocks.
+    /// To which interface of a VPC the address is delegated, as one of a block, if it is to any; and the last
+    /// address up to which the same holds of all. It reads about log2 n blocks.
     pub fn delegated(&self, vpc: VpcNo, address: u32) -> (u32, Option<EniNo>)
         requires { IsTrue (is_vpc self.now vpc) }
         ensures { IsDelegatedUpTo self.now vpc address result }

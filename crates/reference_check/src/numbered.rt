@@ -2,13 +2,13 @@
 ghost use Rattle.std.specs.Prelude.{◌≡◌, Contains, IsTrue};
 ghost use Rattle.vpc_model.specs.Access.{access_in};
 ghost use Rattle.vpc_model.specs.Lookup as rows;
-ghost use Rattle.vpc_model.specs.Sound.{is_acl, is_attachment, is_eni, is_group, is_igw, is_nat, is_peering, is_subnet, is_table, is_tgw_table, is_vpc};
+ghost use Rattle.vpc_model.specs.Sound.{is_acl, is_attachment, is_eni, is_far, is_firewall, is_group, is_igw, is_nat, is_peering, is_subnet, is_table, is_tgw_table, is_vpc};
 
 use crate::Network;
 use vpc_model::{
-    Access, Acl, AclNo, AttNo, Attachment, EniNo, Group, GroupNo, Id, IgwNo, Interface,
-    InternetGateway, NatGateway, NatNo, PeerNo, Peering, RouteTable, Subnet, SubnetNo, TableNo,
-    TgwTable, TgwTableNo, Vpc, VpcNo,
+    Access, Acl, AclNo, AttNo, Attachment, EniNo, Far, FarNo, FirewallEndpoint, FirewallNo, Group,
+    GroupNo, Id, IgwNo, Interface, InternetGateway, NatGateway, NatNo, PeerNo, Peering, RouteTable,
+    Subnet, SubnetNo, TableNo, TgwTable, TgwTableNo, Vpc, VpcNo,
 };
 
 impl Network {
@@ -100,6 +100,22 @@ impl Network {
         &self.description().tgw_tables.as_slice()[t.0 as usize]
     }
 
+    /// The row of a network that isn't described.
+    pub fn far_at(&self, k: FarNo) -> &Far
+        requires { IsTrue (is_far self.now k) }
+        ensures { result.now ≡ rows.far_at self.now k }
+    {
+        &self.description().fars.as_slice()[k.0 as usize]
+    }
+
+    /// The row of a firewall endpoint.
+    pub fn firewall_at(&self, e: FirewallNo) -> &FirewallEndpoint
+        requires { IsTrue (is_firewall self.now e) }
+        ensures { result.now ≡ rows.firewall_at self.now e }
+    {
+        &self.description().firewalls.as_slice()[e.0 as usize]
+    }
+
     /// The number of a described VPC.
     pub fn vpc_named(&self, id: &Id) -> VpcNo
         requires { IsTrue (rows.has_vpc self.now id.now) }
@@ -154,14 +170,15 @@ impl Network {
     // The mode of a subnet's VPC, if it is told.
     fn vpc_access(&self, subnet: &Subnet) -> Option<Access>
         requires { Contains self.now.subnets subnet.now }
-        ensures { let row = rows.vpc_at self.now (rows.vpc_no self.now subnet.now.vpc) in result ≡ row.access }
+        ensures { let v = rows.vpc_no self.now subnet.now.vpc in
+            let row = rows.vpc_at self.now v in result ≡ row.access }
     {
         let _ = self.description();
         self.vpc_at(self.vpc_named(&subnet.vpc)).access
     }
 
-    /// The mode of Block Public Access in a subnet of the network: its own, else that of its VPC; off where none
-    /// is told.
+    /// The mode of Block Public Access in a subnet of the network: its own, else that of its VPC; off where
+    /// none is told.
     pub fn access_in(&self, subnet: &Subnet) -> Access
         requires { Contains self.now.subnets subnet.now }
         ensures { result ≡ access_in self.now subnet.now }

@@ -10,8 +10,9 @@ ghost use Rattle.reference_check.specs.Told.{Tells};
 use crate::directory::{Directory, Kind};
 use std::alloc::Global;
 use vpc_model::{
-    Acl, Appliance, Attachment, Group, Id, Interface, InternetGateway, NatGateway, NatLife,
-    Peering, Permission, Reach, Refusal, Route, RouteTable, Subnet, Target,
+    Acl, Appliance, ApplianceAt, Attachment, FirewallEndpoint, Group, Id, Interface,
+    InternetGateway, NatGateway, NatLife, Peering, Permission, Reach, Refusal, Route, RouteTable,
+    Subnet, Target,
 };
 
 /// A row that names others.
@@ -347,12 +348,33 @@ impl Refers for Appliance {
     ghost missing_of = { missing_of_appliance };
 
     fn check(&self, alloc: Global, rows: &Directory) -> Result<(), Refusal> {
-        want(
-            alloc,
-            rows.has(Kind::Interface, &self.id),
-            &self.id,
-            &self.id,
-        )
+        match self.at {
+            ApplianceAt::Interface => want(
+                alloc,
+                rows.has(Kind::Interface, &self.id),
+                &self.id,
+                &self.id,
+            ),
+            ApplianceAt::Endpoint => Ok(()),
+        }
+    }
+}
+
+impl Refers for FirewallEndpoint {
+    ghost use Rattle.vpc_model.specs.Accepted.{missing_of_firewall};
+
+    ghost missing_of = { missing_of_firewall };
+
+    fn check(&self, alloc: Global, rows: &Directory) -> Result<(), Refusal> {
+        if rows.is_followed(self) && rows.has(Kind::Vpc, &self.vpc) {
+            return want(
+                alloc,
+                is_subnet_of(rows, &self.vpc, &self.subnet),
+                &self.id,
+                &self.subnet,
+            );
+        }
+        Ok(())
     }
 }
 
@@ -380,7 +402,8 @@ fn check_gateways(alloc: Global, rows: &Directory) -> Result<(), Refusal>
     check_all(alloc, rows, d.igws.as_slice())?;
     check_all(alloc, rows, d.nats.as_slice())?;
     check_all(alloc, rows, d.attachments.as_slice())?;
-    check_all(alloc, rows, d.appliances.as_slice())
+    check_all(alloc, rows, d.appliances.as_slice())?;
+    check_all(alloc, rows, d.firewalls.as_slice())
 }
 
 fn check_parts(alloc: Global, rows: &Directory) -> Result<(), Refusal>

@@ -42,7 +42,8 @@ impl Taken {
         }
     }
 
-    // The run that ends first among those that end at the number or after it, as its last number and its first.
+    // The run that ends first among those that end at the number or after it, as its last number and its
+    // first.
     fn next_run(&self, number: u64) -> Option<(u64, u64)>
         ensures { IsNextRun self.now number result }
     {

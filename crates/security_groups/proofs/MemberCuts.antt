@@ -18,7 +18,7 @@ use Rattle.security_groups.specs.Rules.{DivideMember, has_block, has_key}
 use Rattle.security_groups.specs.Members.{AreFit, HasMembersOf, MemberSets, all_members, groups_with, holds_for, key_with, keys_with}
 use Rattle.vpc_base.specs.Cuts.{AreAmong, CutLists, joined_cuts}
 use Rattle.vpc_base.proofs.Members.{Contains-flat_map, flat_map-member, list_any-member, map-member}
-use Rattle.vpc_model.specs.Cuts.{address_cuts, all_cuts, block_cuts, cuts_of_acl, cuts_of_appliance, cuts_of_blocks, cuts_of_interface, cuts_of_vpc, fixed_cuts, on_sides, pair_cuts, public_cuts, standing_cuts, unbounded_standing}
+use Rattle.vpc_model.specs.Cuts.{address_cuts, all_cuts, block_cuts, cuts_of_acl, cuts_of_appliance, cuts_of_blocks, cuts_of_far, cuts_of_interface, cuts_of_vpc, fixed_cuts, on_sides, pair_cuts, public_cuts, standing_cuts, unbounded_standing}
 use Rattle.vpc_model.specs.declared.rows.Description.{Description}
 use Rattle.vpc_model.specs.declared.rows.Interface.{Interface}
 
@@ -115,7 +115,7 @@ blocks-are-among d g =
 blocks-are-standing : (d : Description) (g : ℕ) → Divide (cuts_of_blocks (flat_map block_cuts (blocks_with d g d.interfaces))) (standing_cuts d)
 blocks-are-standing d g =
     let few : CutLists = cuts_of_blocks (flat_map block_cuts (blocks_with d g d.interfaces)) in
-    let others = joined_cuts (all_cuts cuts_of_acl d.acls) (all_cuts cuts_of_appliance d.appliances) in
+    let others = joined_cuts (all_cuts cuts_of_acl d.acls) (joined_cuts (all_cuts cuts_of_appliance d.appliances) (all_cuts cuts_of_far d.fars)) in
     let from_interfaces = joined_cuts (all_cuts cuts_of_interface d.interfaces) others in
     on_sides_among few (unbounded_standing d)
     (later few fixed_cuts (joined_cuts (all_cuts cuts_of_vpc d.vpcs) from_interfaces)

@@ -21,8 +21,8 @@ pub fn no_blocks(alloc: Global, groups: &[Group]) -> Result<Vec<Vec<Prefix>>, Al
 
 // Adds blocks to those of a group, if it is described.
 fn add_to(blocks: &mut Vec<Vec<Prefix>>, group: u32, more: &[Prefix]) -> Result<(), AllocError>
-    ensures { OnOk result
-        (AreMore (map (λ b. b.items) blocks.old.items) (map (λ b. b.items) blocks.new.items) (group ∷ []) more.now) }
+    ensures { OnOk result (AreMore (map (λ b. b.items) blocks.old.items)
+        (map (λ b. b.items) blocks.new.items) (group ∷ []) more.now) }
 {
     let group = group as usize;
     if group < blocks.len() {
@@ -37,8 +37,8 @@ pub fn add_to_each(
     groups: &[u32],
     more: &[Prefix],
 ) -> Result<(), AllocError>
-    ensures { OnOk result
-        (AreMore (map (λ b. b.items) blocks.old.items) (map (λ b. b.items) blocks.new.items) groups.now more.now) }
+    ensures { OnOk result (AreMore (map (λ b. b.items) blocks.old.items)
+        (map (λ b. b.items) blocks.new.items) groups.now more.now) }
 {
     for group in groups {
         add_to(blocks, *group, more)?;

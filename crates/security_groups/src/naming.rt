@@ -93,7 +93,8 @@ pub fn may_name(n: &Network, named: &Naming, dir: Dir, vpc: u32, group: u32) -> 
     requires vpc { IsVpcNumber named.now.vpcs.ids vpc }
     requires group { group < length n.now.groups }
     ensures { let g = group_at n.now (record { 0 = group }) in
-        result ≡ list_any (may_name n.now dir (slice_index_or named.now.vpcs.ids vpc [])) (vpcs_of_group n.now g) }
+        result ≡ list_any (may_name n.now dir (slice_index_or named.now.vpcs.ids vpc []))
+        (vpcs_of_group n.now g) }
 {
     let _ = n;
     let own = named.vpcs.own.as_slice()[group as usize];

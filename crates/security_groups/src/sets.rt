@@ -1,10 +1,9 @@
 // Which sets of rules interfaces have.
 ghost use Rattle.std.specs.Prelude.{◌+◌, ◌<◌, ◌≡◌, Contains, IfOk, OnOk, length};
-ghost use Rattle.std.specs.List.{AllZip};
-ghost use Rattle.vpc_model.specs.Lookup.{group_at, vpc_of_interface};
+ghost use Rattle.vpc_model.specs.Lookup.{vpc_of_interface};
 ghost use Rattle.security_groups.specs.Members.{HasGroupsOf, groups_with};
 ghost use Rattle.security_groups.specs.Naming.{HasVpcsOf};
-ghost use Rattle.security_groups.specs.Sets.{AreSetKeys, AreSetsFor, CountsIn, IsSetFor, KeepsSets};
+ghost use Rattle.security_groups.specs.Sets.{AreSetKeys, AreSetsFor, AreSetsOf, CountsAt, IsSetFor, KeepsSets};
 
 use crate::vpcs::GroupVpcs;
 use indexmap::IndexSet;
@@ -15,7 +14,8 @@ use std::marker::Model;
 use vpc_base::OwnList;
 use vpc_model::{Id, Interface};
 
-/// Groups in further VPCs, where interfaces have them: a set of rules for each. Contracts see the numbers of the groups and of the VPCs.
+/// Groups in further VPCs, where interfaces have them: a set of rules for each. Contracts see the numbers of
+/// the groups and of the VPCs.
 pub struct FurtherSets {
     keys: IndexSet<(u32, u32)>,
 }
@@ -36,7 +36,8 @@ impl Model for FurtherSets {
 }
 
 impl FurtherSets {
-    ghost use Rattle.std.specs.Prelude.{◌++◌, ◌⊎◌, ◌∷◌, [], Some, slice_get, slice_index_or};
+    ghost use Rattle.std.specs.Prelude.{[], Some, slice_get, slice_index_or};
+    ghost use Rattle.security_groups.specs.Sets.{IsSetAdded};
 
     pub fn none(alloc: Global) -> FurtherSets
         ensures { result ≡ [] }
@@ -48,7 +49,7 @@ impl FurtherSets {
 
     // The place of a group in a VPC, which is added at the end where it is new.
     fn place(&mut self, group: u32, vpc: u32) -> Result<usize, AllocError>
-        ensures added { OnOk result ((self.new ≡ self.old) ⊎ (self.new ≡ self.old ++ (group, vpc) ∷ [])) }
+        ensures added { OnOk result (IsSetAdded self.old (group, vpc) self.new) }
         ensures place { IfOk result (λ k. slice_get self.new k ≡ Some (group, vpc)) }
     {
         let (place, _is_new) = self.keys.insert_full((group, vpc))?;
@@ -88,7 +89,7 @@ fn further_vpc(n: &Network, vpcs: &GroupVpcs, interface: &Interface, group: u32)
     requires vpcs { HasVpcsOf n.now vpcs.now }
     requires described { Contains n.now.interfaces interface.now }
     requires group { group < length n.now.groups }
-    ensures { let g = group_at n.now (record { 0 = group }) in CountsIn n.now vpcs.now.ids interface.now g result }
+    ensures { CountsAt n.now vpcs.now.ids interface.now group result }
 {
     let Some(vpc) = vpcs.ids.number(vpc_of(n, interface)) else {
         return None;
@@ -102,7 +103,8 @@ fn further_vpc(n: &Network, vpcs: &GroupVpcs, interface: &Interface, group: u32)
     Some(vpc)
 }
 
-// The number of a further set, after those of the groups. Numbers of more than 32 bits don't fit in any memory.
+// The number of a further set, after those of the groups. Numbers of more than 32 bits don't fit in any
+// memory.
 fn after(groups: usize, place: usize) -> Result<u32, AllocError>
     ensures { IfOk result (λ s. s ≡ groups + place) }
 {
@@ -153,7 +155,8 @@ fn sets_of(
     requires keys { AreSetKeys n.now vpcs.now.ids further.old }
     ensures kept { OnOk result (KeepsSets further.old further.new) }
     ensures keys { OnOk result (AreSetKeys n.now vpcs.now.ids further.new) }
-    ensures sets { IfOk result (λ l. AllZip (IsSetFor n.now vpcs.now.ids further.new interface.now) groups.now l) }
+    ensures sets { IfOk result
+        (AreSetsOf n.now vpcs.now.ids further.new interface.now groups.now) }
 {
     let mut sets = Vec::new(alloc);
     for group in groups {
@@ -185,7 +188,8 @@ fn sets_of_each(
     Ok(all)
 }
 
-/// Puts sets of rules in place of each interface's groups. Where no group has a further VPC, they have the same numbers.
+/// Puts sets of rules in place of each interface's groups. Where no group has a further VPC, they have the
+/// same numbers.
 pub fn place_all(
     alloc: Global,
     n: &Network,

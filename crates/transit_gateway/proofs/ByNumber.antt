@@ -1,15 +1,17 @@
 -- Rows by their numbers, and what stands in an index at them.
-use Rattle.std.proofs.Common.{All, Bool, Contains, List, None, Option, Some, [], ap, arith, bytes_eq, cond, false, find, get_or, length, nat_lt, option_and_then, position, refl, slice_get, subst, sym, true, ℕ, ◌<◌, ◌^◌, ◌∙◌, ◌≡◌}
+use Rattle.std.proofs.Common.{All, Bool, Contains, List, None, Option, Some, ap, arith, bytes_eq, cond, false, find, get_or, length, nat_lt, option_and_then, position, refl, slice_get, subst, sym, true, ℕ, ◌<◌, ◌^◌, ◌∙◌, ◌≡◌}
 use Rattle.std.specs.List.{position_or_len}
 use Rattle.vpc_base.proofs.Lemmas.{Contains-get_or, find_at, length-map, ltb-false, ltb-true, row-member, slice_get_past}
 use Rattle.number_tables.specs.declared.tables.Entry.{Entry}
 use Rattle.piece_table.specs.Pieces.{PieceLists}
 use Rattle.vpc_laws.proofs.Lemmas.{accepted_has_short_lists, ids_are_found}
-use Rattle.vpc_laws.specs.Types.{Association, AttNo, Attachment, Description, Subnet, SubnetNo, TgwTableNo}
+use Rattle.vpc_laws.specs.Types.{Association, AttNo, Attachment, Description, FarNo, Subnet, SubnetNo, TgwTableNo}
 use Rattle.vpc_model.specs.Terms.{IsAccepted, has_subnet, is_attachment, is_subnet, is_tgw_table, subnet_at, subnet_no, tgw_table_of_id}
 use Rattle.reference_check.specs.FirstNumbers.{number_in}
-use Rattle.transit_gateway.specs.Terms.{HasAttachment, HasSubnet, HasTable, IsRouteTable, IsTransitOf, TransitLists, routes_of, table_of_row, zone_entry, zone_no}
+use Rattle.transit_gateway.specs.Terms.{AreAssociated, HasAttachment, HasFar, HasSubnet, HasTable, IsRouteTable, IsTransitOf, TransitLists, routes_of, table_behind, table_of_row, zone_entry, zone_no}
 use Rattle.number_tables.specs.Keys.{key_of}
+use Rattle.vpc_model.specs.Far.{table_of_attachment_id}
+use Rattle.vpc_model.specs.Sound.{is_far}
 use Rattle.vpc_model.specs.Lookup.{no_subnet, no_tgw_table}
 
 -- ---- lists that numbers of 32 bits count
@@ -40,7 +42,7 @@ entry-is d k id s row zone key number is located keyed =
     ∙ ap (λ (x : SubnetNo). record { key = key_of k (zone_no d (subnet_at d (subnet_no d id)).zone); value = x }) number
 
 -- the row with the number of the first that passes
-row-position : {X : Type 0} (p : X → Bool) (xs : List X) → option_and_then (slice_get xs) (position p xs) ≡ find p xs
+pub row-position : {X : Type 0} (p : X → Bool) (xs : List X) → option_and_then (slice_get xs) (position p xs) ≡ find p xs
 row-position p xs = by (nat_lt (position_or_len p xs) (length xs)) refl
   where
     by : (b : Bool) → nat_lt (position_or_len p xs) (length xs) ≡ b → option_and_then (slice_get xs) (cond b (Some (position_or_len p xs)) None) ≡ find p xs
@@ -48,14 +50,13 @@ row-position p xs = by (nat_lt (position_or_len p xs) (length xs)) refl
     by false e = sym (find_at p xs ∙ slice_get_past xs (position_or_len p xs) (ltb-false (position_or_len p xs) (length xs) e))
 
 -- the table that the association with an attachment's number names
-pub row-table : (d e : Description) (att : Attachment) (rows : List Association) (numbers : List (List ℕ × ℕ)) (id : List ℕ) (number : Option ℕ) → e ≡ d → rows ≡ e.associations → id ≡ att.id → number ≡ number_in numbers id
-    → ((i : List ℕ) → number_in numbers i ≡ position (λ x. bytes_eq x.attachment i) d.associations)
-    → option_and_then (λ x. tgw_table_of_id d x.table) (option_and_then (slice_get rows) number) ≡ table_of_row d att
-row-table d e att rows numbers id number whole is named told are =
+pub row-table : (d e : Description) (attachment : List ℕ) (rows : List Association) (numbers : List (List ℕ × ℕ)) (id : List ℕ) (number : Option ℕ) → e ≡ d → rows ≡ e.associations → id ≡ attachment → number ≡ number_in numbers id
+    → AreAssociated d numbers → option_and_then (λ x. tgw_table_of_id d x.table) (option_and_then (slice_get rows) number) ≡ table_of_attachment_id d attachment
+row-table d e attachment rows numbers id number whole is named told are =
     let table : (Option Association → Option TgwTableNo) = option_and_then (λ x. tgw_table_of_id d x.table) in
     ap (λ l. table (option_and_then (slice_get l) number)) (is ∙ ap (λ (x : Description). x.associations) whole)
-    ∙ ap (λ o. table (option_and_then (slice_get d.associations) o)) (told ∙ ap (number_in numbers) named ∙ are att.id)
-    ∙ ap table (row-position (λ (x : Association). bytes_eq x.attachment att.id) d.associations)
+    ∙ ap (λ o. table (option_and_then (slice_get d.associations) o)) (told ∙ ap (number_in numbers) named ∙ are attachment)
+    ∙ ap table (row-position (λ (x : Association). bytes_eq x.attachment attachment) d.associations)
 
 -- ---- what stands in the index
 
@@ -75,6 +76,12 @@ attachment-has d x a of lies =
       omega arith,
       omega (arith, of.firsts),
     )
+
+pub far-has : (d : Description) (x : TransitLists) (k : FarNo) → IsTransitOf d x → is_far d k ≡ true → HasFar x k
+far-has d x k of lies =
+    let within = ltb-true k.0 (length d.fars) lies in
+    let count = ap length of.behind ∙ length-map d.fars (table_behind d) in
+    omega arith
 
 pub table-has : (d : Description) (x : TransitLists) (t : TgwTableNo) → IsTransitOf d x → is_tgw_table d t ≡ true → HasTable x t
 table-has d x t of lies = let within = ltb-true t.0 (length d.tgw_tables) lies in omega (arith, of.routes.all)

@@ -4,7 +4,7 @@ use Rattle.vpc_base.proofs.Lemmas.{and_parts, get_or-map, length-map, ltb-true, 
 use Rattle.vpc_laws.specs.Types.{AttNo, Attachment, Description, SubnetNo}
 use Rattle.vpc_laws.proofs.Lemmas.{accepted_has_all_named}
 use Rattle.vpc_model.specs.Terms.{IsAccepted, attachment_at, attachment_for, first_subnet, has_vpc, is_attachment, is_subnet, leave_subnet, or_else, subnet_at, subnet_in_zone, vpc_no, zone_subnet}
-use Rattle.transit_gateway.specs.Terms.{AreRouteTables, HasGatewaysOf, HasZonesOf, IsTransitOf, Site, TransitLists, attachment_in, enter_by, enter_zone, entered, entered_in, first_of, inner_subnets, leaving, site_of, table_of_row, zone_subnet_in}
+use Rattle.transit_gateway.specs.Terms.{AreRouteTables, HasGatewaysOf, HasZonesOf, IsTransitOf, Site, TransitLists, attachment_in, enter_by, enter_zone, entered, entered_in, first_of, inner_subnets, leaving, site_of, table_behind, table_of_row, zone_subnet_in}
 use Rattle.vpc_model.specs.Lookup.{no_attachment}
 use Rattle.transit_gateway.proofs.InZones.{site-is}
 use Rattle.vpc_model.specs.Lookup.{no_subnet}
@@ -62,12 +62,14 @@ leaving-is d x a s zones has_a has_s =
 
 -- ---- all of it
 
-pub is_transit_of : (d : Description) (x : TransitLists) → IsAccepted d → HasGatewaysOf d x.gateways x.attachments → HasZonesOf d x.sites x.subnets x.firsts → x.tables ≡ map (table_of_row d) d.attachments → AreRouteTables d.tgw_tables x.routes → IsTransitOf d x
-is_transit_of d x accepted gateways zones tables routes = record {
+pub is_transit_of : (d : Description) (x : TransitLists) → IsAccepted d → HasGatewaysOf d x.gateways x.attachments → HasZonesOf d x.sites x.subnets x.firsts → x.tables ≡ map (table_of_row d) d.attachments → x.behind ≡ map (table_behind d) d.fars
+    → AreRouteTables d.tgw_tables x.routes → IsTransitOf d x
+is_transit_of d x accepted gateways zones tables behind routes = record {
   subnets = ap length zones.site ∙ length-map d.subnets (site_of d);
   enter = λ gateway s lies. entered_in-is d x gateway s accepted gateways zones lies;
   leave = λ a s has_a has_s. leaving-is d x a s zones has_a has_s;
   firsts = ap length zones.first ∙ length-map d.attachments (first_of d);
   tables = tables;
+  behind = behind;
   routes = routes;
 }

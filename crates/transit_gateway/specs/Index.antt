@@ -1,7 +1,7 @@
 -- What an index is of a description.
 use Rattle.std.specs.Prelude.{◌≡◌, ◌<◌, Err, List, None, Ok, Option, Result, Some, length, map, slice_index_or, true, ℕ}
 use Rattle.piece_table.specs.Pieces.{PieceLists}
-use Rattle.vpc_laws.specs.Types.{AttNo, Description, SubnetNo, TgwRoute, TgwTable, TgwTableNo}
+use Rattle.vpc_laws.specs.Types.{AttNo, Description, FarNo, SubnetNo, TgwRoute, TgwTable, TgwTableNo}
 use Rattle.vpc_model.specs.Lookup.{tgw_table_at}
 use Rattle.vpc_model.specs.Sound.{is_attachment, is_subnet}
 use Rattle.vpc_model.specs.Transit.{attachment_for, leave_subnet, zone_subnet}
@@ -9,7 +9,7 @@ use Rattle.transit_gateway.specs.Gateways.{attachment_in}
 use Rattle.transit_gateway.specs.Lists.{TransitLists}
 use Rattle.transit_gateway.specs.Rows.{IsRouteTable}
 use Rattle.transit_gateway.specs.Sites.{site_at}
-use Rattle.transit_gateway.specs.Tables.{table_of_row}
+use Rattle.transit_gateway.specs.Tables.{table_behind, table_of_row}
 use Rattle.transit_gateway.specs.Zones.{leaving, zone_subnet_in}
 use Rattle.transit_gateway.specs.declared.index.EnterStop.{EnterStop}
 use Rattle.transit_gateway.specs.declared.index.EnterStop.TheVariants as stops
@@ -51,7 +51,7 @@ pub record AreRouteTables (tables : List TgwTable) (pieces : List PieceLists) : 
 
 -- ---- all of it
 
--- the index tells what the description says, of each of its subnets, attachments and tables
+-- the index tells what the description says, of each of its subnets, attachments, tables and networks that aren't described
 pub record IsTransitOf (d : Description) (x : TransitLists) : Type 0 where
   pub subnets : length x.sites ≡ length d.subnets
   pub enter : (gateway : List ℕ) (s : SubnetNo) → is_subnet d s ≡ true
@@ -60,6 +60,7 @@ pub record IsTransitOf (d : Description) (x : TransitLists) : Type 0 where
       → leaving x.sites x.subnets x.firsts a s ≡ leave_subnet d a s
   pub firsts : length x.firsts ≡ length d.attachments
   pub tables : x.tables ≡ map (table_of_row d) d.attachments
+  pub behind : x.behind ≡ map (table_behind d) d.fars
   pub routes : AreRouteTables d.tgw_tables x.routes
 
 -- the index has the subnet
@@ -69,6 +70,10 @@ HasSubnet x s = s.0 < length x.sites
 -- the index has the attachment
 abbrev pub HasAttachment : TransitLists → AttNo → Type 0
 HasAttachment x a = (a.0 < length x.tables) × (a.0 < length x.firsts)
+
+-- the index has the network
+abbrev pub HasFar : TransitLists → FarNo → Type 0
+HasFar x k = k.0 < length x.behind
 
 -- the index has the table
 abbrev pub HasTable : TransitLists → TgwTableNo → Type 0

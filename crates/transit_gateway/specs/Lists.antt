@@ -8,7 +8,8 @@ use Rattle.vpc_model.specs.declared.numbers.TgwTableNo.{TgwTableNo}
 use Rattle.transit_gateway.specs.declared.sites.Site.{Site}
 
 -- gateways by their ids, attachments by gateway and VPC, the VPC and the zone of each subnet, subnets by
--- attachment and zone, the first subnet and the table of each attachment, and the pieces of each table
+-- attachment and zone, the first subnet and the table of each attachment, the table of the attachment that leads to
+-- each network that isn't described, and the pieces of each table
 pub record TransitLists : Type 0 where
   pub gateways : List (List ℕ × ℕ)
   pub attachments : List (Entry AttNo)
@@ -16,4 +17,5 @@ pub record TransitLists : Type 0 where
   pub subnets : List (Entry SubnetNo)
   pub firsts : List (Option SubnetNo)
   pub tables : List (Option TgwTableNo)
+  pub behind : List (Option TgwTableNo)
   pub routes : List PieceLists

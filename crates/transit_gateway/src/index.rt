@@ -2,7 +2,7 @@
 ghost use Rattle.std.specs.Prelude.{◌≡◌, ◌≤◌, ◌<◌, ◌+◌, ◌-◌, ◌*◌, ◌^◌, ℕ, List, length};
 ghost use Rattle.transit_gateway.specs.Index.{entered_in};
 
-use crate::associations::tables_of;
+use crate::associations::Associated;
 use crate::gateways::Gateways;
 use crate::tables::all_pieces;
 use crate::zones::Zones;
@@ -14,7 +14,7 @@ use std::alloc::Global;
 use std::marker::Model;
 use std::sync::ledger::Ledger;
 use vpc_base::NoMemory;
-use vpc_model::{AttNo, SubnetNo, TgwTableNo};
+use vpc_model::{AttNo, FarNo, SubnetNo, TgwTableNo};
 
 /// Why a packet doesn't come into a transit gateway.
 #[derive(Clone, Copy, Debug, PartialEq, Eq)]
@@ -30,7 +30,7 @@ pub enum EnterStop {
 pub struct TransitIndex {
     gateways: Gateways,
     zones: Zones,
-    tables: Vec<Option<TgwTableNo>>,
+    associated: Associated,
     routes: Vec<Pieces>,
 }
 
@@ -39,12 +39,12 @@ impl Drop for TransitIndex {
         let TransitIndex {
             gateways,
             zones,
-            tables,
+            associated,
             routes,
         } = self;
         drop(gateways);
         drop(zones);
-        drop(tables);
+        drop(associated);
         drop(routes);
     }
 }
@@ -61,7 +61,8 @@ impl Model for TransitIndex {
       sites = x.zones.sites.items;
       subnets = x.zones.subnets;
       firsts = x.zones.firsts.items;
-      tables = x.tables.items;
+      tables = x.associated.tables.items;
+      behind = x.associated.behind.items;
       routes = x.routes.items;
     } };
 
@@ -75,9 +76,11 @@ impl TransitIndex {
     ghost use Rattle.box_images.specs.Images.{IsImageOfWalk, IsValidImage, header_at};
     ghost use Rattle.cut_laws.specs.Dividing.{Divide};
     ghost use Rattle.vpc_model.specs.Cuts.{cuts_of_tgw_table};
-    ghost use Rattle.vpc_model.specs.Lookup.{tgw_table_at};
+    ghost use Rattle.vpc_model.specs.Lookup.{far_at, tgw_table_at};
     ghost use Rattle.vpc_model.specs.Transit.{chosen_tgw_route, leave_subnet, table_of_attachment};
-    ghost use Rattle.transit_gateway.specs.Index.{HasAttachment, HasSubnet, HasTable, IsTransitOf, entered, routes_of};
+    ghost use Rattle.transit_gateway.specs.Index.{HasAttachment, HasFar, HasSubnet, HasTable, IsTransitOf};
+    ghost use Rattle.transit_gateway.specs.Index.{entered, routes_of};
+    ghost use Rattle.transit_gateway.specs.Tables.{table_behind};
 
     /// The index of a network. Takes time n log n in the number of rows. Fails for want of memory alone.
     pub fn of(alloc: Global, n: &Network) -> Result<TransitIndex, NoMemory>
@@ -86,12 +89,12 @@ impl TransitIndex {
         let d = n.description();
         let gateways = Gateways::of(alloc, n)?;
         let zones = Zones::of(alloc, n)?;
-        let tables = tables_of(alloc, n)?;
+        let associated = Associated::of(alloc, n)?;
         let routes = all_pieces(alloc, d.tgw_tables.as_slice())?;
         Ok(TransitIndex {
             gateways,
             zones,
-            tables,
+            associated,
             routes,
         })
     }
@@ -126,7 +129,15 @@ impl TransitIndex {
         requires attachment { HasAttachment self.now a }
         ensures { (d : Description) → IsTransitOf d self.now → result ≡ table_of_attachment d a }
     {
-        self.tables[a.0 as usize]
+        self.associated.tables[a.0 as usize]
+    }
+
+    /// The described table of the attachment that leads to a network that isn't described.
+    pub fn table_behind(&self, k: FarNo) -> Option<TgwTableNo>
+        requires network { HasFar self.now k }
+        ensures { (d : Description) → IsTransitOf d self.now → result ≡ table_behind d (far_at d k) }
+    {
+        self.associated.behind[k.0 as usize]
     }
 
     /// The number of the route that a table chooses for a destination, by a search that reads at most
@@ -143,8 +154,8 @@ impl TransitIndex {
         told
     }
 
-    /// The number of the route that a table chooses for the destinations of an image's headers, for those of them that go
-    /// to the same piece as the low corner.
+    /// The number of the route that a table chooses for the destinations of an image's headers, for those of
+    /// them that go to the same piece as the low corner.
     pub fn choose_on<L: Ledger>(
         &self,
         t: TgwTableNo,

@@ -1,6 +1,6 @@
 use Rattle.std.proofs.Common.{◌≡◌, ◌<◌, ◌∙◌, ◌++◌, List, ap, arith, get_or, length}
 use Rattle.vpc_laws.specs.Types.{Description, EniNo, Interface}
-use Rattle.described_hosts.proofs.HostLemmas.{few_interfaces, host_or_none, hosts_below, hosts_more}
+use Rattle.described_hosts.proofs.HostLemmas.{few_interfaces, host_or_none, hosts_more}
 use Rattle.described_hosts.proofs.hosts.hosts_of.Goals as goal
 
 pub overflow_cast-number : goal.overflow_cast-number

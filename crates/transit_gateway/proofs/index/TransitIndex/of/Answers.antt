@@ -14,5 +14,5 @@ all_pieces-requires c =
 pub returns : goal.returns
 returns c =
     let is : c.as_slice.result.now ≡ c.args.n.now.tgw_tables = c.as_slice.ensures ∙ ap (λ (d : Description). d.tgw_tables) c.description-d.ensures.value in
-    is_transit_of c.args.n.now _ c.description-d.ensures.accepted c.in_ok-gateways.ensures.gateways c.in_ok-zones.ensures c.in_ok-tables.ensures
+    is_transit_of c.args.n.now _ c.description-d.ensures.accepted c.in_ok-gateways.ensures.gateways c.in_ok-zones.ensures c.in_ok-associated.ensures.tables c.in_ok-associated.ensures.behind
     (subst (λ (l : List TgwTable). AreRouteTables l c.in_ok-routes.routes.items) is c.in_ok-routes.ensures)
