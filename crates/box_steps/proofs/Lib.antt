@@ -9,6 +9,8 @@ pub mod Delegated
 pub mod HostAnswers
 pub mod RouterAnswers
 pub mod PeeringAnswers
+pub mod OutsideAnswers
+pub mod InspectAnswers
 pub mod InternetAnswers
 pub mod TargetAnswers
 pub mod Narrowing

@@ -4,12 +4,18 @@ use Rattle.vpc_base.specs.declared.headers.Label.TheVariants as labels
 use Rattle.box_images.specs.Terms.{Answers, IsImageOfWalk, header_at}
 use Rattle.box_images.specs.declared.images.Part.{Part}
 use Rattle.image_tests.proofs.Answering.{answers_all}
-use Rattle.vpc_laws.specs.Types.{AttNo, Came, Description, EnterBy, Header, Label, PeerNo, Place, SubnetNo, VpcNo}
-use Rattle.vpc_model.specs.Terms.{Appliances, IsAccepted, Moment, Next, addresses_in, by_pair, by_route, by_tgw_table, chosen_route, enter_host, host_of, is_sound, is_unroutable, leave_by, leave_subnet, owner_of, peering_at, plain, step_at, stop, table_at, table_of, table_of_attachment, to_owner}
+use Rattle.vpc_laws.specs.Types.{AttNo, Came, Description, EnterBy, FarNo, FirewallNo, Header, Label, PeerNo, Place, SubnetNo, VpcNo}
+use Rattle.vpc_model.specs.Firewalls.{boxes_behind, entrance_table}
+use Rattle.vpc_model.specs.Lookup.{far_at}
+use Rattle.vpc_model.specs.Step.Enter.{enter_by_table}
+use Rattle.vpc_model.specs.Step.Far.{in_by, out_by}
+use Rattle.vpc_model.specs.Step.Inspect.{firewall_subnet}
+use Rattle.vpc_model.specs.Terms.{Appliances, IsAccepted, Moment, Next, addresses_in, by_pair, by_route, by_tgw_table, chosen_route, go, is_sound, is_unroutable, leave_by, leave_subnet, owner_of, passes, peering_at, plain, step_at, stop, table_at, table_of, table_of_attachment, to_owner}
+use Rattle.vpc_model.specs.declared.places.Came.TheVariants as from
 use Rattle.vpc_model.specs.declared.places.Place.TheVariants as places
 use Rattle.vpc_model.specs.declared.stops.Stop.TheVariants as stops
 use Rattle.vpc_model.proofs.Nexts.{plain-either}
-use Rattle.box_steps.proofs.Staying.{Stays, by_pair-stays, by_route-stays, by_tgw_table-stays, enter_host-stays, internet-stays, leave_by-stays}
+use Rattle.box_steps.proofs.Staying.{Stays, by_pair-stays, by_route-stays, by_tgw_table-stays, enter_by_table-stays, in_by-stays, inspect-stays, internet-stays, leave_by-stays, out_by-stays}
 use Rattle.box_steps.proofs.Turning.{plain_step, standing_answers}
 use Rattle.box_steps.specs.Terms.{AtPlace, BoxMoment, IsBoxMoment, IsStepOn, IsTurned, Onward, Standing, moment_at, onward_of}
 
@@ -46,10 +52,9 @@ router_step d appliances label s came x old new onward accepted moment is t k =
 
 pub enter_step : (d : Description) (appliances : Appliances) (label : Label) (v : VpcNo) (by : EnterBy) (x : Part Onward) (old new : BoxMoment) (onward : Onward)
     → IsAccepted d → IsBoxMoment d label old → old.place ≡ places.Enter v by → IsTurned x old new onward
-    → Answers (Standing d) (λ h. let k = header_at old.header h in onward_of (enter_host d v k (host_of d v k.dst))) old.header.part x → IsStepOn d appliances label old new onward
+    → Answers (AtPlace d (places.Enter v by)) (λ h. onward_of (enter_by_table d v (header_at old.header h) (entrance_table d v by))) old.header.part x → IsStepOn d appliances label old new onward
 enter_step d appliances label v by x old new onward accepted moment is t k =
-    at_plain d appliances label (places.Enter v by) (λ h. enter_host d v h (host_of d v h.dst)) x old new onward accepted moment is t (enter_host-stays d v) (λ m. refl)
-    (standing_answers d (places.Enter v by) (λ h. let g = header_at old.header h in onward_of (enter_host d v g (host_of d v g.dst))) old.header.part x k)
+    at_plain d appliances label (places.Enter v by) (λ h. enter_by_table d v h (entrance_table d v by)) x old new onward accepted moment is t (enter_by_table-stays d v by) (λ m. refl) k
 
 pub internet_step : (d : Description) (appliances : Appliances) (label : Label) (x : Part Onward) (old new : BoxMoment) (onward : Onward)
     → IsAccepted d → IsBoxMoment d label old → old.place ≡ places.Internet → IsTurned x old new onward
@@ -86,3 +91,27 @@ tgw_leave_step d appliances label a entered told x old new onward accepted momen
     (subst (Answers (AtPlace d (places.TgwLeave a entered)) (λ h. onward_of (leave_by a (header_at old.header h) (leave_subnet d a entered))) old.header.part) (sym x_is)
     (answers_all (AtPlace d (places.TgwLeave a entered)) (λ h. onward_of (leave_by a (header_at old.header h) (leave_subnet d a entered))) old.header.part told moment.valid.part
     (λ h. sym (all (header_at old.header h)))))
+
+pub far_out_step : (d : Description) (appliances : Appliances) (label : Label) (k : FarNo) (x : Part Onward) (old new : BoxMoment) (onward : Onward)
+    → IsAccepted d → IsBoxMoment d label old → old.place ≡ places.FarOut k → IsTurned x old new onward
+    → Answers (Standing d) (λ h. onward_of (out_by d k (far_at d k) (header_at old.header h) (far_at d k).kind)) old.header.part x → IsStepOn d appliances label old new onward
+far_out_step d appliances label k x old new onward accepted moment is t told =
+    at_plain d appliances label (places.FarOut k) (λ h. out_by d k (far_at d k) h (far_at d k).kind) x old new onward accepted moment is t (out_by-stays d k) (λ m. refl)
+    (standing_answers d (places.FarOut k) (λ h. onward_of (out_by d k (far_at d k) (header_at old.header h) (far_at d k).kind)) old.header.part x told)
+
+pub far_in_step : (d : Description) (appliances : Appliances) (label : Label) (k : FarNo) (x : Part Onward) (old new : BoxMoment) (onward : Onward)
+    → IsAccepted d → IsBoxMoment d label old → old.place ≡ places.FarIn k → IsTurned x old new onward
+    → Answers (AtPlace d (places.FarIn k)) (λ h. onward_of (in_by d label k (far_at d k) (header_at old.header h) (far_at d k).kind)) old.header.part x → IsStepOn d appliances label old new onward
+far_in_step d appliances label k x old new onward accepted moment is t told =
+    at_plain d appliances label (places.FarIn k) (λ h. in_by d label k (far_at d k) h (far_at d k).kind) x old new onward accepted moment is t (in_by-stays d label k) (λ m. refl) told
+
+pub inspect_step : (d : Description) (appliances : Appliances) (label : Label) (e : FirewallNo) (x : Part Onward) (old new : BoxMoment) (onward : Onward)
+    → IsAccepted d → IsBoxMoment d label old → old.place ≡ places.Inspect e → IsTurned x old new onward
+    → Answers (Standing d) (λ h. let k = header_at old.header h in
+    onward_of (cond (passes (boxes_behind d e) k) (go (places.Router (firewall_subnet d e) (from.Firewall e)) k) (stop (stops.InspectDrop e)))) old.header.part x
+    → IsStepOn d appliances label old new onward
+inspect_step d appliances label e x old new onward accepted moment is t told =
+    at_plain d appliances label (places.Inspect e) (λ h. cond (passes (boxes_behind d e) h) (go (places.Router (firewall_subnet d e) (from.Firewall e)) h) (stop (stops.InspectDrop e)))
+    x old new onward accepted moment is t (inspect-stays d e) (λ m. refl)
+    (standing_answers d (places.Inspect e)
+    (λ h. let k = header_at old.header h in onward_of (cond (passes (boxes_behind d e) k) (go (places.Router (firewall_subnet d e) (from.Firewall e)) k) (stop (stops.InspectDrop e)))) old.header.part x told)

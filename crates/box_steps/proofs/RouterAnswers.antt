@@ -1,5 +1,6 @@
 -- What comes next for all headers of a body, by the route that a table chooses.
 use Rattle.std.proofs.Common.{◌≡◌, ◌∙◌, None, Option, Some, ap, sym, ℕ}
+use Rattle.vpc_base.specs.Cuts.{CutLists}
 use Rattle.box_images.specs.Answers.{Answers}
 use Rattle.box_images.specs.Images.{header_at}
 use Rattle.box_images.specs.declared.images.Image.{Image}
@@ -7,11 +8,10 @@ use Rattle.box_images.specs.declared.images.Part.{Part}
 use Rattle.header_boxes.specs.Boxes.{IsValid}
 use Rattle.image_tests.proofs.Answering.{answers_same}
 use Rattle.vpc_base.specs.declared.headers.Header.{Header}
-use Rattle.vpc_laws.specs.Types.{Description, EniNo, Place, SubnetNo, TableNo, Target, VpcNo}
+use Rattle.vpc_laws.specs.Types.{Description, EniNo, Place, TableNo, VpcNo}
 use Rattle.vpc_model.specs.Lookup.{host_of, table_at}
 use Rattle.vpc_model.specs.Routes.{chosen_route}
-use Rattle.vpc_model.specs.Step.Router.{by_route, to_target}
-use Rattle.vpc_model.specs.Step.Words.{Next}
+use Rattle.vpc_model.specs.Step.Words.{Next, stop}
 use Rattle.vpc_model.specs.declared.stops.Stop.TheVariants as stops
 use Rattle.box_steps.proofs.Telling.{answers_then, answers_told}
 use Rattle.box_steps.proofs.Turning.{standing_answers}
@@ -28,30 +28,28 @@ answers_by_host d v after i j x y valid within k l =
     answers_then (Standing d) (λ h. host_of d v h.dst) (λ h. onward_of (after h (host_of d v h.dst))) (λ h. onward_of (after h x.told)) i j x y valid within
     (λ h e. ap (λ (o : Option EniNo). onward_of (after (header_at i h) o)) e) k l
 
--- by the target of a route
-pub answers_of_target : (d : Description) (s : SubnetNo) (t : TableNo) (k : ℕ) (target goal : Target) (after : Header → Next) (i : Image) (x : Part Onward) → target ≡ goal
-    → ((h : Header) → after h ≡ to_target d s h t k goal) → Answers (Standing d) (λ h. onward_of (after (header_at i h))) i.part x
-    → Answers (Standing d) (λ h. onward_of (to_target d s (header_at i h) t k target)) i.part x
-answers_of_target d s t k target goal after i x is same l =
-    answers_same (Standing d) (λ h. onward_of (after (header_at i h))) (λ h. onward_of (to_target d s (header_at i h) t k target)) i.part x
-    (λ h. ap onward_of (same (header_at i h) ∙ sym (ap (to_target d s (header_at i h) t k) is))) l
+-- by something that is one for all headers, such as the target of a route
+pub answers_by_one : {X : Type 0} (enough : CutLists → Type 0) (by : Header → X → Next) (x goal : X) (after : Header → Next) (i : Image) (y : Part Onward) → x ≡ goal
+    → ((h : Header) → after h ≡ by h goal) → Answers enough (λ h. onward_of (after (header_at i h))) i.part y
+    → Answers enough (λ h. onward_of (by (header_at i h) x)) i.part y
+answers_by_one {X} enough by x goal after i y is same l =
+    answers_same enough (λ h. onward_of (after (header_at i h))) (λ h. onward_of (by (header_at i h) x)) i.part y
+    (λ h. ap onward_of (same (header_at i h) ∙ sym (ap (by (header_at i h)) is))) l
 
--- by the chosen route
-abbrev pub by_choice : Description → SubnetNo → TableNo → Header → Next
-by_choice d s t h = by_route d s h t (chosen_route d (table_at d t).routes h.dst)
+-- ---- by the chosen route
 
-pub answers_of_route : (d : Description) (p : Place) (s : SubnetNo) (t : TableNo) (k : ℕ) (i j : Image) (x : Part (Option ℕ)) (y : Part Onward) → IsValid i.part → x.told ≡ Some k
+pub answers_of_route : (d : Description) (p : Place) (t : TableNo) (after : Header → Option ℕ → Next) (k : ℕ) (i j : Image) (x : Part (Option ℕ)) (y : Part Onward) → IsValid i.part → x.told ≡ Some k
     → j ≡ record i { part = x.body } → Answers (AtPlace d p) (λ h. chosen_route d (table_at d t).routes (header_at i h).dst) i.part x
-    → Answers (Standing d) (λ h. onward_of (by_route d s (header_at j h) t (Some k))) j.part y
-    → Answers (AtPlace d p) (λ h. onward_of (by_choice d s t (header_at i h))) i.part y
-answers_of_route d p s t k i j x y valid is within chosen l =
-    answers_then (AtPlace d p) (λ h. chosen_route d (table_at d t).routes h.dst) (λ h. onward_of (by_choice d s t h)) (λ h. onward_of (by_route d s h t (Some k))) i j x y valid within
-    (λ h e. ap (λ (o : Option ℕ). onward_of (by_route d s (header_at i h) t o)) (e ∙ is)) chosen
-    (standing_answers d p (λ h. onward_of (by_route d s (header_at j h) t (Some k))) j.part y l)
+    → Answers (Standing d) (λ h. onward_of (after (header_at j h) (Some k))) j.part y
+    → Answers (AtPlace d p) (λ h. onward_of (after (header_at i h) (chosen_route d (table_at d t).routes (header_at i h).dst))) i.part y
+answers_of_route d p t after k i j x y valid is within chosen l =
+    answers_then (AtPlace d p) (λ h. chosen_route d (table_at d t).routes h.dst) (λ h. onward_of (after h (chosen_route d (table_at d t).routes h.dst))) (λ h. onward_of (after h (Some k))) i j x y valid within
+    (λ h e. ap (λ (o : Option ℕ). onward_of (after (header_at i h) o)) (e ∙ is)) chosen
+    (standing_answers d p (λ h. onward_of (after (header_at j h) (Some k))) j.part y l)
 
-pub answers_without_route : (d : Description) (p : Place) (s : SubnetNo) (t : TableNo) (i : Image) (x : Part (Option ℕ)) → x.told ≡ None
-    → Answers (AtPlace d p) (λ h. chosen_route d (table_at d t).routes (header_at i h).dst) i.part x
-    → Answers (AtPlace d p) (λ h. onward_of (by_choice d s t (header_at i h))) i.part (record { body = x.body; told = onwards.Stop (stops.NoRoute t) })
-answers_without_route d p s t i x is chosen =
-    answers_told (AtPlace d p) (λ h. chosen_route d (table_at d t).routes (header_at i h).dst) (λ h. onward_of (by_choice d s t (header_at i h))) i.part x (onwards.Stop (stops.NoRoute t))
-    (λ h e. ap (λ (o : Option ℕ). onward_of (by_route d s (header_at i h) t o)) (e ∙ is)) chosen
+pub answers_without_route : (d : Description) (p : Place) (t : TableNo) (after : Header → Option ℕ → Next) (i : Image) (x : Part (Option ℕ)) → x.told ≡ None
+    → ((h : Header) → after h None ≡ stop (stops.NoRoute t)) → Answers (AtPlace d p) (λ h. chosen_route d (table_at d t).routes (header_at i h).dst) i.part x
+    → Answers (AtPlace d p) (λ h. onward_of (after (header_at i h) (chosen_route d (table_at d t).routes (header_at i h).dst))) i.part (record { body = x.body; told = onwards.Stop (stops.NoRoute t) })
+answers_without_route d p t after i x is stopped chosen =
+    answers_told (AtPlace d p) (λ h. chosen_route d (table_at d t).routes (header_at i h).dst) (λ h. onward_of (after (header_at i h) (chosen_route d (table_at d t).routes (header_at i h).dst))) i.part x (onwards.Stop (stops.NoRoute t))
+    (λ h e. ap (λ (o : Option ℕ). onward_of (after (header_at i h) o)) (e ∙ is) ∙ ap onward_of (stopped (header_at i h))) chosen

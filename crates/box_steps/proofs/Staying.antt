@@ -4,11 +4,15 @@ use Rattle.std.proofs.lemmas.Bool.{cond_both}
 use Rattle.vpc_base.specs.declared.headers.Label.TheVariants as labels
 use Rattle.vpc_laws.proofs.Flow.{header_stays, taken_by}
 use Rattle.vpc_laws.specs.Step.{SendsSame}
-use Rattle.vpc_laws.specs.Types.{AttNo, Box5, Description, EniNo, Header, PeerNo, Place, SubnetNo, VpcNo}
-use Rattle.vpc_model.specs.Terms.{Appliances, Moment, Next, arrive, boxes_at, by_pair, by_route, by_tgw_table, chosen_route, enter_host, forwarded, gateway_of, go, has_address, host_of, interface_at, is_unroutable, leave_by, leave_subnet, owner_of, passes, peering_at, stop, table_at, table_of, table_of_attachment, taken_in, to_owner}
+use Rattle.vpc_laws.specs.Types.{AttNo, Box5, Description, EniNo, EnterBy, FarNo, FirewallNo, Header, Label, PeerNo, Place, SubnetNo, VpcNo}
+use Rattle.vpc_model.specs.Firewalls.{boxes_behind, entrance_table}
+use Rattle.vpc_model.specs.Lookup.{far_at}
+use Rattle.vpc_model.specs.Step.Enter.{enter_by_table}
+use Rattle.vpc_model.specs.Step.Far.{in_by, out_by}
+use Rattle.vpc_model.specs.Step.Inspect.{firewall_subnet}
+use Rattle.vpc_model.specs.Terms.{Appliances, Moment, Next, arrive, boxes_at, by_pair, by_route, by_tgw_table, chosen_route, forwarded, gateway_of, go, has_address, interface_at, is_unroutable, leave_by, leave_subnet, owner_of, passes, peering_at, stop, table_at, table_of, table_of_attachment, taken_in, to_owner}
 use Rattle.vpc_model.specs.declared.places.Came.TheVariants as from
 use Rattle.vpc_model.specs.declared.places.End.TheVariants as ends
-use Rattle.vpc_model.specs.declared.places.EnterBy.TheVariants as through
 use Rattle.vpc_model.specs.declared.places.Place.TheVariants as places
 use Rattle.vpc_model.specs.declared.stops.Stop.TheVariants as stops
 use Rattle.box_steps.specs.Terms.{Onward, onward_of}
@@ -38,8 +42,8 @@ at p h = record { place = p; header = h; conns = []; nats = [] }
 pub by_route-stays : (d : Description) (s : SubnetNo) (h : Header) → Stays h (by_route d s h (table_of d s) (chosen_route d (table_at d (table_of d s)).routes h.dst))
 by_route-stays d s h = header_stays d [] labels.Opening (at (places.Router s (from.Nat (record { 0 = 0 }))) h) refl
 
-pub enter_host-stays : (d : Description) (v : VpcNo) (h : Header) → Stays h (enter_host d v h (host_of d v h.dst))
-enter_host-stays d v h = header_stays d [] labels.Opening (at (places.Enter v through.Gateway) h) refl
+pub enter_by_table-stays : (d : Description) (v : VpcNo) (by : EnterBy) (h : Header) → Stays h (enter_by_table d v h (entrance_table d v by))
+enter_by_table-stays d v by h = header_stays d [] labels.Opening (at (places.Enter v by) h) refl
 
 pub by_pair-stays : (d : Description) (x : PeerNo) (v : VpcNo) (h : Header) → Stays h (by_pair d x v h (peering_at d x).pair)
 by_pair-stays d x v h = header_stays d [] labels.Opening (at (places.Peer x v) h) refl
@@ -49,6 +53,16 @@ by_tgw_table-stays d a entered h = header_stays d [] labels.Opening (at (places.
 
 pub leave_by-stays : (d : Description) (a : AttNo) (entered : SubnetNo) (h : Header) → Stays h (leave_by a h (leave_subnet d a entered))
 leave_by-stays d a entered h = header_stays d [] labels.Opening (at (places.TgwLeave a entered) h) refl
+
+pub out_by-stays : (d : Description) (k : FarNo) (h : Header) → Stays h (out_by d k (far_at d k) h (far_at d k).kind)
+out_by-stays d k h = header_stays d [] labels.Opening (at (places.FarOut k) h) refl
+
+pub in_by-stays : (d : Description) (label : Label) (k : FarNo) (h : Header) → Stays h (in_by d label k (far_at d k) h (far_at d k).kind)
+in_by-stays d label k h = header_stays d [] label (at (places.FarIn k) h) refl
+
+pub inspect-stays : (d : Description) (e : FirewallNo) (h : Header)
+    → Stays h (cond (passes (boxes_behind d e) h) (go (places.Router (firewall_subnet d e) (from.Firewall e)) h) (stop (stops.InspectDrop e)))
+inspect-stays d e h = header_stays d [] labels.Opening (at (places.Inspect e) h) refl
 
 -- ---- what is a step in part
 

@@ -1,6 +1,7 @@
 pub mod Cuts
 pub mod Hosts
 pub mod Onward
+pub mod Outside
 pub mod Publics
 pub mod Moments
 pub mod Passing

@@ -1,5 +1,6 @@
 -- What comes next, in the words of the model, without the header.
-use Rattle.std.specs.Prelude.{None, Option, Some}
+use Rattle.std.specs.Prelude.{if◌then◌else◌, Bool, None, Option, Some}
+use Rattle.box_images.specs.declared.images.Part.{Part}
 use Rattle.box_steps.specs.declared.onward.Onward.{Onward}
 use Rattle.box_steps.specs.declared.onward.Onward.TheVariants as onwards
 use Rattle.edge_gateways.specs.declared.peerings.Carry.{Carry}
@@ -19,6 +20,10 @@ onward_of (stop s) = onwards.Stop s
 abbrev pub onward_unless : Option Stop → Onward → Onward
 onward_unless None next = next
 onward_unless (Some s) next = onwards.Stop s
+
+-- what comes next where a test holds of all headers of a body; else a stop
+abbrev pub onward_if : Part Bool → Onward → Stop → Part Onward
+onward_if x next s = record { body = x.body; told = if x.told then next else onwards.Stop s }
 
 -- over a peering to its other VPC, by what it carries
 abbrev pub after_carry : PeerNo → VpcNo → Carry → Onward

@@ -7,9 +7,11 @@ ghost use Rattle.box_steps.specs.Moments.{IsBoxMoment, moment_at};
 ghost use Rattle.fabric.specs.Targets.{route_at};
 ghost use Rattle.vpc_base.specs.declared.headers.Label.TheVariants as labels;
 ghost use Rattle.vpc_model.specs.Appliances.{appliances_of};
+ghost use Rattle.vpc_model.specs.Firewalls.{entrance_table};
 ghost use Rattle.vpc_model.specs.Lookup.{host_of, table_at, table_of};
 ghost use Rattle.vpc_model.specs.Routes.{chosen_route};
-ghost use Rattle.vpc_model.specs.Sound.{is_eni, is_route, is_subnet, is_vpc};
+ghost use Rattle.vpc_model.specs.Sound.{is_eni, is_entry, is_route, is_subnet, is_vpc};
+ghost use Rattle.vpc_model.specs.Step.Enter.{enter_by_table};
 ghost use Rattle.vpc_model.specs.Step.Router.{by_route, to_interface, to_target};
 ghost use Rattle.vpc_model.specs.Verdict.{same_end};
 ghost use Rattle.vpc_model.specs.declared.places.Came.{Came};
@@ -24,7 +26,7 @@ use box_images::Image;
 use fabric::Fabric;
 use fabric::rows::{route_at, vpc_of};
 use header_boxes::Box5;
-use vpc_model::{End, EniNo, Place, SubnetNo, TableNo, Target, VpcNo};
+use vpc_model::{End, EniNo, EnterBy, Place, SubnetNo, TableNo, Target, VpcNo};
 
 // Where opens may arrive: at their goal or, to go on, at an appliance.
 #[derive(Clone, Copy)]
@@ -39,6 +41,7 @@ fn is_goal(goal: End, e: EniNo) -> bool
     match goal {
         End::Interface(i) => e.0 == i.0,
         End::Internet => false,
+        End::Far(_) => false,
     }
 }
 
@@ -149,6 +152,22 @@ fn router_away_on(f: &Fabric, aim: &Aim, s: SubnetNo, i: &Image) -> Option<Box5>
     }
 }
 
+// Into a VPC, where no table of a gateway is asked; of what such a table routes nothing is told here.
+fn entrance_away_on(f: &Fabric, aim: &Aim, v: VpcNo, by: EnterBy, i: &Image) -> Option<Box5>
+    requires vpc { IsTrue (is_vpc f.now v) }
+    requires entry { IsTrue (is_entry f.now by) }
+    requires valid { IsValidImage i.now }
+    requires walk { IsImageOfWalk i.now }
+    ensures { let a = aim.now in let table = entrance_table f.now v by in
+        HoldsOver (Standing f.now) (λ h. misses a.deciders.now.appliances a.goal
+        (enter_by_table f.now v (header_at i.now h) table)) i.now.part result }
+{
+    match f.entrance_table(v, by) {
+        Some(_) => None,
+        None => host_away_on(f, aim, v, i),
+    }
+}
+
 /// A body of the packets of a moment, opens, that can't arrive at the goal: their next step delivers them to an
 /// interface that is neither the goal nor an appliance's, or stops them. No ACL and no groups are asked, so the body is as
 /// large as routes and addresses let it be. Where none is told, nothing is known.
@@ -162,7 +181,7 @@ pub fn misses_on(f: &Fabric, deciders: &Deciders, goal: End, m: &BoxMoment) -> O
     let aim = Aim { deciders, goal };
     match m.place {
         Place::Router(s, _) => router_away_on(f, &aim, s, &m.header),
-        Place::Enter(v, _) => host_away_on(f, &aim, v, &m.header),
+        Place::Enter(v, by) => entrance_away_on(f, &aim, v, by, &m.header),
         _ => None,
     }
 }

@@ -1,6 +1,6 @@
 // What comes next for headers that stay as they are.
 ghost use Rattle.std.specs.Prelude.{◌≡◌};
-ghost use Rattle.box_steps.specs.Onward.{onward_unless};
+ghost use Rattle.box_steps.specs.Onward.{onward_if, onward_unless};
 ghost use Rattle.box_steps.specs.declared.onward.Onward.TheVariants as onwards;
 
 use box_images::{Image, Part};
@@ -34,6 +34,17 @@ pub fn unless_stopped_on(stop: Part<Option<Stop>>, next: Onward) -> Part<Onward>
     };
     Part {
         body: stop.body,
+        told,
+    }
+}
+
+/// What comes next where a test holds of the body; else a stop.
+pub fn onward_if(holds: &Part<bool>, next: Onward, stop: Stop) -> Part<Onward>
+    ensures { result ≡ onward_if holds.now next stop }
+{
+    let told = if holds.told { next } else { Onward::Stop(stop) };
+    Part {
+        body: holds.body,
         told,
     }
 }

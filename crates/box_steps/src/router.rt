@@ -6,9 +6,11 @@ ghost use Rattle.box_steps.specs.Cuts.{AtPlace, Standing};
 ghost use Rattle.box_steps.specs.Onward.{onward_of};
 ghost use Rattle.fabric.specs.Targets.{route_at};
 ghost use Rattle.vpc_laws.specs.Accepted.{HasTarget};
-ghost use Rattle.vpc_model.specs.Lookup.{host_of, nat_at, peering_at, table_at, table_of, vpc_of_subnet};
+ghost use Rattle.vpc_model.specs.Far.{far_end_of_id, far_of_id};
+ghost use Rattle.vpc_model.specs.Firewalls.{firewall_of};
+ghost use Rattle.vpc_model.specs.Lookup.{far_at, host_of, nat_at, peering_at, table_at, table_of, vpc_of_subnet};
 ghost use Rattle.vpc_model.specs.Routes.{chosen_route};
-ghost use Rattle.vpc_model.specs.Sound.{is_eni, is_nat, is_peering, is_route, is_subnet, is_vpc};
+ghost use Rattle.vpc_model.specs.Sound.{is_eni, is_far, is_nat, is_peering, is_route, is_subnet, is_vpc};
 ghost use Rattle.vpc_model.specs.Step.Router as model;
 ghost use Rattle.vpc_model.specs.Transit.{attachment_for};
 ghost use Rattle.vpc_model.specs.declared.places.Came.{Came};
@@ -20,11 +22,11 @@ use crate::hosts::host_on;
 use crate::onward::{Onward, stopped, unless_stopped_on};
 use box_images::{Image, Part};
 use fabric::Fabric;
-use fabric::rows::{far_vpc, nat_at, nat_subnet, peering_at, route_at, subnet_of, vpc_of};
+use fabric::rows::{far_at, far_vpc, nat_at, nat_subnet, peering_at, route_at, subnet_of, vpc_of};
 use transit_gateway::EnterStop;
 use vpc_model::{
-    AttNo, EniNo, Foreign, Id, IgwNo, NatLife, NatNo, PeerNo, Place, Stop, SubnetNo, TableNo,
-    Target, VpcNo,
+    AttNo, EniNo, FarKind, FarNo, Foreign, Id, IgwNo, NatLife, NatNo, PeerNo, Place, Stop,
+    SubnetNo, TableNo, Target, VpcNo,
 };
 
 /// A local route: to the interface that has the destination.
@@ -122,7 +124,34 @@ pub fn to_nat_on(f: &Fabric, s: SubnetNo, i: &Image, n: NatNo) -> Part<Onward>
     }
 }
 
-/// A route to a peering, which is active and whose other VPC is described.
+// Into a network that isn't described.
+fn to_far_on(f: &Fabric, s: SubnetNo, i: &Image, k: FarNo) -> Part<Onward>
+    requires subnet { IsTrue (is_subnet f.now s) }
+    requires valid { IsValidImage i.now }
+    requires walk { IsImageOfWalk i.now }
+    ensures { Answers (Standing f.now)
+        (λ h. onward_of (model.to_far f.now s (header_at i.now h) k)) i.now.part result }
+{
+    unless_stopped_on(leaving_on(f, s, i), Onward::Go(Place::FarOut(k)))
+}
+
+// Over a peering to a VPC that isn't described, where it is told which blocks that has.
+fn to_half_peering_on(f: &Fabric, s: SubnetNo, i: &Image, x: PeerNo) -> Part<Onward>
+    requires subnet { IsTrue (is_subnet f.now s) }
+    requires peering { IsTrue (is_peering f.now x) }
+    requires valid { IsValidImage i.now }
+    requires walk { IsImageOfWalk i.now }
+    ensures { let row = peering_at f.now x in let far = far_end_of_id f.now row.id in
+        Answers (Standing f.now) (λ h. onward_of (model.to_half_peering f.now s (header_at i.now h) x far))
+        i.now.part result }
+{
+    match f.network().far_end(peering_at(f, x).id.bytes()) {
+        Some(k) => to_far_on(f, s, i, k),
+        None => stopped(i, Stop::Unmodelled(Foreign::Peering(x))),
+    }
+}
+
+/// A route to a peering, which is active.
 pub fn to_peer_on(f: &Fabric, s: SubnetNo, v: VpcNo, i: &Image, x: PeerNo) -> Part<Onward>
     requires subnet { IsTrue (is_subnet f.now s) }
     requires vpc { IsTrue (is_vpc f.now v) }
@@ -138,7 +167,7 @@ pub fn to_peer_on(f: &Fabric, s: SubnetNo, v: VpcNo, i: &Image, x: PeerNo) -> Pa
     };
     match far_vpc(f, x, v) {
         Some(_) => unless_stopped_on(leaving_on(f, s, i), Onward::Go(Place::Peer(x, v))),
-        None => stopped(i, Stop::Unmodelled(Foreign::Peering(x))),
+        None => to_half_peering_on(f, s, i, x),
     }
 }
 
@@ -180,6 +209,99 @@ fn to_local_on(f: &Fabric, s: SubnetNo, v: VpcNo, i: &Image) -> Part<Onward>
     to_host_on(f, s, &i.within(&host.body), host.told, v)
 }
 
+// Whether the VPC is the one beside a network.
+fn is_beside(v: VpcNo, beside: Option<VpcNo>) -> bool
+    ensures { result ≡ model.is_beside v beside }
+{
+    match beside {
+        None => false,
+        Some(beside) => beside.0 == v.0,
+    }
+}
+
+// A route to a virtual private gateway that is attached to the VPC, or to a gateway endpoint that lies in it.
+fn to_network_on(
+    f: &Fabric,
+    s: SubnetNo,
+    v: VpcNo,
+    i: &Image,
+    t: TableNo,
+    k: u32,
+    far: FarNo,
+) -> Part<Onward>
+    requires subnet { IsTrue (is_subnet f.now s) }
+    requires own { v ≡ vpc_of_subnet f.now s }
+    requires far { IsTrue (is_far f.now far) }
+    requires valid { IsValidImage i.now }
+    requires walk { IsImageOfWalk i.now }
+    ensures { let row = far_at f.now far in Answers (Standing f.now)
+        (λ h. onward_of (model.to_network_by f.now s (header_at i.now h) t k far row.kind))
+        i.now.part result }
+{
+    let row = far_at(f, far);
+    let inside = is_beside(v, f.network().vpc_beside(row));
+    match (&row.kind, inside) {
+        (FarKind::PrivateGateway(_), true) => to_far_on(f, s, i, far),
+        (FarKind::PrivateGateway(_), false) => stopped(i, Stop::FarDetached(far)),
+        (FarKind::Endpoint(_), true) => to_far_on(f, s, i, far),
+        (FarKind::Endpoint(_), false) => stopped(i, Stop::Unmodelled(Foreign::Target(t, k))),
+        (FarKind::Attachment(_), _) => stopped(i, Stop::Unmodelled(Foreign::Target(t, k))),
+        (FarKind::Peering(..), _) => stopped(i, Stop::Unmodelled(Foreign::Target(t, k))),
+    }
+}
+
+// A route to a firewall endpoint of the VPC, where it is told what stands behind it.
+fn to_firewall_on(
+    f: &Fabric,
+    s: SubnetNo,
+    v: VpcNo,
+    i: &Image,
+    t: TableNo,
+    k: u32,
+    id: &Id,
+) -> Part<Onward>
+    requires subnet { IsTrue (is_subnet f.now s) }
+    requires vpc { IsTrue (is_vpc f.now v) }
+    requires valid { IsValidImage i.now }
+    requires walk { IsImageOfWalk i.now }
+    ensures { let firewall = firewall_of f.now v id.now in Answers (Standing f.now)
+        (λ h. onward_of (model.to_firewall f.now s (header_at i.now h) t k firewall))
+        i.now.part result }
+{
+    match f.firewall_of(v, id) {
+        Some(e) => {
+            let crossed = crossing_on(f, s, f.firewall_subnet(e), i);
+            unless_stopped_on(crossed, Onward::Go(Place::Inspect(e)))
+        }
+        None => stopped(i, Stop::Unmodelled(Foreign::Target(t, k))),
+    }
+}
+
+// A route to what has no kind of its own in a table.
+fn to_other_on(
+    f: &Fabric,
+    s: SubnetNo,
+    v: VpcNo,
+    i: &Image,
+    t: TableNo,
+    k: u32,
+    id: &Id,
+) -> Part<Onward>
+    requires subnet { IsTrue (is_subnet f.now s) }
+    requires vpc { IsTrue (is_vpc f.now v) }
+    requires own { v ≡ vpc_of_subnet f.now s }
+    requires valid { IsValidImage i.now }
+    requires walk { IsImageOfWalk i.now }
+    ensures { let far = far_of_id f.now id.now in Answers (Standing f.now)
+        (λ h. onward_of (model.to_other f.now s (header_at i.now h) t k id.now far))
+        i.now.part result }
+{
+    match f.network().far(id.bytes()) {
+        Some(far) => to_network_on(f, s, v, i, t, k, far),
+        None => to_firewall_on(f, s, v, i, t, k, id),
+    }
+}
+
 // By the target of the route.
 fn to_target_on(f: &Fabric, s: SubnetNo, i: &Image, t: TableNo, k: u32) -> Part<Onward>
     requires subnet { IsTrue (is_subnet f.now s) }
@@ -200,7 +322,7 @@ fn to_target_on(f: &Fabric, s: SubnetNo, i: &Image, t: TableNo, k: u32) -> Part<
         Target::Peer(_) => to_peer_on(f, s, v, i, PeerNo(f.target_number(t, k))),
         Target::Transit(id) => to_transit_on(f, s, i, t, k, id),
         Target::Interface(_) => to_interface_on(f, s, i, EniNo(f.target_number(t, k))),
-        Target::Other(_) => stopped(i, Stop::Unmodelled(Foreign::Target(t, k))),
+        Target::Other(id) => to_other_on(f, s, v, i, t, k, id),
     }
 }
 

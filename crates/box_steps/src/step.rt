@@ -2,7 +2,6 @@
 ghost use Rattle.std.specs.Prelude.{◌≡◌};
 ghost use Rattle.vpc_model.specs.Appliances.{appliances_of};
 ghost use Rattle.vpc_model.specs.declared.places.Came.{Came};
-ghost use Rattle.vpc_model.specs.declared.places.EnterBy.{EnterBy};
 ghost use Rattle.vpc_model.specs.declared.places.Place.TheVariants as places;
 ghost use Rattle.vpc_base.specs.declared.headers.Label.{Label};
 ghost use Rattle.vpc_model.specs.declared.places.Place.{Place};
@@ -10,11 +9,13 @@ ghost use Rattle.box_steps.specs.Moments.{CanRemember, IsBoxMoment, IsStepOn};
 ghost use Rattle.box_steps.specs.Moments.{comes_to, moment_after, onward_to};
 
 use crate::enter::enter_on;
+use crate::inspect::inspect_on;
 use crate::interface::{into_on, out_on};
 use crate::internet::{igw_in_on, igw_out_on, internet_on};
 use crate::moment::{BoxMoment, BoxNext};
 use crate::nat::{nat_in_on, nat_out_on};
 use crate::onward::Onward;
+use crate::outside::{far_in_on, far_out_on};
 use crate::peering::peer_on;
 use crate::router::router_on;
 use crate::transit::{tgw_leave_to, tgw_on};
@@ -22,7 +23,7 @@ use appliances::Deciders;
 use box_images::Part;
 use fabric::Fabric;
 use vpc_base::Label;
-use vpc_model::{AttNo, PeerNo, Place, SubnetNo, VpcNo};
+use vpc_model::{AttNo, EnterBy, FarNo, FirewallNo, PeerNo, Place, SubnetNo, VpcNo};
 
 // The router of a subnet asks its table, in whatever way packets came to it.
 fn at_router(f: &Fabric, s: SubnetNo, m: &mut BoxMoment) -> Onward
@@ -36,15 +37,15 @@ fn at_router(f: &Fabric, s: SubnetNo, m: &mut BoxMoment) -> Onward
     m.turn(&x)
 }
 
-// A VPC is entered without a route.
-fn at_entrance(f: &Fabric, v: VpcNo, m: &mut BoxMoment) -> Onward
-    requires place { (by : EnterBy) × (m.old.place ≡ places.Enter v by) }
+// A VPC is entered by the table of the gateway, or without a route.
+fn at_entrance(f: &Fabric, v: VpcNo, by: EnterBy, m: &mut BoxMoment) -> Onward
+    requires place { m.old.place ≡ places.Enter v by }
     requires moment { (label : Label) × IsBoxMoment f.now label m.old }
     ensures { (label : Label) → IsBoxMoment f.now label m.old
         → IsStepOn f.now (appliances_of f.now) label m.old m.new result }
 {
     let _ = f.network().description();
-    let x = enter_on(f, v, &m.header);
+    let x = enter_on(f, v, by, &m.header);
     m.turn(&x)
 }
 
@@ -99,6 +100,41 @@ fn leaving_tgw(f: &Fabric, a: AttNo, entered: SubnetNo, m: &mut BoxMoment) -> On
     m.turn(&x)
 }
 
+// What leads to a network that isn't described may ask what it carries.
+fn leaving_to(f: &Fabric, k: FarNo, m: &mut BoxMoment) -> Onward
+    requires place { m.old.place ≡ places.FarOut k }
+    requires moment { (label : Label) × IsBoxMoment f.now label m.old }
+    ensures { (label : Label) → IsBoxMoment f.now label m.old
+        → IsStepOn f.now (appliances_of f.now) label m.old m.new result }
+{
+    let _ = f.network().description();
+    let x = far_out_on(f, k, &m.header);
+    m.turn(&x)
+}
+
+// From a network that isn't described.
+fn coming_from(f: &Fabric, label: Label, k: FarNo, m: &mut BoxMoment) -> Onward
+    requires place { m.old.place ≡ places.FarIn k }
+    requires moment { IsBoxMoment f.now label m.old }
+    ensures { IsStepOn f.now (appliances_of f.now) label m.old m.new result }
+{
+    let _ = f.network().description();
+    let x = far_in_on(f, label, k, &m.header);
+    m.turn(&x)
+}
+
+// A firewall endpoint asks what stands behind it.
+fn at_firewall(f: &Fabric, e: FirewallNo, m: &mut BoxMoment) -> Onward
+    requires place { m.old.place ≡ places.Inspect e }
+    requires moment { (label : Label) × IsBoxMoment f.now label m.old }
+    ensures { (label : Label) → IsBoxMoment f.now label m.old
+        → IsStepOn f.now (appliances_of f.now) label m.old m.new result }
+{
+    let _ = f.network().description();
+    let x = inspect_on(f, e, &m.header);
+    m.turn(&x)
+}
+
 /// One step of the packets of a moment, which becomes the moment after it: over the body for which
 /// it is one step, and at the next place where they go on. It takes no memory.
 pub fn step_in_place(f: &Fabric, deciders: &Deciders, label: Label, m: &mut BoxMoment) -> Onward
@@ -110,7 +146,7 @@ pub fn step_in_place(f: &Fabric, deciders: &Deciders, label: Label, m: &mut BoxM
     match m.place {
         Place::OutOf(i) => out_on(f, label, i, m),
         Place::Router(s, _) => at_router(f, s, m),
-        Place::Enter(v, _) => at_entrance(f, v, m),
+        Place::Enter(v, by) => at_entrance(f, v, by, m),
         Place::Into(i) => into_on(f, deciders, label, i, m),
         Place::IgwOut(v) => igw_out_on(f, v, m),
         Place::Internet => at_internet(f, m),
@@ -120,6 +156,9 @@ pub fn step_in_place(f: &Fabric, deciders: &Deciders, label: Label, m: &mut BoxM
         Place::Peer(c, v) => at_peering(f, c, v, m),
         Place::Tgw(a, entered) => at_tgw(f, a, entered, m),
         Place::TgwLeave(a, entered) => leaving_tgw(f, a, entered, m),
+        Place::FarOut(k) => leaving_to(f, k, m),
+        Place::FarIn(k) => coming_from(f, label, k, m),
+        Place::Inspect(e) => at_firewall(f, e, m),
     }
 }
 

@@ -9,7 +9,7 @@ use Rattle.vpc_base.specs.declared.headers.Label.TheVariants as labels
 use Rattle.vpc_laws.proofs.Lemmas.{ends_are_told_apart, walks_are_sound}
 use Rattle.vpc_laws.specs.Sound.{EndsWell}
 use Rattle.vpc_laws.specs.Types.{Description, End, Header, Outcome, Phase, Stop, Verdict}
-use Rattle.vpc_model.specs.Terms.{Appliances, IsAccepted, Walk, cuts_of_hops, is_end, is_sound, near_cuts, request_walk, same_end, verdict_of, verdict_of_arrival, verdict_of_request, walk_of}
+use Rattle.vpc_model.specs.Terms.{Appliances, IsAccepted, Walk, alone, cuts_of_hops, is_end, is_sound, near_cuts, request_walk, same_end, verdict_of, verdict_of_arrival, verdict_of_request, walk_of}
 use Rattle.vpc_model.specs.declared.outcomes.Outcome.TheVariants as outcomes
 use Rattle.vpc_model.specs.declared.outcomes.Phase.TheVariants as phases
 use Rattle.vpc_model.specs.declared.outcomes.Verdict.TheVariants as verdicts
@@ -37,18 +37,18 @@ toward-stop end (verdicts.Stopped phase s) = refl
 
 -- where it has arrived at another end, the verdict toward that end is that of its arrival
 verdict-arrived : (d : Description) (a : Appliances) (start end : End) (h k : Header) → (let w = request_walk d a start h in w.outcome) ≡ outcomes.Arrived end k
-    → verdict_of d a start end h ≡ verdict_of_arrival d a start end h (request_walk d a start h) (reply_of k)
+    → verdict_of d a start end h ≡ verdict_of_arrival d a (alone start) end h (request_walk d a start h) (reply_of k)
 verdict-arrived d a start end h k is =
     let w = request_walk d a start h in
-    ap (verdict_of_request d a start end h w) is
-    ∙ ap (λ (b : Bool). cond b (verdict_of_arrival d a start end h w (reply_of k)) (verdicts.Stopped phases.Request (stops.WrongPlace end))) (same-itself end)
+    ap (verdict_of_request d a (alone start) end h w) is
+    ∙ ap (λ (b : Bool). cond b (verdict_of_arrival d a (alone start) end h w (reply_of k)) (verdicts.Stopped phases.Request (stops.WrongPlace end))) (same-itself end)
 
 pub journey-arrived : (d : Description) (a : Appliances) (start end : End) (h k : Header) → same_end end start ≡ false → (let w = request_walk d a start h in w.outcome) ≡ outcomes.Arrived end k
     → journey_of d a start None h ≡ toward end (stop_of (verdict_of d a start end h))
 journey-arrived d a start end h k apart is =
     let w = request_walk d a start h in
     ap (journey_after d a start h w) is
-    ∙ (ap (λ (b : Bool). cond b (journeys.Stopped phases.Request (stops.WrongPlace end)) (journey_by end (verdict_of_arrival d a start end h w (reply_of k)))) apart
+    ∙ (ap (λ (b : Bool). cond b (journeys.Stopped phases.Request (stops.WrongPlace end)) (journey_by end (verdict_of_arrival d a (alone start) end h w (reply_of k)))) apart
     ∙ (ap (journey_by end) (sym (verdict-arrived d a start end h k is)) ∙ sym (toward-stop end (verdict_of d a start end h))))
 
 journey-returned : (d : Description) (a : Appliances) (start end : End) (h k : Header) → same_end end start ≡ true → (let w = request_walk d a start h in w.outcome) ≡ outcomes.Arrived end k
@@ -56,7 +56,7 @@ journey-returned : (d : Description) (a : Appliances) (start end : End) (h k : H
 journey-returned d a start end h k same is =
     let w = request_walk d a start h in
     ap (journey_after d a start h w) is
-    ∙ ap (λ (b : Bool). cond b (journeys.Stopped phases.Request (stops.WrongPlace end)) (journey_by end (verdict_of_arrival d a start end h w (reply_of k)))) same
+    ∙ ap (λ (b : Bool). cond b (journeys.Stopped phases.Request (stops.WrongPlace end)) (journey_by end (verdict_of_arrival d a (alone start) end h w (reply_of k)))) same
 
 -- ---- the law
 
@@ -70,17 +70,17 @@ through-by goal v is = ap (journey_by goal) is
 module _ (d : Description) (a : Appliances) (start end : End) (h : Header) (other : end ≢ start) (w : Walk) where
   -- whether the request has arrived at the start
   by-start : (at : End) (k : Header) (b : Bool) → same_end at start ≡ b
-      → (cond b (journeys.Stopped phases.Request (stops.WrongPlace at)) (journey_by at (verdict_of_arrival d a start at h w (reply_of k))) ≡ journeys.Reached end)
-      → cond (same_end at end) (verdict_of_arrival d a start end h w (reply_of k)) (verdicts.Stopped phases.Request (stops.WrongPlace at)) ≡ verdicts.Through
+      → (cond b (journeys.Stopped phases.Request (stops.WrongPlace at)) (journey_by at (verdict_of_arrival d a (alone start) at h w (reply_of k))) ≡ journeys.Reached end)
+      → cond (same_end at end) (verdict_of_arrival d a (alone start) end h w (reply_of k)) (verdicts.Stopped phases.Request (stops.WrongPlace at)) ≡ verdicts.Through
   by-start at k true e is = absurd cc
   by-start at k false e is =
-      let reached = reached-by at end (verdict_of_arrival d a start at h w (reply_of k)) is in
-      ap (λ (b : Bool). cond b (verdict_of_arrival d a start end h w (reply_of k)) (verdicts.Stopped phases.Request (stops.WrongPlace at))) (ap (λ (x : End). same_end x end) reached.0 ∙ same-itself end)
-      ∙ (ap (λ (x : End). verdict_of_arrival d a start x h w (reply_of k)) (sym reached.0) ∙ reached.1)
+      let reached = reached-by at end (verdict_of_arrival d a (alone start) at h w (reply_of k)) is in
+      ap (λ (b : Bool). cond b (verdict_of_arrival d a (alone start) end h w (reply_of k)) (verdicts.Stopped phases.Request (stops.WrongPlace at))) (ap (λ (x : End). same_end x end) reached.0 ∙ same-itself end)
+      ∙ (ap (λ (x : End). verdict_of_arrival d a (alone start) x h w (reply_of k)) (sym reached.0) ∙ reached.1)
 
   by-end : (at : End) (k : Header) (b : Bool) → same_end at end ≡ b
-      → cond b (verdict_of_arrival d a start end h w (reply_of k)) (verdicts.Stopped phases.Request (stops.WrongPlace at)) ≡ verdicts.Through
-      → (cond (same_end at start) (journeys.Stopped phases.Request (stops.WrongPlace at)) (journey_by at (verdict_of_arrival d a start at h w (reply_of k))) ≡ journeys.Reached end)
+      → cond b (verdict_of_arrival d a (alone start) end h w (reply_of k)) (verdicts.Stopped phases.Request (stops.WrongPlace at)) ≡ verdicts.Through
+      → (cond (same_end at start) (journeys.Stopped phases.Request (stops.WrongPlace at)) (journey_by at (verdict_of_arrival d a (alone start) at h w (reply_of k))) ≡ journeys.Reached end)
   by-end at k false e is = absurd cc
   by-end at k true e is = by (same_end at start) refl
     where
@@ -88,12 +88,12 @@ module _ (d : Description) (a : Appliances) (start end : End) (h : Header) (othe
       here = same-only at end e
 
       by : (b : Bool) → same_end at start ≡ b
-          → (cond b (journeys.Stopped phases.Request (stops.WrongPlace at)) (journey_by at (verdict_of_arrival d a start at h w (reply_of k))) ≡ journeys.Reached end)
+          → (cond b (journeys.Stopped phases.Request (stops.WrongPlace at)) (journey_by at (verdict_of_arrival d a (alone start) at h w (reply_of k))) ≡ journeys.Reached end)
       by true back = absurd (other (sym here ∙ same-only at start back))
       by false apart =
-          through-by at (verdict_of_arrival d a start at h w (reply_of k)) (ap (λ (x : End). verdict_of_arrival d a start x h w (reply_of k)) here ∙ is) ∙ ap journeys.Reached here
+          through-by at (verdict_of_arrival d a (alone start) at h w (reply_of k)) (ap (λ (x : End). verdict_of_arrival d a (alone start) x h w (reply_of k)) here ∙ is) ∙ ap journeys.Reached here
 
-  by-outcome : (o : Outcome) → (journey_after d a start h w o ≡ journeys.Reached end) ↔ (verdict_of_request d a start end h w o ≡ verdicts.Through)
+  by-outcome : (o : Outcome) → (journey_after d a start h w o ≡ journeys.Reached end) ↔ (verdict_of_request d a (alone start) end h w o ≡ verdicts.Through)
   by-outcome (outcomes.Stopped s) = (λ is. absurd cc, λ is. absurd cc)
   by-outcome (outcomes.Arrived at k) = (by-start at k (same_end at start) refl, by-end at k (same_end at end) refl)
 

@@ -1,5 +1,5 @@
 -- A walk that misses the goal.
-use Rattle.std.proofs.Common.{◌≡◌, ◌&&◌, ◌++◌, ◌+◌, ◌∷◌, [], Bool, List, None, Option, Some, false, is_none, not, refl, suc, true, zero, ℕ}
+use Rattle.std.proofs.Common.{◌≡◌, ◌&&◌, ◌++◌, ◌∷◌, [], Bool, List, None, Option, Some, false, is_none, not, refl, suc, true, zero, ℕ}
 use Rattle.std.proofs.lemmas.Bool.{and_parts, cond_both, false≢true, not-true}
 use Rattle.vpc_base.specs.declared.headers.Dir.TheVariants as dirs
 use Rattle.vpc_base.specs.declared.headers.Label.TheVariants as labels
@@ -61,6 +61,9 @@ away-next d a goal (places.NatOut n) k conns nats e = absurd (false≢true e)
 away-next d a goal (places.Peer x v) k conns nats e = absurd (false≢true e)
 away-next d a goal (places.Tgw t s) k conns nats e = absurd (false≢true e)
 away-next d a goal (places.TgwLeave t s) k conns nats e = absurd (false≢true e)
+away-next d a goal (places.FarOut f) k conns nats e = absurd (false≢true e)
+away-next d a goal (places.FarIn f) k conns nats e = absurd (false≢true e)
+away-next d a goal (places.Inspect f) k conns nats e = absurd (false≢true e)
 
 walk_on-missed : (d : Description) (a : Appliances) (goal : End) (n : ℕ) (hops : List Hop) (h : Header) (next : Next) (conns : List Connection) (nats : List Translation) → misses a goal next ≡ true
     → let w = walk_on d a labels.Opening n hops h next conns nats in arrives_at goal w.outcome ≡ false

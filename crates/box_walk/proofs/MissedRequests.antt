@@ -3,10 +3,9 @@ use Rattle.std.proofs.Common.{◌≡◌, ◌↔◌, ◌∙◌, Bool, None, Optio
 use Rattle.vpc_base.specs.Terms.{AreAmong, CutLists, reply_of}
 use Rattle.vpc_base.specs.declared.headers.Label.TheVariants as labels
 use Rattle.header_boxes.specs.Boxes.{low_of}
-use Rattle.box_steps.specs.Terms.{misses}
 use Rattle.box_steps.specs.declared.moment.BoxMoment.{BoxMoment}
 use Rattle.vpc_laws.specs.Types.{Description, End, Header, Outcome, Phase, Stop, Verdict}
-use Rattle.vpc_model.specs.Terms.{Appliances, Moment, Walk, appliances_of, near_cuts, request_walk, verdict_of, verdict_of_arrival, verdict_of_request, walk_of}
+use Rattle.vpc_model.specs.Terms.{Appliances, Moment, Walk, alone, appliances_of, near_cuts, request_walk, verdict_of, verdict_of_arrival, verdict_of_request, walk_of}
 use Rattle.vpc_model.specs.declared.outcomes.Outcome.TheVariants as outcomes
 use Rattle.vpc_model.specs.declared.outcomes.Phase.TheVariants as phases
 use Rattle.vpc_model.specs.declared.outcomes.Verdict.TheVariants as verdicts
@@ -16,10 +15,10 @@ use Rattle.box_walk.specs.Terms.{AreRequests, IsWalkMissed, NothingStopsThrough,
 
 -- a request that doesn't arrive at the goal is stopped
 stopped-away : (d : Description) (a : Appliances) (start goal : End) (h : Header) (w : Walk) (o : Outcome) → arrives_at goal o ≡ false
-    → Some tt ≡ whether (stop_of (verdict_of_request d a start goal h w o))
+    → Some tt ≡ whether (stop_of (verdict_of_request d a (alone start) goal h w o))
 stopped-away d a start goal h w (outcomes.Stopped s) e = refl
 stopped-away d a start goal h w (outcomes.Arrived end k) e =
-    sym (ap (λ (b : Bool). whether (stop_of (cond b (verdict_of_arrival d a start goal h w (reply_of k)) (verdicts.Stopped phases.Request (stops.WrongPlace end))))) e)
+    sym (ap (λ (b : Bool). whether (stop_of (cond b (verdict_of_arrival d a (alone start) goal h w (reply_of k)) (verdicts.Stopped phases.Request (stops.WrongPlace end))))) e)
 
 pub request_missed : (d : Description) (a : Appliances) (start goal : End) (old new : BoxMoment) → AreRequests start old → IsWalkMissed d a goal old new.header.part
     → TellsWhether (AreAmong (near_cuts d a start goal (low_of old.header.part))) (λ h. whether (stop_of (verdict_of d a start goal h))) old new (Some tt)

@@ -5,7 +5,7 @@ use Rattle.header_boxes.proofs.BoxLaws.{within_holds}
 use Rattle.header_boxes.specs.Boxes.{low_of}
 use Rattle.box_images.proofs.BodyLemmas.{body_through}
 use Rattle.box_images.specs.Answers.{Answers}
-use Rattle.box_steps.specs.Terms.{AtPlace, HoldsOver, IsStepOn, misses, misses_at, moment_at}
+use Rattle.box_steps.specs.Terms.{AtPlace, HoldsOver, IsStepOn, misses_at, moment_at}
 use Rattle.box_steps.specs.declared.moment.BoxMoment.{BoxMoment}
 use Rattle.box_steps.specs.declared.onward.Onward.TheVariants as onwards
 use Rattle.cut_laws.proofs.Among.{among_through}

@@ -9,7 +9,7 @@ use Rattle.header_boxes.specs.Terms.{IsAligned, holds, low_of}
 use Rattle.vpc_base.specs.Terms.{AreAmong, CutLists, reply_of}
 use Rattle.vpc_base.specs.declared.headers.Label.TheVariants as labels
 use Rattle.vpc_laws.specs.Types.{Description, End, Header, Hop, Outcome, Phase, Stop, Verdict}
-use Rattle.vpc_model.specs.Terms.{Appliances, Connection, Moment, Translation, Walk, cuts_of_hops, hops_after, hops_of_reply, near_cuts, reply_hops, reply_walk, request_walk, same_end, standing_cuts, start_of, verdict_of, verdict_of_arrival, verdict_of_reply, verdict_of_request, walk_of}
+use Rattle.vpc_model.specs.Terms.{Appliances, Connection, Moment, Translation, Walk, alone, cuts_of_hops, hops_after, hops_of_reply, near_cuts, reply_hops, reply_walk, request_walk, same_end, standing_cuts, start_of, verdict_of, verdict_of_arrival, verdict_of_reply, verdict_of_request, walk_of}
 use Rattle.vpc_model.specs.declared.outcomes.Phase.TheVariants as phases
 use Rattle.vpc_model.specs.declared.outcomes.Verdict.TheVariants as verdicts
 use Rattle.vpc_model.specs.declared.stops.Stop.TheVariants as stops
@@ -24,9 +24,9 @@ reply_walk-left d appliances goal r w v conns nats =
     ∙ ap (λ (t : List Translation). walk_of d appliances labels.Answer (record { place = start_of goal; header = r; conns = v.conns; nats = t })) nats
 
 verdict-left : (d : Description) (appliances : Appliances) (start goal : End) (h : Header) (w v : Walk) (r : Option Header) → w.conns ≡ v.conns → w.nats ≡ v.nats
-    → verdict_of_arrival d appliances start goal h w r ≡ verdict_of_arrival d appliances start goal h v r
+    → verdict_of_arrival d appliances (alone start) goal h w r ≡ verdict_of_arrival d appliances (alone start) goal h v r
 verdict-left d appliances start goal h w v None conns nats = refl
-verdict-left d appliances start goal h w v (Some r) conns nats = ap (λ (x : Walk). verdict_of_reply start h x.outcome) (reply_walk-left d appliances goal r w v conns nats)
+verdict-left d appliances start goal h w v (Some r) conns nats = ap (λ (x : Walk). verdict_of_reply (alone start) h x.outcome) (reply_walk-left d appliances goal r w v conns nats)
 
 hops-left : (d : Description) (appliances : Appliances) (goal : End) (w v : Walk) (r : Option Header) → w.conns ≡ v.conns → w.nats ≡ v.nats → hops_of_reply d appliances goal w r ≡ hops_of_reply d appliances goal v r
 hops-left d appliances goal w v None conns nats = refl
@@ -34,9 +34,9 @@ hops-left d appliances goal w v (Some r) conns nats = ap (λ (x : Walk). x.hops)
 
 -- a request that arrives, by the moment to which it comes
 pub verdict_at-arrival : (d : Description) (appliances : Appliances) (start goal end : End) (m : BoxMoment) (h : Header) (w : Walk) → IsWalkTo w h m (endings.Arrived end)
-    → stop_of (verdict_of_request d appliances start goal h w w.outcome) ≡ word_of_arrival d appliances start goal end m h
+    → stop_of (verdict_of_request d appliances (alone start) goal h w w.outcome) ≡ word_of_arrival d appliances start goal end m h
 verdict_at-arrival d appliances start goal end m h w k =
-    ap (λ (o : Outcome). stop_of (verdict_of_request d appliances start goal h w o)) k.outcome
+    ap (λ (o : Outcome). stop_of (verdict_of_request d appliances (alone start) goal h w o)) k.outcome
     ∙ ap (λ (v : Verdict). stop_of (cond (same_end end goal) v (verdicts.Stopped phases.Request (stops.WrongPlace end)))) (verdict-left d appliances start goal h w (arrival_at end m h) (reply_of (header_at m.header h)) k.conns k.nats)
 
 hops_at-arrival : (d : Description) (appliances : Appliances) (goal end : End) (m : BoxMoment) (h : Header) (w : Walk) → IsWalkTo w h m (endings.Arrived end)
@@ -72,7 +72,7 @@ pub request_stops : (d : Description) (appliances : Appliances) (start goal : En
 request_stops d appliances start goal old new s requests w = record {
   told = λ h inside.
       let walk = request_walk d appliances start h in
-      sym (ap (λ (o : Outcome). stop_of (verdict_of_request d appliances start goal h walk o)) (request_led d appliances start old new (endings.Stopped s) requests w h inside).outcome);
+      sym (ap (λ (o : Outcome). stop_of (verdict_of_request d appliances (alone start) goal h walk o)) (request_led d appliances start old new (endings.Stopped s) requests w h inside).outcome);
   body = w.body;
   aligned = λ cuts e. request_aligned d appliances start goal old new (endings.Stopped s) requests w cuts e;
 }

@@ -11,7 +11,7 @@ use Rattle.vpc_base.specs.Terms.{AreAmong, reply_of}
 use Rattle.vpc_base.specs.declared.headers.Label.TheVariants as labels
 use Rattle.vpc_laws.specs.Types.{Box5, Description, End, Header, Hop, Phase, Place, Stop}
 use Rattle.vpc_laws.proofs.Telling.{start-sound}
-use Rattle.vpc_model.specs.Terms.{Appliances, Moment, addresses_in, cuts_of_hops, hops_of_reply, is_end, is_sound, same_end, start_of, verdict_of_arrival, verdict_of_reply, walk_of}
+use Rattle.vpc_model.specs.Terms.{Appliances, Moment, addresses_in, alone, cuts_of_hops, hops_of_reply, is_end, is_sound, same_end, start_of, verdict_of_arrival, verdict_of_reply, walk_of}
 use Rattle.vpc_model.specs.declared.outcomes.Phase.TheVariants as phases
 use Rattle.vpc_model.specs.declared.outcomes.Verdict.TheVariants as verdicts
 use Rattle.vpc_model.specs.declared.stops.Stop.TheVariants as stops
@@ -19,10 +19,10 @@ use Rattle.box_walk.proofs.TellingAll.{addresses_divided}
 
 -- at the goal, the verdict is that of the reply
 at_goal : (d : Description) (appliances : Appliances) (start goal end : End) (m : BoxMoment) (h : Header) (r : Option Header) → same_end end goal ≡ true → reply_of (header_at m.header h) ≡ r
-    → word_of_arrival d appliances start goal end m h ≡ stop_of (verdict_of_arrival d appliances start goal h (arrival_at end m h) r)
+    → word_of_arrival d appliances start goal end m h ≡ stop_of (verdict_of_arrival d appliances (alone start) goal h (arrival_at end m h) r)
 at_goal d appliances start goal end m h r there is =
-    ap (λ (b : Bool). stop_of (cond b (verdict_of_arrival d appliances start goal h (arrival_at end m h) (reply_of (header_at m.header h))) (verdicts.Stopped phases.Request (stops.WrongPlace end)))) there
-    ∙ ap (λ (o : Option Header). stop_of (verdict_of_arrival d appliances start goal h (arrival_at end m h) o)) is
+    ap (λ (b : Bool). stop_of (cond b (verdict_of_arrival d appliances (alone start) goal h (arrival_at end m h) (reply_of (header_at m.header h))) (verdicts.Stopped phases.Request (stops.WrongPlace end)))) there
+    ∙ ap (λ (o : Option Header). stop_of (verdict_of_arrival d appliances (alone start) goal h (arrival_at end m h) o)) is
 
 -- and so are the hops
 hops_at_goal : (d : Description) (appliances : Appliances) (goal end : End) (m : BoxMoment) (r : Option Header) → same_end end goal ≡ true → reply_of (header_at m.header (low_of m.header.part)) ≡ r
@@ -101,7 +101,7 @@ replied d appliances start goal end old mid new x answer told there k r rest = r
   told = λ h inside.
       let around = inside_reply h (within_holds new.header.part mid.header.part h rest.body.within inside) in
       rest.told h inside
-      ∙ ap (λ (m : Moment). let w = walk_of d appliances labels.Answer m in stop_of (verdict_of_reply start h w.outcome)) (moment_of_reply h)
+      ∙ ap (λ (m : Moment). let w = walk_of d appliances labels.Answer m in stop_of (verdict_of_reply (alone start) h w.outcome)) (moment_of_reply h)
       ∙ sym (at_goal d appliances start goal end old h (Some (header_at answer h)) there (reply_told h around));
   body = body_through new.header.part mid.header.part old.header.part rest.body middle;
   aligned = λ cuts e.

@@ -12,7 +12,7 @@ use Rattle.header_boxes.specs.Terms.{low_of}
 use Rattle.vpc_base.specs.Terms.{reply_of}
 use Rattle.vpc_base.specs.declared.headers.Label.TheVariants as labels
 use Rattle.vpc_laws.specs.Types.{Description, End, Header, Outcome, Phase, Stop}
-use Rattle.vpc_model.specs.Terms.{Appliances, addresses_in, cuts_of_hops, is_header, same_end, standing_cuts, verdict_of_reply, walk_of}
+use Rattle.vpc_model.specs.Terms.{Appliances, addresses_in, alone, cuts_of_hops, is_header, same_end, standing_cuts, verdict_of_reply, walk_of}
 use Rattle.vpc_model.specs.declared.outcomes.Phase.TheVariants as phases
 use Rattle.vpc_model.specs.declared.outcomes.Verdict.TheVariants as verdicts
 use Rattle.vpc_model.specs.declared.stops.Stop.TheVariants as stops
@@ -49,7 +49,7 @@ pub reply_stops : (d : Description) (appliances : Appliances) (start : End) (old
     → IsWalkOn d appliances labels.Answer old new (endings.Stopped s)
     → Tells (DivideReply d appliances old) (word_of_answer d appliances start old) old new (Some (phases.Reply, s))
 reply_stops d appliances start old new s w = record {
-  told = λ h inside. sym (ap (λ (o : Outcome). stop_of (verdict_of_reply start h o)) (w.walk h inside).outcome);
+  told = λ h inside. sym (ap (λ (o : Outcome). stop_of (verdict_of_reply (alone start) h o)) (w.walk h inside).outcome);
   body = w.body;
   aligned = w.aligned;
 }
@@ -64,5 +64,5 @@ reply_arrives d appliances start end old mid new told w k =
     let walk = walk_of d appliances labels.Answer low in
     tells_after d appliances labels.Answer (DivideReply d appliances old) (DivideAddresses (addresses_in d)) (word_of_answer d appliances start old) (word_of_return start end mid) old mid new (endings.Arrived end) told w
     (λ cuts e. (e, addresses_divided d cuts (among_through (standing_cuts d) (cuts_of_hops d walk.hops) cuts (standing_among d appliances labels.Answer low) e)))
-    (λ h inside. ap (λ (o : Outcome). stop_of (verdict_of_reply start h o)) (w.walk h inside).outcome)
+    (λ h inside. ap (λ (o : Outcome). stop_of (verdict_of_reply (alone start) h o)) (w.walk h inside).outcome)
     k

@@ -1,5 +1,5 @@
 -- What stops the replies of requests that have come by a known way.
-use Rattle.std.proofs.Common.{IfSome, List, None, Option, Some, [], ap, subst, sym, true, ◌-◌, ◌∙◌, ◌≡◌}
+use Rattle.std.proofs.Common.{IfSome, List, None, Option, Some, [], ap, subst, sym, true, ◌∙◌, ◌≡◌}
 use Rattle.vpc_base.specs.Cuts.{CutLists}
 use Rattle.vpc_base.specs.declared.headers.Label.TheVariants as labels
 use Rattle.header_boxes.specs.Terms.{holds}
@@ -12,7 +12,7 @@ use Rattle.box_steps.specs.declared.moment.BoxMoment.{BoxMoment}
 use Rattle.box_steps.specs.declared.onward.Onward.TheVariants as onwards
 use Rattle.conn_tracking.specs.OnImages.{connections_at}
 use Rattle.vpc_laws.specs.Types.{Box5, Description, End, Header, Phase, Stop}
-use Rattle.vpc_model.specs.Terms.{Appliances, Connection, Moment, Translation, arrive, ended, same_end, step_of, verdict_of_request}
+use Rattle.vpc_model.specs.Terms.{Appliances, Connection, Moment, Translation, alone, arrive, ended, same_end, step_of, verdict_of_request}
 use Rattle.vpc_model.specs.declared.outcomes.Outcome.TheVariants as outcomes
 use Rattle.box_walk.proofs.JourneyLemmas.{same-only}
 use Rattle.box_walk.specs.Terms.{DivideArrival, Tells, TellsReturns, stop_of, whether, word_of_arrival}
@@ -27,7 +27,7 @@ same_arrival d a start goal x y h header conns nats =
     ∙ ap (λ (ts : List Translation). by (header_at y.header h) (connections_at h y.conns.items) ts) nats
   where
     by : Header → List Connection → List Translation → Option (Phase × Stop)
-    by k cs ts = let w = ended [] (outcomes.Arrived goal k) cs ts in stop_of (verdict_of_request d a start goal h w w.outcome)
+    by k cs ts = let w = ended [] (outcomes.Arrived goal k) cs ts in stop_of (verdict_of_request d a (alone start) goal h w w.outcome)
 
 -- of those that have arrived what is known of the ones that are let in
 pub returns_known : (d : Description) (a : Appliances) (start goal end : End) (b : Box5) (before m mid arrived : BoxMoment) (x : Part (Option (Phase × Stop)))

@@ -1,5 +1,5 @@
 -- Requests that have come to the goal's interface by the same places.
-use Rattle.std.proofs.Common.{IfSome, List, None, Option, Some, [], false, length, refl, subst, sym, ℕ, ◌++◌, ◌+◌, ◌-◌, ◌<◌, ◌∙◌, ◌∷◌, ◌≡◌, ◌≤◌}
+use Rattle.std.proofs.Common.{IfSome, List, None, Option, Some, [], false, length, refl, subst, sym, ℕ, ◌++◌, ◌+◌, ◌<◌, ◌∙◌, ◌∷◌, ◌≡◌, ◌≤◌}
 use Rattle.vpc_base.specs.declared.headers.Label.TheVariants as labels
 use Rattle.header_boxes.proofs.Lemmas.{aligned_to_itself, within_holds}
 use Rattle.box_images.proofs.BodyLemmas.{body_of_itself, body_through}

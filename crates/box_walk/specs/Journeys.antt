@@ -8,7 +8,7 @@ use Rattle.box_steps.specs.declared.moment.BoxMoment.{BoxMoment}
 use Rattle.vpc_laws.specs.Types.{Description, End, Outcome, Phase, Stop, Verdict}
 use Rattle.vpc_model.specs.Appliances.{Appliances}
 use Rattle.vpc_model.specs.Near.{near_cuts}
-use Rattle.vpc_model.specs.Verdict.{request_walk, same_end, verdict_of, verdict_of_arrival}
+use Rattle.vpc_model.specs.Verdict.{alone, request_walk, same_end, verdict_of, verdict_of_arrival}
 use Rattle.vpc_model.specs.Walk.{Walk}
 use Rattle.vpc_model.specs.declared.outcomes.Outcome.TheVariants as outcomes
 use Rattle.vpc_model.specs.declared.outcomes.Phase.TheVariants as phases
@@ -29,7 +29,7 @@ abbrev pub journey_after : Description → Appliances → End → Header → Wal
 journey_after d appliances start h request (outcomes.Stopped s) = journeys.Stopped phases.Request s
 journey_after d appliances start h request (outcomes.Arrived end k) =
     if same_end end start then journeys.Stopped phases.Request (stops.WrongPlace end)
-    else journey_by end (verdict_of_arrival d appliances start end h request (reply_of k))
+    else journey_by end (verdict_of_arrival d appliances (alone start) end h request (reply_of k))
 
 -- what becomes of a request from the start, toward the goal if there is one
 abbrev pub journey_of : Description → Appliances → End → Option End → Header → Journey

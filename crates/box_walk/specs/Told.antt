@@ -15,7 +15,7 @@ use Rattle.vpc_model.specs.Appliances.{Appliances}
 use Rattle.vpc_model.specs.Near.{cuts_of_hops}
 use Rattle.vpc_model.specs.Place.{start_of}
 use Rattle.vpc_model.specs.Step.Words.{Moment}
-use Rattle.vpc_model.specs.Verdict.{hops_after, verdict_of_reply, verdict_of_request}
+use Rattle.vpc_model.specs.Verdict.{alone, hops_after, verdict_of_reply, verdict_of_request}
 use Rattle.vpc_model.specs.Walk.{Walk, ended, walk_of}
 use Rattle.vpc_model.specs.declared.outcomes.Outcome.TheVariants as outcomes
 use Rattle.box_walk.specs.Asking.{stop_of}
@@ -47,7 +47,7 @@ arrival_at end m h = ended [] (outcomes.Arrived end (header_at m.header h)) (con
 abbrev pub word_of_arrival : Description → Appliances → End → End → End → BoxMoment → Header → Option (Phase × Stop)
 word_of_arrival d appliances start goal end m h =
     let w = arrival_at end m h in
-    stop_of (verdict_of_request d appliances start goal h w w.outcome)
+    stop_of (verdict_of_request d appliances (alone start) goal h w w.outcome)
 
 -- the hops of the low corner's reply
 abbrev pub low_reply_hops : Description → Appliances → End → End → BoxMoment → List Hop
@@ -69,7 +69,7 @@ reply_of_moment d appliances m h = walk_of d appliances labels.Answer (moment_at
 abbrev pub word_of_answer : Description → Appliances → End → BoxMoment → Header → Option (Phase × Stop)
 word_of_answer d appliances start m h =
     let w = reply_of_moment d appliances m h in
-    stop_of (verdict_of_reply start h w.outcome)
+    stop_of (verdict_of_reply (alone start) h w.outcome)
 
 -- the cuts at the places of the low corner's walk are among these
 abbrev pub DivideReply : Description → Appliances → BoxMoment → CutLists → Type 0
@@ -79,4 +79,4 @@ DivideReply d appliances m cuts =
 
 -- of replies that have arrived at an end
 abbrev pub word_of_return : End → End → BoxMoment → Header → Option (Phase × Stop)
-word_of_return start end m h = stop_of (verdict_of_reply start h (outcomes.Arrived end (header_at m.header h)))
+word_of_return start end m h = stop_of (verdict_of_reply (alone start) h (outcomes.Arrived end (header_at m.header h)))

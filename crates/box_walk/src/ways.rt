@@ -208,6 +208,7 @@ fn primary_of(f: &Fabric, end: End) -> Option<u32>
     match end {
         End::Interface(i) => interface_at(f, i).primary,
         End::Internet => None,
+        End::Far(_) => None,
     }
 }
 
@@ -225,6 +226,7 @@ fn address_toward(f: &Fabric, start: End, i: EniNo) -> Option<u32>
     match start {
         End::Interface(_) => interface_at(f, i).primary,
         End::Internet => public_of(f, i),
+        End::Far(_) => interface_at(f, i).primary,
     }
 }
 

@@ -11,6 +11,7 @@ fn same_came(a: Came, b: Came) -> bool
         (Came::Host(i), Came::Host(j)) => i.0 == j.0,
         (Came::Nat(n), Came::Nat(o)) => n.0 == o.0,
         (Came::Transit(x), Came::Transit(y)) => x.0 == y.0,
+        (Came::Firewall(e), Came::Firewall(g)) => e.0 == g.0,
         _ => false,
     }
 }
@@ -21,6 +22,7 @@ fn same_enter(a: EnterBy, b: EnterBy) -> bool
     match (a, b) {
         (EnterBy::Gateway, EnterBy::Gateway) => true,
         (EnterBy::Peering(x), EnterBy::Peering(y)) => x.0 == y.0,
+        (EnterBy::Far(k), EnterBy::Far(l)) => k.0 == l.0,
         _ => false,
     }
 }
@@ -42,6 +44,9 @@ pub fn same_place(a: Place, b: Place) -> bool
         (Place::Peer(x, v), Place::Peer(y, w)) => x.0 == y.0 && v.0 == w.0,
         (Place::Tgw(x, s), Place::Tgw(y, t)) => x.0 == y.0 && s.0 == t.0,
         (Place::TgwLeave(x, s), Place::TgwLeave(y, t)) => x.0 == y.0 && s.0 == t.0,
+        (Place::FarOut(k), Place::FarOut(l)) => k.0 == l.0,
+        (Place::FarIn(k), Place::FarIn(l)) => k.0 == l.0,
+        (Place::Inspect(e), Place::Inspect(g)) => e.0 == g.0,
         _ => false,
     }
 }

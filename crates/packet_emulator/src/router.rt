@@ -1,11 +1,13 @@
 // The implicit router of a subnet: by the target of the chosen route.
 ghost use Rattle.std.specs.Prelude.{◌≡◌, IfSome, IsTrue, Some};
+ghost use Rattle.vpc_model.specs.Far.{far_end_of_id, far_of_id};
+ghost use Rattle.vpc_model.specs.Firewalls.{firewall_of};
 ghost use Rattle.fabric.specs.Targets.{route_at};
 ghost use Rattle.packet_emulator.specs.Comes.{comes};
 ghost use Rattle.vpc_laws.specs.Accepted.{HasTarget};
-ghost use Rattle.vpc_model.specs.Lookup.{nat_at, peering_at, table_at, table_of, vpc_of_subnet};
+ghost use Rattle.vpc_model.specs.Lookup.{far_at, nat_at, peering_at, table_at, table_of, vpc_of_subnet};
 ghost use Rattle.vpc_model.specs.Routes.{chosen_route};
-ghost use Rattle.vpc_model.specs.Sound.{is_eni, is_nat, is_peering, is_route, is_subnet, is_vpc};
+ghost use Rattle.vpc_model.specs.Sound.{is_eni, is_far, is_nat, is_peering, is_route, is_subnet, is_vpc};
 ghost use Rattle.vpc_model.specs.Step.Router as model;
 ghost use Rattle.vpc_model.specs.Transit.{attachment_for};
 
@@ -14,13 +16,13 @@ use crate::crossing::{crossing, deliver, entering, is_gateway, leaving};
 use crate::next::{Next, unless_stopped};
 use fabric::Fabric;
 use fabric::rows::{
-    far_vpc, interface_at, nat_at, nat_subnet, peering_at, route_at, subnet_of, vpc_of,
+    far_at, far_vpc, interface_at, nat_at, nat_subnet, peering_at, route_at, subnet_of, vpc_of,
 };
 use transit_gateway::EnterStop;
 use vpc_base::Header;
 use vpc_model::{
-    AttNo, EniNo, Foreign, Id, IgwNo, NatLife, NatNo, PeerNo, Place, Stop, SubnetNo, TableNo,
-    Target, VpcNo,
+    AttNo, EniNo, FarKind, FarNo, Foreign, Id, IgwNo, NatLife, NatNo, PeerNo, Place, Stop,
+    SubnetNo, TableNo, Target, VpcNo,
 };
 
 // A local route: to the interface that has the destination.
@@ -65,8 +67,8 @@ fn to_zone(f: &Fabric, s: SubnetNo, h: &Header, a: AttNo, zone: Option<SubnetNo>
     }
 }
 
-// Whether the first gateway is attached, and is the second.
-fn is_attached(g: IgwNo, attached: Option<IgwNo>) -> bool
+/// Whether the first gateway is attached, and is the second.
+pub fn is_attached(g: IgwNo, attached: Option<IgwNo>) -> bool
     ensures { result ≡ model.is_attached g attached }
 {
     match attached {
@@ -105,7 +107,28 @@ fn to_nat(f: &Fabric, s: SubnetNo, h: &Header, n: NatNo) -> Next
     }
 }
 
-// A route to a peering, which is active and whose other VPC is described.
+// Into a network that isn't described.
+fn to_far(f: &Fabric, s: SubnetNo, h: &Header, k: FarNo) -> Next
+    requires { IsTrue (is_subnet f.now s) }
+    ensures { comes result ≡ model.to_far f.now s h.now k }
+{
+    unless_stopped(leaving(f, s, h), Next::Go(Place::FarOut(k), *h))
+}
+
+// Over a peering to a VPC that isn't described, where it is told which blocks that has.
+fn to_half_peering(f: &Fabric, s: SubnetNo, h: &Header, x: PeerNo) -> Next
+    requires subnet { IsTrue (is_subnet f.now s) }
+    requires peering { IsTrue (is_peering f.now x) }
+    ensures { let row = peering_at f.now x in
+        comes result ≡ model.to_half_peering f.now s h.now x (far_end_of_id f.now row.id) }
+{
+    match f.network().far_end(peering_at(f, x).id.bytes()) {
+        Some(k) => to_far(f, s, h, k),
+        None => Next::Stop(Stop::Unmodelled(Foreign::Peering(x))),
+    }
+}
+
+// A route to a peering, which is active.
 fn to_peer(f: &Fabric, s: SubnetNo, v: VpcNo, h: &Header, x: PeerNo) -> Next
     requires subnet { IsTrue (is_subnet f.now s) }
     requires vpc { IsTrue (is_vpc f.now v) }
@@ -118,7 +141,7 @@ fn to_peer(f: &Fabric, s: SubnetNo, v: VpcNo, h: &Header, x: PeerNo) -> Next
     };
     match far_vpc(f, x, v) {
         Some(_) => unless_stopped(leaving(f, s, h), Next::Go(Place::Peer(x, v), *h)),
-        None => Next::Stop(Stop::Unmodelled(Foreign::Peering(x))),
+        None => to_half_peering(f, s, h, x),
     }
 }
 
@@ -132,6 +155,64 @@ fn to_transit(f: &Fabric, s: SubnetNo, h: &Header, t: TableNo, k: u32, gateway: 
         Ok((a, zone)) => to_zone(f, s, h, a, Some(zone)),
         Err(EnterStop::NoZone(a)) => to_zone(f, s, h, a, None),
         Err(EnterStop::NoAttachment) => Next::Stop(Stop::TgwNoAttachment(t, k)),
+    }
+}
+
+/// Whether the VPC is the one beside a network.
+pub fn is_beside(v: VpcNo, beside: Option<VpcNo>) -> bool
+    ensures { result ≡ model.is_beside v beside }
+{
+    match beside {
+        None => false,
+        Some(beside) => beside.0 == v.0,
+    }
+}
+
+// A route to a virtual private gateway that is attached to the VPC, or to a gateway endpoint that lies in it.
+fn to_network(f: &Fabric, s: SubnetNo, v: VpcNo, h: &Header, t: TableNo, k: u32, far: FarNo) -> Next
+    requires subnet { IsTrue (is_subnet f.now s) }
+    requires own { v ≡ vpc_of_subnet f.now s }
+    requires far { IsTrue (is_far f.now far) }
+    ensures { let row = far_at f.now far in
+        comes result ≡ model.to_network_by f.now s h.now t k far row.kind }
+{
+    let row = far_at(f, far);
+    let inside = is_beside(v, f.network().vpc_beside(row));
+    match (&row.kind, inside) {
+        (FarKind::PrivateGateway(_), true) => to_far(f, s, h, far),
+        (FarKind::PrivateGateway(_), false) => Next::Stop(Stop::FarDetached(far)),
+        (FarKind::Endpoint(_), true) => to_far(f, s, h, far),
+        (FarKind::Endpoint(_), false) => Next::Stop(Stop::Unmodelled(Foreign::Target(t, k))),
+        (FarKind::Attachment(_), _) => Next::Stop(Stop::Unmodelled(Foreign::Target(t, k))),
+        (FarKind::Peering(..), _) => Next::Stop(Stop::Unmodelled(Foreign::Target(t, k))),
+    }
+}
+
+// A route to a firewall endpoint of the VPC, where it is told what stands behind it.
+fn to_firewall(f: &Fabric, s: SubnetNo, v: VpcNo, h: &Header, t: TableNo, k: u32, id: &Id) -> Next
+    requires subnet { IsTrue (is_subnet f.now s) }
+    requires vpc { IsTrue (is_vpc f.now v) }
+    ensures { comes result ≡ model.to_firewall f.now s h.now t k (firewall_of f.now v id.now) }
+{
+    match f.firewall_of(v, id) {
+        Some(e) => {
+            let crossed = crossing(f, s, f.firewall_subnet(e), h);
+            unless_stopped(crossed, Next::Go(Place::Inspect(e), *h))
+        }
+        None => Next::Stop(Stop::Unmodelled(Foreign::Target(t, k))),
+    }
+}
+
+// A route to what has no kind of its own in a table.
+fn to_other(f: &Fabric, s: SubnetNo, v: VpcNo, h: &Header, t: TableNo, k: u32, id: &Id) -> Next
+    requires subnet { IsTrue (is_subnet f.now s) }
+    requires vpc { IsTrue (is_vpc f.now v) }
+    requires own { v ≡ vpc_of_subnet f.now s }
+    ensures { comes result ≡ model.to_other f.now s h.now t k id.now (far_of_id f.now id.now) }
+{
+    match f.network().far(id.bytes()) {
+        Some(far) => to_network(f, s, v, h, t, k, far),
+        None => to_firewall(f, s, v, h, t, k, id),
     }
 }
 
@@ -152,7 +233,7 @@ fn to_target(f: &Fabric, s: SubnetNo, h: &Header, t: TableNo, k: u32) -> Next
         Target::Peer(_) => to_peer(f, s, v, h, PeerNo(f.target_number(t, k))),
         Target::Transit(id) => to_transit(f, s, h, t, k, id),
         Target::Interface(_) => to_interface(f, s, h, EniNo(f.target_number(t, k))),
-        Target::Other(_) => Next::Stop(Stop::Unmodelled(Foreign::Target(t, k))),
+        Target::Other(id) => to_other(f, s, v, h, t, k, id),
     }
 }
 

@@ -6,8 +6,10 @@ ghost use Rattle.vpc_model.specs.Sound.{is_sound};
 ghost use Rattle.vpc_model.specs.Step.{step_of};
 
 use crate::enter::enter;
+use crate::inspect::inspect;
 use crate::internet::{igw_in, igw_out, internet};
 use crate::next::Next;
+use crate::outside::{far_in, far_out};
 use crate::peering::peer;
 use crate::router::router;
 use crate::transit::{tgw, tgw_leave};
@@ -47,7 +49,7 @@ pub fn step<T: Tracker, B: NatBook>(
         Place::OutOf(i) => interface::out(f, label, i, h, conns),
         Place::Into(i) => interface::into(f, deciders, label, i, h, conns),
         Place::Router(s, _) => (router(f, s, h), By::Nothing),
-        Place::Enter(v, _) => (enter(f, v, h), By::Nothing),
+        Place::Enter(v, by) => (enter(f, v, by, h), By::Nothing),
         Place::IgwOut(v) => (igw_out(f, v, h), By::Nothing),
         Place::Internet => (internet(f, h), By::Nothing),
         Place::IgwIn(v) => (igw_in(f, v, h), By::Nothing),
@@ -56,5 +58,8 @@ pub fn step<T: Tracker, B: NatBook>(
         Place::Peer(x, v) => (peer(f, x, v, h), By::Nothing),
         Place::Tgw(a, entered) => (tgw(f, a, entered, h), By::Nothing),
         Place::TgwLeave(a, entered) => (tgw_leave(f, a, entered, h), By::Nothing),
+        Place::FarOut(k) => (far_out(f, k, h), By::Nothing),
+        Place::FarIn(k) => (far_in(f, label, k, h), By::Nothing),
+        Place::Inspect(e) => (inspect(f, e, h), By::Nothing),
     }
 }

@@ -3,7 +3,7 @@ ghost use Rattle.std.specs.Prelude.{◌≡◌, ◌≤◌, [], IsTrue};
 ghost use Rattle.vpc_base.specs.Header.{reply_of};
 ghost use Rattle.vpc_model.specs.Sound.{is_end};
 ghost use Rattle.vpc_model.specs.Connections.{is_header};
-ghost use Rattle.vpc_model.specs.Verdict.{hops_after, reply_hops, reply_walk, request_walk, same_end, verdict_of, verdict_of_reply, verdict_of_request};
+ghost use Rattle.vpc_model.specs.Verdict.{alone, hops_after, reply_hops, reply_walk, request_walk, same_end, verdict_of, verdict_of_reply, verdict_of_request};
 ghost use Rattle.vpc_model.specs.Walk.{Walk};
 ghost use Rattle.vpc_model.specs.declared.outcomes.Outcome.TheVariants as outcomes;
 ghost use Rattle.packet_emulator.specs.Memory.{IsLeftBy};
@@ -23,6 +23,7 @@ pub fn same_end(a: End, b: End) -> bool
     match (a, b) {
         (End::Interface(i), End::Interface(j)) => i.0 == j.0,
         (End::Internet, End::Internet) => true,
+        (End::Far(k), End::Far(l)) => k.0 == l.0,
         _ => false,
     }
 }
@@ -39,7 +40,7 @@ fn is_reply(k: &Header, h: &Header) -> bool
 
 // How a reply's walk ends: it should return to the start as the reply of the request.
 fn verdict_of_reply(start: End, h: &Header, outcome: Outcome) -> Verdict
-    ensures { result ≡ verdict_of_reply start h.now outcome }
+    ensures { result ≡ verdict_of_reply (alone start) h.now outcome }
 {
     match outcome {
         Outcome::Stopped(stop) => Verdict::Stopped(Phase::Reply, stop),
@@ -83,7 +84,7 @@ fn verdict_of_answer(
     requires reply { reply.old.items ≡ [] }
     ensures verdict { (request : Walk) → IsLeftBy request memory.old → let a = asked.now in
         let w = reply_walk a.fabric.now deciders.now.appliances a.goal answer request
-        in result ≡ verdict_of_reply a.start a.header.now w.outcome }
+        in result ≡ verdict_of_reply (alone a.start) a.header.now w.outcome }
     ensures reply { (request : Walk) → IsLeftBy request memory.old → let a = asked.now in
         let w = reply_walk a.fabric.now deciders.now.appliances a.goal answer request
         in reply.new.items ≡ w.hops }
@@ -116,7 +117,7 @@ fn verdict_of_arrival(
     requires nats { 64 ≤ memory.old.nats.spare }
     requires reply { reply.old.items ≡ [] }
     ensures verdict { (request : Walk) → IsLeftBy request memory.old → let a = asked.now in
-        result ≡ verdict_of_request a.fabric.now deciders.now.appliances a.start a.goal a.header.now
+        result ≡ verdict_of_request a.fabric.now deciders.now.appliances (alone a.start) a.goal a.header.now
         request (outcomes.Arrived end k.now) }
     ensures reply { (request : Walk) → IsLeftBy request memory.old → let a = asked.now in
         reply.new.items ≡ hops_after a.fabric.now deciders.now.appliances a.goal request

@@ -2,22 +2,22 @@ use Rattle.std.proofs.Common.{refl}
 use Rattle.box_images.specs.Images.{header_at}
 use Rattle.vpc_base.specs.declared.headers.Label.TheVariants as labels
 use Rattle.vpc_model.specs.Appliances.{appliances_of}
-use Rattle.vpc_model.specs.Lookup.{host_of, table_at, table_of}
+use Rattle.vpc_model.specs.Firewalls.{entrance_table}
+use Rattle.vpc_model.specs.Lookup.{table_at, table_of}
 use Rattle.vpc_model.specs.Routes.{chosen_route}
-use Rattle.vpc_model.specs.Step.Enter.{enter_host}
+use Rattle.vpc_model.specs.Step.Enter.{enter_by_table}
 use Rattle.vpc_model.specs.Step.Router.{by_route}
 use Rattle.vpc_model.specs.declared.places.Place.TheVariants as places
-use Rattle.box_steps.proofs.Away.{enter_host-misses, holds_over-same, misses_by, standing_over}
+use Rattle.box_steps.proofs.Away.{misses_by, standing_over}
 use Rattle.box_steps.proofs.PlainSteps.{walk_of_moment}
 use Rattle.box_steps.proofs.missing.misses_on.Goals as goal
-use Rattle.box_steps.specs.Cuts.{Standing}
-use Rattle.box_steps.specs.Missing.{is_away, misses}
+use Rattle.box_steps.specs.Missing.{misses}
 
 pub router_away_on-requires-clause-walk : goal.router_away_on-requires-clause-walk
 router_away_on-requires-clause-walk g c = walk_of_moment c.args.f.now labels.Opening c.args.m.now c.requires.moment
 
-pub host_away_on-requires-clause-walk : goal.host_away_on-requires-clause-walk
-host_away_on-requires-clause-walk g c = walk_of_moment c.args.f.now labels.Opening c.args.m.now c.requires.moment
+pub entrance_away_on-requires-clause-walk : goal.entrance_away_on-requires-clause-walk
+entrance_away_on-requires-clause-walk g c = walk_of_moment c.args.f.now labels.Opening c.args.m.now c.requires.moment
 
 pub returns-in-Router : goal.returns-in-Router
 returns-in-Router g c =
@@ -33,9 +33,6 @@ returns-in-Enter g c =
     let v = c.in-Enter.v in
     let m = c.args.m.now in
     let few = c.args.deciders.now.appliances in
-    let p = places.Enter v c.in-Enter.field-1 in
-    misses_by d few (appliances_of d) c.args.goal p (λ h. enter_host d v h (host_of d v h.dst)) m c.host_away_on.result c.requires.appliances c.in-Enter.is (λ k. refl)
-    (standing_over d p (λ h. misses few c.args.goal (enter_host d v (header_at m.header h) (host_of d v (header_at m.header h).dst))) m.header.part c.host_away_on.result
-    (holds_over-same (Standing d) (λ h. is_away few c.args.goal (host_of d v (header_at m.header h).dst))
-    (λ h. misses few c.args.goal (enter_host d v (header_at m.header h) (host_of d v (header_at m.header h).dst))) m.header.part c.host_away_on.result
-    (λ h e. enter_host-misses d few c.args.goal v (header_at m.header h) (host_of d v (header_at m.header h).dst) e) c.host_away_on.ensures))
+    let by = c.in-Enter.by in
+    misses_by d few (appliances_of d) c.args.goal (places.Enter v by) (λ h. enter_by_table d v h (entrance_table d v by)) m c.entrance_away_on.result c.requires.appliances c.in-Enter.is (λ k. refl)
+    (standing_over d (places.Enter v by) (λ h. misses few c.args.goal (enter_by_table d v (header_at m.header h) (entrance_table d v by))) m.header.part c.entrance_away_on.result c.entrance_away_on.ensures)

@@ -1,4 +1,4 @@
-use Rattle.std.proofs.Common.{◌≡◌, ◌∙◌, ap, subst, sym}
+use Rattle.std.proofs.Common.{◌≡◌, ◌∙◌, ap, refl, subst, sym}
 use Rattle.box_images.proofs.Reducing.{walk_within}
 use Rattle.box_images.specs.Terms.{Answers, header_at}
 use Rattle.box_images.specs.declared.images.Part.{Part}
@@ -6,12 +6,12 @@ use Rattle.fabric.proofs.RowFacts.{table-lies}
 use Rattle.fabric.proofs.Routing.{chosen_route-lies}
 use Rattle.header_boxes.specs.Boxes.{low_of}
 use Rattle.vpc_laws.specs.Types.{Description, TableNo}
-use Rattle.vpc_model.specs.Terms.{chosen_route, table_at, table_of}
+use Rattle.vpc_model.specs.Terms.{by_route, chosen_route, table_at, table_of}
 use Rattle.vpc_model.specs.declared.places.Came.TheVariants as from
 use Rattle.vpc_model.specs.declared.places.Place.TheVariants as places
 use Rattle.vpc_model.specs.declared.stops.Stop.TheVariants as stops
 use Rattle.box_steps.proofs.ToldOfSome.{told_of_low}
-use Rattle.box_steps.proofs.RouterAnswers.{answers_of_route, answers_without_route, by_choice}
+use Rattle.box_steps.proofs.RouterAnswers.{answers_of_route, answers_without_route}
 use Rattle.box_steps.proofs.router.router_on.Goals as goal
 use Rattle.box_steps.specs.Terms.{AtPlace, Onward, onward_of}
 use Rattle.box_steps.specs.declared.onward.Onward.TheVariants as onwards
@@ -47,8 +47,8 @@ returns-in-Some c = λ came.
     let t = c.table_of-t.result in
     let is : t ≡ table_of d s = c.table_of-t.ensures ∙ ap (λ (n : Description). table_of n s) c.network-n.ensures in
     let chosen = subst (λ (u : TableNo). Answers (AtPlace d p) (λ h. chosen_route d (table_at d u).routes (header_at i h).dst) i.part x) (sym is) (c.route_on-chosen.ensures came) in
-    subst (λ (u : TableNo). Answers (AtPlace d p) (λ h. onward_of (by_choice d s u (header_at i h))) i.part c.by_route_on.result) is
-    (answers_of_route d p s t c.in-Some.k i c.within.result x c.by_route_on.result c.requires.valid.part c.in-Some.is c.within.ensures.image chosen c.by_route_on.ensures)
+    subst (λ (u : TableNo). Answers (AtPlace d p) (λ h. let k = header_at i h in onward_of (by_route d s k u (chosen_route d (table_at d u).routes k.dst))) i.part c.by_route_on.result) is
+    (answers_of_route d p t (λ h o. by_route d s h t o) c.in-Some.k i c.within.result x c.by_route_on.result c.requires.valid.part c.in-Some.is c.within.ensures.image chosen c.by_route_on.ensures)
 
 pub returns-in-None : goal.returns-in-None
 returns-in-None c = λ came.
@@ -61,5 +61,5 @@ returns-in-None c = λ came.
     let is : t ≡ table_of d s = c.table_of-t.ensures ∙ ap (λ (n : Description). table_of n s) c.network-n.ensures in
     let chosen = subst (λ (u : TableNo). Answers (AtPlace d p) (λ h. chosen_route d (table_at d u).routes (header_at i h).dst) i.part x) (sym is) (c.route_on-chosen.ensures came) in
     let y : Part Onward = record { body = x.body; told = onwards.Stop (stops.NoRoute t) } in
-    subst (λ (u : TableNo). Answers (AtPlace d p) (λ h. onward_of (by_choice d s u (header_at i h))) i.part y) is
-    (answers_without_route d p s t i x c.in-None.is chosen)
+    subst (λ (u : TableNo). Answers (AtPlace d p) (λ h. let k = header_at i h in onward_of (by_route d s k u (chosen_route d (table_at d u).routes k.dst))) i.part y) is
+    (answers_without_route d p t (λ h o. by_route d s h t o) i x c.in-None.is (λ h. refl) chosen)

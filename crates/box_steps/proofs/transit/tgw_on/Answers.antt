@@ -27,6 +27,6 @@ returns c =
     answers_told (AtPlace d (places.Tgw a entered)) (λ h. chosen_tgw_route (routes_of d t) (header_at i h).dst)
     (λ h. onward_of (by_tgw_table d a entered (header_at i h) (table_of_attachment d a))) i.part c.tgw_route_on-chosen.result c.by_choice.result
     (λ h e. ap (λ (o : Option TgwTableNo). onward_of (by_tgw_table d a entered (header_at i h) o)) own
-    ∙ ap (λ (o : Option ℕ). onward_of (by_tgw_route d entered (header_at i h) t o)) e
+    ∙ ap (λ (o : Option ℕ). onward_of (by_tgw_route d (Some entered) (header_at i h) t o)) e
     ∙ c.by_choice.ensures (header_at i h))
     (c.tgw_route_on-chosen.ensures entered)

@@ -1,4 +1,4 @@
-use Rattle.std.proofs.Common.{◌≡◌, ◌∙◌, ap, refl, sym}
+use Rattle.std.proofs.Common.{◌∙◌, ap, refl, sym}
 use Rattle.std.specs.Prelude.{is_some}
 use Rattle.vpc_base.proofs.Options.{none_if}
 use Rattle.appliances.specs.Passing.{number_of}
