@@ -23,6 +23,9 @@ place_kind (places.NatIn n) = codes "nat-in"
 place_kind (places.Peer x v) = codes "peer"
 place_kind (places.Tgw a s) = codes "tgw"
 place_kind (places.TgwLeave a s) = codes "tgw-leave"
+place_kind (places.FarOut k) = codes "far-out"
+place_kind (places.FarIn k) = codes "far-in"
+place_kind (places.Inspect e) = codes "inspect"
 
 -- the direction of a rule
 abbrev pub dir_text : Dir → List ℕ

@@ -9,6 +9,7 @@ abbrev pub query_refusal_text : QueryRefusal → List ℕ
 query_refusal_text (refusals.BadWord n) = codes "BadWord" ++ word (decimal n)
 query_refusal_text (refusals.UnknownId n) = codes "UnknownId" ++ word (decimal n)
 query_refusal_text (refusals.NotAnEnd id) = codes "NotAnEnd" ++ word id
+query_refusal_text (refusals.NotAStart n) = codes "NotAStart" ++ word (decimal n)
 query_refusal_text refusals.BothInternet = codes "BothInternet"
 query_refusal_text (refusals.EmptyRange n) = codes "EmptyRange" ++ word (decimal n)
 query_refusal_text refusals.MaxOutOfRange = codes "MaxOutOfRange"

@@ -24,6 +24,8 @@ list_text named.TransitGatewayVpcAttachments = codes "TransitGatewayVpcAttachmen
 list_text named.TransitGatewayAttachments = codes "TransitGatewayAttachments"
 list_text named.TransitGatewayRoutes = codes "TransitGatewayRoutes"
 list_text named.Appliances = codes "Appliances"
+list_text named.VpnGateways = codes "VpnGateways"
+list_text named.VpcEndpoints = codes "VpcEndpoints"
 
 -- a refusal with its arguments; want of memory has a line of its own
 abbrev pub refusal_text : Refusal → List ℕ

@@ -113,8 +113,8 @@ fn put_hop_place(out: &mut Vec<u8>, n: &Network, number: u128, hop: &Hop) -> Res
     )
 }
 
-// The line of the hop with this number.
-fn put_hop(out: &mut Vec<u8>, n: &Network, number: u128, hop: &Hop) -> Result<(), NoMemory>
+/// Appends the line of the hop with this number.
+pub fn put_hop(out: &mut Vec<u8>, n: &Network, number: u128, hop: &Hop) -> Result<(), NoMemory>
     requires { IsSoundHop n.now hop.now }
     ensures { OnOk result (out.new.items ≡ out.old.items ++ hop_line n.now number hop.now) }
 {

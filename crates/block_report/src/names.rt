@@ -39,6 +39,11 @@ pub fn name_text(name: StopName) -> &'static [u8]
         StopName::TgwNoTable => b"TgwNoTable",
         StopName::TgwNoRoute => b"TgwNoRoute",
         StopName::TgwBlackhole => b"TgwBlackhole",
+        StopName::FarDetached => b"FarDetached",
+        StopName::FarNoTable => b"FarNoTable",
+        StopName::FarSource => b"FarSource",
+        StopName::FarOpens => b"FarOpens",
+        StopName::InspectDrop => b"InspectDrop",
         StopName::Unmodelled => b"Unmodelled",
         StopName::Loop => b"Loop",
         StopName::TooFar => b"TooFar",
@@ -48,7 +53,7 @@ pub fn name_text(name: StopName) -> &'static [u8]
     }
 }
 
-const NAMES: [StopName; 36] = [
+const NAMES: [StopName; 41] = [
     StopName::Detached,
     StopName::SourceCheck,
     StopName::DestCheck,
@@ -79,6 +84,11 @@ const NAMES: [StopName; 36] = [
     StopName::TgwNoTable,
     StopName::TgwNoRoute,
     StopName::TgwBlackhole,
+    StopName::FarDetached,
+    StopName::FarNoTable,
+    StopName::FarSource,
+    StopName::FarOpens,
+    StopName::InspectDrop,
     StopName::Unmodelled,
     StopName::Loop,
     StopName::TooFar,

@@ -24,6 +24,9 @@ pub fn place_kind(p: &Place) -> &'static [u8]
         Place::Peer(_, _) => b"peer",
         Place::Tgw(_, _) => b"tgw",
         Place::TgwLeave(_, _) => b"tgw-leave",
+        Place::FarOut(_) => b"far-out",
+        Place::FarIn(_) => b"far-in",
+        Place::Inspect(_) => b"inspect",
     }
 }
 
@@ -57,10 +60,13 @@ pub fn place_id<'a>(n: &'a Network, p: &Place) -> &'a [u8]
         Place::Peer(x, _) => n.peering_at(x).id.bytes(),
         Place::Tgw(a, _) => n.attachment_at(a).id.bytes(),
         Place::TgwLeave(a, _) => n.attachment_at(a).id.bytes(),
+        Place::FarOut(k) => n.far_at(k).id.bytes(),
+        Place::FarIn(k) => n.far_at(k).id.bytes(),
+        Place::Inspect(e) => n.firewall_at(e).id.bytes(),
     }
 }
 
-/// The id of an end: that of its interface, or `internet`.
+/// The id of an end: that of its interface or of what leads to its network, or `internet`.
 pub fn end_id<'a>(n: &'a Network, end: &End) -> &'a [u8]
     requires { IsTrue (is_end n.now end.now) }
     ensures value { result.now ≡ end_id n.now end.now }
@@ -69,5 +75,6 @@ pub fn end_id<'a>(n: &'a Network, end: &End) -> &'a [u8]
     match *end {
         End::Interface(i) => n.interface_at(i).id.bytes(),
         End::Internet => b"internet",
+        End::Far(k) => n.far_at(k).id.bytes(),
     }
 }

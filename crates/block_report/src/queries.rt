@@ -15,7 +15,7 @@ fn put_numbered(out: &mut Vec<u8>, name: &[u8], number: u64) -> Result<(), NoMem
     put_number_word(out, u128::from(number))
 }
 
-// A name with the id of an interface.
+// A name with the id of a row.
 fn put_named(out: &mut Vec<u8>, name: &[u8], id: &[u8]) -> Result<(), NoMemory>
     ensures { OnOk result (out.new.items ≡ out.old.items ++ (name.now ++ word id.now)) }
 {
@@ -31,6 +31,7 @@ pub fn put_query_refusal(out: &mut Vec<u8>, cause: &QueryRefusal) -> Result<(), 
         QueryRefusal::BadWord(number) => put_numbered(out, b"BadWord", *number),
         QueryRefusal::UnknownId(number) => put_numbered(out, b"UnknownId", *number),
         QueryRefusal::NotAnEnd(id) => put_named(out, b"NotAnEnd", id.bytes()),
+        QueryRefusal::NotAStart(number) => put_numbered(out, b"NotAStart", *number),
         QueryRefusal::BothInternet => put(out, b"BothInternet"),
         QueryRefusal::EmptyRange(number) => put_numbered(out, b"EmptyRange", *number),
         QueryRefusal::MaxOutOfRange => put(out, b"MaxOutOfRange"),

@@ -28,6 +28,8 @@ fn put_list(out: &mut Vec<u8>, name: ListName) -> Result<(), NoMemory>
         ListName::TransitGatewayAttachments => put(out, b"TransitGatewayAttachments"),
         ListName::TransitGatewayRoutes => put(out, b"TransitGatewayRoutes"),
         ListName::Appliances => put(out, b"Appliances"),
+        ListName::VpnGateways => put(out, b"VpnGateways"),
+        ListName::VpcEndpoints => put(out, b"VpcEndpoints"),
     }
 }
 

@@ -108,8 +108,8 @@ fn put_stopped_by(out: &mut Vec<u8>, n: &Network, s: &Stop) -> Result<(), NoMemo
     put_end(out)
 }
 
-// The last line of a walk.
-fn put_outcome(out: &mut Vec<u8>, n: &Network, outcome: &Outcome) -> Result<(), NoMemory>
+/// Appends the last line of a walk.
+pub fn put_outcome(out: &mut Vec<u8>, n: &Network, outcome: &Outcome) -> Result<(), NoMemory>
     requires { EndsWell n.now outcome.now }
     ensures { OnOk result (out.new.items ≡ out.old.items ++ outcome_line n.now outcome.now) }
 {

@@ -17,6 +17,7 @@ pub refused_if_told : {A : Type 0} (meant : Result A QueryRefusal) (cause : Quer
 refused_if_told meant (refusals.BadWord n) is not = is
 refused_if_told meant (refusals.UnknownId n) is not = is
 refused_if_told meant (refusals.NotAnEnd id) is not = is
+refused_if_told meant (refusals.NotAStart n) is not = is
 refused_if_told meant refusals.BothInternet is not = is
 refused_if_told meant (refusals.EmptyRange n) is not = is
 refused_if_told meant refusals.MaxOutOfRange is not = is

@@ -1,10 +1,10 @@
 -- The words of `reach FILE`: `from END`, `to END`, `proto PROTO`, `src PREFIX`, `dst PREFIX`, `sport A-B`, `port A-B` and `max N`,
 -- in this order and each at most once.
-use Rattle.std.specs.Prelude.{◌≡◌, ◌≤◌, ◌||◌, if◌then◌else◌, Bool, Err, IfSome, List, None, Ok, Option, Result, Some, codes, is_some, option_map, true, ℕ}
+use Rattle.std.specs.Prelude.{◌≡◌, ◌≤◌, ◌||◌, if◌then◌else◌, Bool, Err, IfSome, List, None, Ok, Option, Result, Some, codes, is_some, true, ℕ}
 use Rattle.vpc_laws.specs.Types.{Description, End}
 use Rattle.vpc_model.specs.Sound.{is_end}
 use Rattle.vpc_model.specs.declared.places.End.TheVariants as ends
-use Rattle.query_words.specs.Ends.{end_of}
+use Rattle.query_words.specs.Ends.{end_of, start_of}
 use Rattle.query_words.specs.Pairs.{IsSide, no_more, pair_or, read_max, read_ports, read_side}
 use Rattle.query_words.specs.Refusal.{◌>>=◌}
 use Rattle.query_words.specs.Sides.{src_of}
@@ -20,6 +20,10 @@ use Rattle.query_words.specs.declared.refusal.QueryRefusal.TheVariants as refusa
 -- END
 abbrev pub given_end : Description → List (List ℕ) → ℕ → Result (Option End) QueryRefusal
 given_end d words n = end_of d words n >>= (λ e. Ok (Some e))
+
+-- END, from which requests are sent
+abbrev pub given_start : Description → List (List ℕ) → ℕ → Result (Option End) QueryRefusal
+given_start d words n = start_of d words n >>= (λ e. Ok (Some e))
 
 -- not the internet both
 abbrev pub apart : Option End → Option End → Result (Unit {0}) QueryRefusal
@@ -99,7 +103,7 @@ sourced d (Some start) src = src_of d start src >>= (λ side. Ok tt)
 -- the query, or the first word that can't be taken; that an address is missing is told last
 abbrev pub reach_query_of : Description → List (List ℕ) → Result ReachQuery QueryRefusal
 reach_query_of d words = do
-  from ← pair_or None (codes "from") (given_end d) words 3
+  from ← pair_or None (codes "from") (given_start d) words 3
   to ← pair_or None (codes "to") (given_end d) words from.next
   both ← apart from.value to.value
   pairs ← reach_pairs_of words to.next

@@ -15,6 +15,7 @@ Answers meant (Ok value) = meant ≡ Ok value
 Answers meant (Err (refusals.BadWord n)) = meant ≡ Err (refusals.BadWord n)
 Answers meant (Err (refusals.UnknownId n)) = meant ≡ Err (refusals.UnknownId n)
 Answers meant (Err (refusals.NotAnEnd id)) = meant ≡ Err (refusals.NotAnEnd id)
+Answers meant (Err (refusals.NotAStart n)) = meant ≡ Err (refusals.NotAStart n)
 Answers meant (Err refusals.BothInternet) = meant ≡ Err refusals.BothInternet
 Answers meant (Err (refusals.EmptyRange n)) = meant ≡ Err (refusals.EmptyRange n)
 Answers meant (Err refusals.MaxOutOfRange) = meant ≡ Err refusals.MaxOutOfRange

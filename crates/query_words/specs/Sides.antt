@@ -22,17 +22,19 @@ primary_side e None = Err (refusals.NoAddress e.id)
 abbrev pub own_side : Description → End → Result (ℕ × ℕ) QueryRefusal
 own_side d (ends.Interface i) = let e = interface_at d i in primary_side e e.primary
 own_side d ends.Internet = Ok all_addresses
+own_side d (ends.Far k) = Ok all_addresses
 
 -- the sources: by default those of the start
 abbrev pub src_of : Description → End → Option (ℕ × ℕ) → Result (ℕ × ℕ) QueryRefusal
 src_of d start (Some side) = Ok side
 src_of d start None = own_side d start
 
--- the destinations that are meant by default: an interface that is asked for from the internet is reached by no
--- private address
+-- the destinations that are meant by default: an interface that is asked for from the internet is reached by no private address, and
+-- one that is asked for from another network by any of its own
 abbrev pub own_goal : Description → End → End → Result (ℕ × ℕ) QueryRefusal
 own_goal d (ends.Interface i) goal = own_side d goal
 own_goal d ends.Internet goal = Ok all_addresses
+own_goal d (ends.Far k) goal = Ok all_addresses
 
 -- the destinations: by default those of the goal
 abbrev pub dst_of : Description → Ends → Option (ℕ × ℕ) → Result (ℕ × ℕ) QueryRefusal

@@ -1,13 +1,13 @@
 // The words of a question for what a change opens and closes.
 ghost use Rattle.std.specs.Prelude.{◌≡◌, ◌≤◌, ◌∷◌, [], IfOk, IfSome, IsTrue, None, codes, length, map, string_bytes};
 ghost use Rattle.vpc_model.specs.Sound.{is_end};
-ghost use Rattle.query_words.specs.ChangeQuery.{AreChangedEnds, IsChangedEnd, before_of, change_query_of, change_sourced, changed_end_of, end_in, given_changed_end, has_source, in_either, internet_in_both, named_end, primary_in, without_address};
+ghost use Rattle.query_words.specs.ChangeQuery.{AreChangedEnds, IsChangedEnd, before_of, change_query_of, change_sourced, changed_end_of, changed_start_of, given_changed_end, given_changed_start, has_source, in_either, internet_in_both, is_service_in, named_end, primary_in, without_address};
 ghost use Rattle.query_words.specs.Pairs.{IsSide, pair_or};
 ghost use Rattle.query_words.specs.ReachQuery.{AreReachPairs};
 ghost use Rattle.query_words.specs.Refusal.{Answers};
 
 use crate::QueryRefusal;
-use crate::ends::end_at;
+use crate::ends::{end_with, is_service};
 use crate::pairs::{Taken, has_pair};
 use crate::reaches::{ReachPairs, apart, read_reach_pairs};
 use crate::words::{CommandWords, LineWords, NumberedWords};
@@ -43,16 +43,6 @@ fn internet() -> ChangedEnd
     }
 }
 
-fn end_in(alloc: Global, n: &Network, id: &[u8]) -> Result<Option<End>, QueryRefusal>
-    ensures answer { Answers (end_in n.now id.now) result }
-    ensures described { IfOk result (λ end. IfSome end (λ e. IsTrue (is_end n.now e))) }
-{
-    match n.eni(id) {
-        Some(eni) => Ok(Some(end_at(alloc, n, eni)?)),
-        None => Ok(None),
-    }
-}
-
 fn in_either(end: ChangedEnd, number: usize) -> Result<ChangedEnd, QueryRefusal>
     ensures { result ≡ in_either end number }
 {
@@ -62,23 +52,24 @@ fn in_either(end: ChangedEnd, number: usize) -> Result<ChangedEnd, QueryRefusal>
     }
 }
 
-// The end that an id names, which isn't `internet`.
+// The end that an id names, which isn't `internet`. The word has this number.
 fn named_end(
     alloc: Global,
     before: &Network,
     after: &Network,
     id: &[u8],
+    number: usize,
 ) -> Result<ChangedEnd, QueryRefusal>
-    ensures answer { Answers (named_end before.now after.now id.now) result }
-    ensures before_is { IfOk result (λ end. IfSome end.before (λ e. IsTrue (is_end before.now e))) }
-    ensures after_is { IfOk result (λ end. IfSome end.after (λ e. IsTrue (is_end after.now e))) }
+    ensures answer { Answers (named_end before.now after.now id.now number) result }
+    ensures described { IfOk result (IsChangedEnd before.now after.now) }
 {
-    let first = end_in(alloc, before, id)?;
-    let second = end_in(alloc, after, id)?;
-    Ok(ChangedEnd {
+    let first = end_with(alloc, before, id)?;
+    let second = end_with(alloc, after, id)?;
+    let end = ChangedEnd {
         before: first,
         after: second,
-    })
+    };
+    in_either(end, number)
 }
 
 fn read_changed_end<W: NumberedWords>(
@@ -95,26 +86,80 @@ fn read_changed_end<W: NumberedWords>(
 {
     let id = words.word(number);
     if id == b"internet".as_slice() {
-        return Ok(internet());
+        Ok(internet())
+    } else {
+        named_end(alloc, before, after, id, number)
     }
-    in_either(named_end(alloc, before, after, id)?, number)
 }
 
-fn read_changed_end_pair<W: NumberedWords>(
+fn is_service_in(n: &Network, end: Option<End>) -> bool
+    requires { IfSome end (λ e. IsTrue (is_end n.now e)) }
+    ensures { result ≡ is_service_in n.now end }
+{
+    match end {
+        Some(end) => is_service(n, end),
+        None => false,
+    }
+}
+
+// A start of requests, which is a service in neither network.
+fn read_changed_start<W: NumberedWords>(
     alloc: Global,
     before: &Network,
     after: &Network,
     words: &W,
-    name: &[u8],
+    number: usize,
+) -> Result<ChangedEnd, QueryRefusal>
+    requires first { 3 ≤ number }
+    requires last { number ≤ length (W.words words.now) }
+    ensures answer { Answers (changed_start_of before.now after.now (W.words words.now) number) result }
+    ensures described { IfOk result (IsChangedEnd before.now after.now) }
+{
+    let end = read_changed_end(alloc, before, after, words, number)?;
+    if is_service_in(before, end.before) || is_service_in(after, end.after) {
+        Err(QueryRefusal::NotAStart(number as u64))
+    } else {
+        Ok(end)
+    }
+}
+
+fn read_changed_start_pair<W: NumberedWords>(
+    alloc: Global,
+    before: &Network,
+    after: &Network,
+    words: &W,
     next: usize,
 ) -> Result<Taken<Option<ChangedEnd>>, QueryRefusal>
     requires { 3 ≤ next }
-    ensures pair { Answers
-        (pair_or None name.now (given_changed_end before.now after.now) (W.words words.now) next) result }
+    ensures pair { Answers (pair_or None (codes "from") (given_changed_start before.now after.now)
+        (W.words words.now) next) result }
     ensures next { IfOk result (λ t. next ≤ t.next) }
     ensures described { IfOk result (λ t. IfSome t.value (IsChangedEnd before.now after.now)) }
 {
-    if !has_pair(words, name, next) {
+    if !has_pair(words, b"from", next) {
+        return Ok(Taken { value: None, next });
+    }
+    let value = Some(read_changed_start(alloc, before, after, words, next + 1)?);
+    Ok(Taken {
+        value,
+        next: next + 2,
+    })
+}
+
+fn read_changed_goal_pair<W: NumberedWords>(
+    alloc: Global,
+    before: &Network,
+    after: &Network,
+    words: &W,
+    next: usize,
+) -> Result<Taken<Option<ChangedEnd>>, QueryRefusal>
+    requires { 3 ≤ next }
+    ensures pair { Answers (pair_or None (codes "to") (given_changed_end before.now after.now)
+        (W.words words.now) next) result }
+    ensures next { IfOk result (λ t. next ≤ t.next) }
+    ensures described { IfOk result (λ t. IfSome t.value (IsChangedEnd before.now after.now)) }
+{
+    if !has_pair(words, b"to", next) {
         return Ok(Taken { value: None, next });
     }
     let value = Some(read_changed_end(alloc, before, after, words, next + 1)?);
@@ -209,8 +254,8 @@ fn read_numbered<W: NumberedWords>(
     ensures taken { IfOk result (λ query. AreReachPairs query.pairs) }
     ensures described { IfOk result (AreChangedEnds before.now after.now) }
 {
-    let start = read_changed_end_pair(alloc, before, after, words, b"from", 4)?;
-    let goal = read_changed_end_pair(alloc, before, after, words, b"to", start.next)?;
+    let start = read_changed_start_pair(alloc, before, after, words, 4)?;
+    let goal = read_changed_goal_pair(alloc, before, after, words, start.next)?;
     apart(before_of(start.value), before_of(goal.value))?;
     let pairs = read_reach_pairs(words, goal.next)?;
     change_sourced(alloc, before, after, start.value, pairs.src)?;

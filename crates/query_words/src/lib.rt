@@ -20,6 +20,7 @@ mod values;
 mod words;
 
 pub use changes::{ChangeQuery, ChangedEnd, read_change_query, read_line_change_query};
+pub use ends::is_service;
 pub use events::{EventFault, read_events};
 pub use laws::queries_without_max_are_one;
 pub use lines::{first_words, lines_of};

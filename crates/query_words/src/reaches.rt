@@ -2,11 +2,11 @@
 ghost use Rattle.std.specs.Prelude.{◌≡◌, ◌≤◌, ◌∷◌, [], IfOk, IfSome, IsTrue, None, codes, length, map, string_bytes};
 ghost use Rattle.vpc_model.specs.Sound.{is_end};
 ghost use Rattle.query_words.specs.Pairs.{IsSide, pair_or};
-ghost use Rattle.query_words.specs.ReachQuery.{AreGivenEnds, AreReachPairs, apart, given_end, given_ports, may_have_ports, ports_of, protos_of, reach_pairs_of, reach_query_of, read_given_ports, read_given_proto, sourced};
+ghost use Rattle.query_words.specs.ReachQuery.{AreGivenEnds, AreReachPairs, apart, given_end, given_ports, given_start, may_have_ports, ports_of, protos_of, reach_pairs_of, reach_query_of, read_given_ports, read_given_proto, sourced};
 ghost use Rattle.query_words.specs.Refusal.{Answers};
 
 use crate::QueryRefusal;
-use crate::ends::read_end;
+use crate::ends::{read_end, read_start};
 use crate::pairs::{Taken, has_pair, no_more, read_max_pair, read_side_pair};
 use crate::sides::src_of;
 use crate::values::{MOST_ROWS, read_ports};
@@ -40,19 +40,39 @@ pub struct ReachQuery {
 
 // ---- ends
 
-fn read_end_pair<W: NumberedWords>(
+fn read_start_pair<W: NumberedWords>(
     alloc: Global,
     n: &Network,
     words: &W,
-    name: &[u8],
     next: usize,
 ) -> Result<Taken<Option<End>>, QueryRefusal>
     requires { 3 ≤ next }
-    ensures pair { Answers (pair_or None name.now (given_end n.now) (W.words words.now) next) result }
+    ensures pair { Answers (pair_or None (codes "from") (given_start n.now) (W.words words.now) next) result }
     ensures next { IfOk result (λ t. next ≤ t.next) }
     ensures described { IfOk result (λ t. IfSome t.value (λ e. IsTrue (is_end n.now e))) }
 {
-    if !has_pair(words, name, next) {
+    if !has_pair(words, b"from", next) {
+        return Ok(Taken { value: None, next });
+    }
+    let value = Some(read_start(alloc, n, words, next + 1)?);
+    Ok(Taken {
+        value,
+        next: next + 2,
+    })
+}
+
+fn read_goal_pair<W: NumberedWords>(
+    alloc: Global,
+    n: &Network,
+    words: &W,
+    next: usize,
+) -> Result<Taken<Option<End>>, QueryRefusal>
+    requires { 3 ≤ next }
+    ensures pair { Answers (pair_or None (codes "to") (given_end n.now) (W.words words.now) next) result }
+    ensures next { IfOk result (λ t. next ≤ t.next) }
+    ensures described { IfOk result (λ t. IfSome t.value (λ e. IsTrue (is_end n.now e))) }
+{
+    if !has_pair(words, b"to", next) {
         return Ok(Taken { value: None, next });
     }
     let value = Some(read_end(alloc, n, words, next + 1)?);
@@ -224,8 +244,8 @@ fn read_numbered<W: NumberedWords>(
     ensures taken { IfOk result (λ query. AreReachPairs query.pairs) }
     ensures described { IfOk result (AreGivenEnds n.now) }
 {
-    let start = read_end_pair(alloc, n, words, b"from", 3)?;
-    let goal = read_end_pair(alloc, n, words, b"to", start.next)?;
+    let start = read_start_pair(alloc, n, words, 3)?;
+    let goal = read_goal_pair(alloc, n, words, start.next)?;
     apart(start.value, goal.value)?;
     let pairs = read_reach_pairs(words, goal.next)?;
     sourced(alloc, n, start.value, pairs.src)?;

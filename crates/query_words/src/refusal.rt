@@ -11,12 +11,15 @@ use vpc_model::Id;
 pub enum QueryRefusal {
     /// The word with this number is none that may stand in its place.
     BadWord(u64),
-    /// The word with this number stands for an end, and is neither `internet` nor the id of an
-    /// interface (DescribeNetworkInterfaces).
+    /// The word with this number stands for an end, and is neither `internet` nor the id of an interface
+    /// (DescribeNetworkInterfaces) or of what leads to a network that isn't described.
     UnknownId(u64),
-    /// The interface with this id belongs to a NAT gateway or a transit gateway, so that no packet
-    /// starts or ends there.
+    /// The interface with this id belongs to a NAT gateway or a transit gateway, so that no packet starts or
+    /// ends there; or what has this id leads to a described VPC.
     NotAnEnd(Id),
+    /// The word with this number stands for a start of requests, and is the id of a gateway endpoint, whose
+    /// service opens no connections.
+    NotAStart(u64),
     /// Both ends of a query are the internet, between whose hosts no described network stands.
     BothInternet,
     /// The word with this number is a range of ports whose first is greater than its last.

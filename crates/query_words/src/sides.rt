@@ -33,7 +33,7 @@ fn own_side(alloc: Global, n: &Network, end: End) -> Result<(u32, u32), QueryRef
 {
     match end {
         End::Interface(eni) => primary_side(alloc, n.interface_at(eni)),
-        End::Internet => Ok((0, u32::MAX)),
+        End::Internet | End::Far(_) => Ok((0, u32::MAX)),
     }
 }
 
@@ -54,7 +54,8 @@ pub(crate) fn src_of(
     }
 }
 
-// A packet from the internet goes to a public address, of which an interface may have several.
+// A packet from the internet goes to a public address, of which an interface may have several, and one from
+// another network to any of its addresses.
 fn own_goal(alloc: Global, n: &Network, start: End, goal: End) -> Result<(u32, u32), QueryRefusal>
     requires { IsTrue (is_end n.now goal) }
     ensures answer { Answers (own_goal n.now start goal) result }
@@ -62,7 +63,7 @@ fn own_goal(alloc: Global, n: &Network, start: End, goal: End) -> Result<(u32, u
 {
     match start {
         End::Interface(_) => own_side(alloc, n, goal),
-        End::Internet => Ok((0, u32::MAX)),
+        End::Internet | End::Far(_) => Ok((0, u32::MAX)),
     }
 }
 

@@ -9,8 +9,8 @@ use Rattle.report_examples.specs.FlowLogs.{hosts, printed, rejected}
 use Rattle.command_job.specs.declared.status.Status.TheVariants as ends
 use Rattle.report_examples.specs.Printed.{lines}
 use Rattle.vpc_base.specs.declared.headers.Dir.TheVariants as dirs
-use Rattle.vpc_examples.specs.Networks.{acl, acl_1, allow_all, allow_row, anywhere, behind_nat, group, high_ports_only, host, https_from_group, open_rows, tcp_row, two_subnets, v4}
-use Rattle.vpc_laws.specs.Types.{Acl, Description, Interface}
+use Rattle.vpc_examples.specs.Networks.{acl, allow_all, behind_nat, group, high_ports_only, host, https_from_group, open_rows, two_subnets, v4}
+use Rattle.vpc_laws.specs.Types.{Description}
 use Rattle.vpc_model.specs.declared.outcomes.By.TheVariants as bys
 use Rattle.vpc_model.specs.declared.rows.InterfaceKind.TheVariants as interfaces
 use Rattle.vpc_model.specs.declared.stops.Stop.TheVariants as stops

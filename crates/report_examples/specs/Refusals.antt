@@ -28,11 +28,11 @@ PrintsListNames =
     ∷ codes "TooManyRows SecurityGroups"
     ∷ []
 
--- and so the lists of gateways, attachments and appliances
+-- and so the lists of gateways, attachments, appliances and endpoints
 abbrev pub PrintsGatewayListNames : Type 0
 PrintsGatewayListNames =
     let told : ListName → List ℕ = (λ name. refusal_text (refusals.TooManyRows name)) in
-    map told (named.InternetGateways ∷ named.NatGateways ∷ named.VpcPeeringConnections ∷ named.TransitGatewayVpcAttachments ∷ named.TransitGatewayAttachments ∷ named.TransitGatewayRoutes ∷ named.Appliances ∷ [])
+    map told (named.InternetGateways ∷ named.NatGateways ∷ named.VpcPeeringConnections ∷ named.TransitGatewayVpcAttachments ∷ named.TransitGatewayAttachments ∷ named.TransitGatewayRoutes ∷ named.Appliances ∷ named.VpnGateways ∷ named.VpcEndpoints ∷ [])
     ≡ codes "TooManyRows InternetGateways"
     ∷ codes "TooManyRows NatGateways"
     ∷ codes "TooManyRows VpcPeeringConnections"
@@ -40,15 +40,18 @@ PrintsGatewayListNames =
     ∷ codes "TooManyRows TransitGatewayAttachments"
     ∷ codes "TooManyRows TransitGatewayRoutes"
     ∷ codes "TooManyRows Appliances"
+    ∷ codes "TooManyRows VpnGateways"
+    ∷ codes "TooManyRows VpcEndpoints"
     ∷ []
 
 -- each refusal of a query or packet with its argument
 abbrev pub PrintsQueryRefusals : Type 0
 PrintsQueryRefusals =
-    map query_refusal_text (queries.BadWord 18 ∷ queries.UnknownId 4 ∷ queries.NotAnEnd (codes "eni-n") ∷ queries.BothInternet ∷ queries.EmptyRange 8 ∷ queries.MaxOutOfRange ∷ queries.NoAddress (codes "eni-a") ∷ [])
+    map query_refusal_text (queries.BadWord 18 ∷ queries.UnknownId 4 ∷ queries.NotAnEnd (codes "eni-n") ∷ queries.NotAStart 4 ∷ queries.BothInternet ∷ queries.EmptyRange 8 ∷ queries.MaxOutOfRange ∷ queries.NoAddress (codes "eni-a") ∷ [])
     ≡ codes "BadWord 18"
     ∷ codes "UnknownId 4"
     ∷ codes "NotAnEnd eni-n"
+    ∷ codes "NotAStart 4"
     ∷ codes "BothInternet"
     ∷ codes "EmptyRange 8"
     ∷ codes "MaxOutOfRange"

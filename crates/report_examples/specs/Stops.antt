@@ -1,11 +1,12 @@
 -- How each stop and each rule is printed.
-use Rattle.std.specs.Prelude.{◌∷◌, ◌≡◌, [], List, Some, codes, false, true, ℕ}
-use Rattle.vpc_laws.specs.Types.{Description, PeerNo, Stop, TableNo, TgwTableNo}
+use Rattle.std.specs.Prelude.{◌∷◌, ◌≡◌, [], List, None, Some, codes, false, true, ℕ}
+use Rattle.vpc_laws.specs.Types.{Description, FarNo, FirewallNo, PeerNo, Stop, TableNo, TgwTableNo}
 use Rattle.vpc_model.specs.declared.outcomes.By.TheVariants as bys
 use Rattle.vpc_base.specs.declared.headers.Dir.TheVariants as dirs
 use Rattle.vpc_model.specs.declared.places.End.TheVariants as ends
 use Rattle.vpc_model.specs.declared.stops.Foreign.TheVariants as foreign
 use Rattle.vpc_model.specs.declared.places.Came.TheVariants as from
+use Rattle.vpc_model.specs.declared.rows.FarKind.TheVariants as kinds
 use Rattle.vpc_model.specs.declared.rows.NatLife.TheVariants as lives
 use Rattle.vpc_model.specs.declared.refusals.ListName.TheVariants as named
 use Rattle.vpc_model.specs.declared.places.Place.TheVariants as places
@@ -34,6 +35,8 @@ one_of_each = record (bare (record no_vpc { id = codes "vpc-1" } ∷ []) (subnet
   peerings = record { id = codes "pcx-1"; pair = Some (codes "vpc-1", codes "vpc-9") } ∷ [];
   attachments = site_attachment (codes "a") ∷ [];
   tgw_tables = record { id = codes "tgw-rtb-1"; routes = tgw_blackhole (block (v4 10 2 9 0) 24) ∷ tgw_route anywhere (codes "att-x") false ∷ [] } ∷ [];
+  fars = record { id = codes "vgw-1"; kind = kinds.PrivateGateway None } ∷ record { id = codes "att-vpn"; kind = kinds.Attachment None } ∷ record { id = codes "vpce-s3"; kind = kinds.Endpoint (codes "vpc-1") } ∷ [];
+  firewalls = record { id = codes "vpce-fw"; vpc = codes "vpc-1"; subnet = codes "subnet-a" } ∷ [];
 }
 
 abbrev pub told : Stop → List ℕ
@@ -47,6 +50,12 @@ first_tgw_table = record { 0 = 0 }
 
 abbrev pub first_peering : PeerNo
 first_peering = record { 0 = 0 }
+
+abbrev pub far : ℕ → FarNo
+far k = record { 0 = k }
+
+abbrev pub first_firewall : FirewallNo
+first_firewall = record { 0 = 0 }
 
 -- stops at interfaces, tables and ACLs
 abbrev pub PrintsInterfaceStops : Type 0
@@ -95,6 +104,19 @@ PrintsTransitStops =
     × ((told (stops.Unmodelled (foreign.Attachment (att 0))) ≡ codes "Unmodelled att-a -")
     × ((told (stops.Unmodelled (foreign.Table first_tgw_table)) ≡ codes "Unmodelled tgw-rtb-1 -")
     × (told (stops.Unmodelled (foreign.FarAttachment first_tgw_table 1)) ≡ codes "Unmodelled att-x -"))))))))))
+
+-- stops at networks that aren't described and at firewall endpoints, with the id of each kind of place there
+abbrev pub PrintsOutsideStops : Type 0
+PrintsOutsideStops =
+    (told (stops.FarDetached (far 0)) ≡ codes "FarDetached vgw-1 -")
+    × ((told (stops.FarNoTable (far 1)) ≡ codes "FarNoTable att-vpn -")
+    × ((told (stops.FarSource (far 2)) ≡ codes "FarSource vpce-s3 -")
+    × ((told (stops.FarOpens (far 2)) ≡ codes "FarOpens vpce-s3 -")
+    × ((told (stops.InspectDrop first_firewall) ≡ codes "InspectDrop vpce-fw -")
+    × ((told (stops.Loop (places.FarIn (far 0))) ≡ codes "Loop vgw-1 -")
+    × ((told (stops.TooFar (places.FarOut (far 1))) ≡ codes "TooFar att-vpn -")
+    × ((told (stops.Loop (places.Inspect first_firewall)) ≡ codes "Loop vpce-fw -")
+    × (told (stops.WrongPlace (ends.Far (far 2))) ≡ codes "WrongPlace vpce-s3 -"))))))))
 
 -- stops of whole walks, with the id of each kind of place
 abbrev pub PrintsWalkStops : Type 0

@@ -1,5 +1,5 @@
 // Texts of stops, rules and protocols.
-ghost use Rattle.report_examples.specs.Stops.{PrintsInterfaceStops, PrintsGatewayStops, PrintsTransitStops, PrintsWalkStops, PrintsRules, PrintsProtocols, PrintsRefusals};
+ghost use Rattle.report_examples.specs.Stops.{PrintsInterfaceStops, PrintsGatewayStops, PrintsTransitStops, PrintsOutsideStops, PrintsWalkStops, PrintsRules, PrintsProtocols, PrintsRefusals};
 
 /// Stops at interfaces, route tables and ACLs.
 pub fn prints_stops_at_interfaces()
@@ -14,6 +14,11 @@ pub fn prints_stops_at_gateways()
 /// Stops at transit gateways, and beyond what is followed.
 pub fn prints_stops_at_transit_gateways()
     ensures { PrintsTransitStops }
+{}
+
+/// Stops at networks that aren't described and at firewall endpoints.
+pub fn prints_stops_outside()
+    ensures { PrintsOutsideStops }
 {}
 
 /// Stops of whole walks.

@@ -1,4 +1,6 @@
 pub mod AskedEnds
+pub mod EndWords
+pub mod FarEnds
 pub mod Lengths
 pub mod NodeLemmas
 pub mod NumberLemmas

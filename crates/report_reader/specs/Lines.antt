@@ -1,9 +1,9 @@
 -- The lines of a report, each read from its words by a grammar of its own.
-use Rattle.std.specs.Prelude.{◌==◌, ◌&&◌, ◌∷◌, [], if◌then◌else◌, Bool, List, None, Option, Some, bytes_eq, codes, decimal, false, length, true, ℕ}
+use Rattle.std.specs.Prelude.{◌==◌, ◌&&◌, ◌∷◌, [], if◌then◌else◌, Bool, List, None, Option, Some, bytes_eq, codes, decimal, false, length, option_and_then, true, ℕ}
 use Rattle.std.specs.Result.{result_ok}
 use Rattle.vpc_laws.specs.Types.{Box5, Description, End, Row, StopText}
 use Rattle.vpc_model.specs.declared.places.End.TheVariants as ends
-use Rattle.query_words.specs.Ends.{end_of}
+use Rattle.query_words.specs.Ends.{end_of, end_with, start_of}
 use Rattle.report_reader.specs.Boxes.{◌>>=◌, box_at, is_inside, word_at}
 use Rattle.report_reader.specs.Stops.{told_of}
 use Rattle.report_reader.specs.declared.lines.Version.{Version}
@@ -25,19 +25,28 @@ version_of words =
 
 -- ---- the query
 
--- an end by its word: the internet, or an interface that belongs to no gateway
+-- an end by its word: an interface that belongs to no gateway, or what leads to a network that isn't described
+abbrev pub row_named : Description → List ℕ → Option End
+row_named d word = option_and_then (λ e. e) (result_ok (end_with d word))
+
+-- the same, or the internet
 abbrev pub end_named : Description → List ℕ → Option End
 end_named d word = result_ok (end_of d (word ∷ []) 1)
+
+-- an end from which requests are sent
+abbrev pub start_named : Description → List ℕ → Option End
+start_named d word = result_ok (start_of d (word ∷ []) 1)
 
 -- the internet
 abbrev pub is_internet : End → Bool
 is_internet (ends.Interface i) = false
 is_internet ends.Internet = true
+is_internet (ends.Far k) = false
 
 -- two ends, not both of them the internet
 abbrev pub ends_named : Description → List ℕ → List ℕ → Option (End × End)
 ends_named d from_id to_id = do
-  start ← end_named d from_id
+  start ← start_named d from_id
   goal ← end_named d to_id
   if is_internet start && is_internet goal then None else Some (start, goal)
 

@@ -1,14 +1,16 @@
 -- A printed report reads as what was printed, and is short enough to be read as a file.
-use Rattle.std.specs.Prelude.{◌≡◌, ◌≤◌, ◌<◌, ◌^◌, ◌&&◌, All, List, Ok, bytes_eq, codes, false, length, true, ℕ}
-use Rattle.vpc_laws.specs.Types.{Box5, Description, End, EniNo, Row, StopText}
+use Rattle.std.specs.Prelude.{◌≡◌, ◌≤◌, ◌<◌, ◌^◌, ◌&&◌, All, List, Ok, Some, bytes_eq, codes, false, length, true, ℕ}
+use Rattle.vpc_laws.specs.Types.{Box5, Description, End, EniNo, FarNo, Row, StopText}
 use Rattle.header_boxes.specs.Boxes.{IsValid, IsWithin}
 use Rattle.vpc_model.specs.declared.places.End.TheVariants as ends
 use Rattle.vpc_model.specs.Accepted.{IsAccepted}
-use Rattle.vpc_model.specs.Lookup.{interface_at}
+use Rattle.vpc_model.specs.Far.{far_end_of_id}
+use Rattle.vpc_model.specs.Lookup.{far_at, has_interface, interface_at}
 use Rattle.vpc_model.specs.Sound.{is_eni}
 use Rattle.vpc_model.specs.Step.Crossing.{is_gateway}
 use Rattle.ordered_cover.specs.Trees.{IsCutTree, leaf_count}
 use Rattle.ordered_cover.specs.declared.trees.Node.{Node}
+use Rattle.query_words.specs.Ends.{is_service}
 use Rattle.block_report.specs.Reports.{AreIds, report_text}
 use Rattle.block_report.specs.Trees.{AreTreeIds, tree_text}
 use Rattle.report_reader.specs.declared.report.Report.{Report}
@@ -23,14 +25,22 @@ pub record CanBeNamed (d : Description) (i : EniNo) : Type 0 where
   pub host : let e = interface_at d i in is_gateway e.kind ≡ false
   pub other : let e = interface_at d i in bytes_eq e.id (codes "internet") ≡ false
 
+-- a network that isn't described and is an end, the first of its id, which no interface has and doesn't mean the internet
+pub record CanBeNamedFar (d : Description) (k : FarNo) : Type 0 where
+  pub named : let far = far_at d k in far_end_of_id d far.id ≡ Some k
+  pub alone : let far = far_at d k in has_interface d far.id ≡ false
+  pub other : let far = far_at d k in bytes_eq far.id (codes "internet") ≡ false
+
 -- an end that a query can name
 abbrev pub IsNamed : Description → End → Type 0
 IsNamed d (ends.Interface i) = CanBeNamed d i
 IsNamed d ends.Internet = Unit {0}
+IsNamed d (ends.Far k) = CanBeNamedFar d k
 
--- two such ends, not both of them the internet
+-- two such ends, not both of them the internet, the first of which opens connections
 pub record AreNamed (d : Description) (from to : End) : Type 0 where
   pub start : IsNamed d from
+  pub opens : is_service d from ≡ false
   pub goal : IsNamed d to
   pub apart : (is_internet from && is_internet to) ≡ false
 

@@ -1,15 +1,16 @@
 // The lines before the rows of a report, from their words.
 ghost use Rattle.std.specs.Prelude.{◌≡◌, ◌+◌, ◌≤◌, IfSome, IsTrue, is_some, length, map};
-ghost use Rattle.vpc_model.specs.Lookup.{eni_no, has_interface, interface_at};
+ghost use Rattle.vpc_model.specs.Lookup.{interface_at};
 ghost use Rattle.vpc_model.specs.Sound.{is_end, is_eni};
 ghost use Rattle.vpc_model.specs.Step.Crossing.{is_gateway};
 ghost use Rattle.header_boxes.specs.Boxes.{IsValid};
 ghost use Rattle.report_reader.specs.Boxes.{box_at};
-ghost use Rattle.report_reader.specs.Lines.{end_named, ends_named, is_internet, is_query, is_sides, query_of, sides_of, version_of};
+ghost use Rattle.report_reader.specs.Lines.{end_named, ends_named, is_internet, is_query, is_sides, query_of, row_named, sides_of, start_named, version_of};
 
 use crate::boxes::read_box;
 use crate::words::{are_two, word};
 use header_boxes::Box5;
+use query_words::is_service;
 use reference_check::Network;
 use vpc_model::{End, EniNo, InterfaceKind};
 
@@ -41,41 +42,57 @@ fn is_gateway(n: &Network, eni: EniNo) -> bool
     requires { IsTrue (is_eni n.now eni) }
     ensures { let e = interface_at n.now eni in result ≡ is_gateway e.kind }
 {
-    match n.description().interfaces.as_slice()[eni.0 as usize].kind {
+    match n.interface_at(eni).kind {
         InterfaceKind::Host => false,
         InterfaceKind::Gateway => true,
     }
 }
 
-fn eni_named(n: &Network, word: &[u8]) -> Option<EniNo>
-    ensures found { is_some result ≡ has_interface n.now word.now }
-    ensures number { IfSome result (λ x. x ≡ eni_no n.now word.now) }
-    ensures described { IfSome result (λ x. IsTrue (is_eni n.now x)) }
+// An interface that belongs to no gateway; else what leads to a network that isn't described.
+fn row_named(n: &Network, word: &[u8]) -> Option<End>
+    ensures value { result ≡ row_named n.now word.now }
+    ensures described { IfSome result (λ e. IsTrue (is_end n.now e)) }
 {
-    n.eni(word)
+    match n.eni(word) {
+        Some(eni) => {
+            if is_gateway(n, eni) {
+                None
+            } else {
+                Some(End::Interface(eni))
+            }
+        }
+        None => match n.far_end(word) {
+            Some(k) => Some(End::Far(k)),
+            None => None,
+        },
+    }
 }
 
-// The internet, or an interface that belongs to no gateway.
 fn end_named(n: &Network, word: &[u8]) -> Option<End>
     ensures value { result ≡ end_named n.now word.now }
     ensures described { IfSome result (λ e. IsTrue (is_end n.now e)) }
 {
     if word == b"internet".as_slice() {
-        return Some(End::Internet);
-    }
-    let eni = eni_named(n, word)?;
-    if is_gateway(n, eni) {
-        None
+        Some(End::Internet)
     } else {
-        Some(End::Interface(eni))
+        row_named(n, word)
     }
+}
+
+// An end from which requests are sent.
+fn start_named(n: &Network, word: &[u8]) -> Option<End>
+    ensures value { result ≡ start_named n.now word.now }
+    ensures described { IfSome result (λ e. IsTrue (is_end n.now e)) }
+{
+    let end = end_named(n, word)?;
+    if is_service(n, end) { None } else { Some(end) }
 }
 
 fn is_internet(end: End) -> bool
     ensures { result ≡ is_internet end }
 {
     match end {
-        End::Interface(_) => false,
+        End::Interface(_) | End::Far(_) => false,
         End::Internet => true,
     }
 }
@@ -85,7 +102,7 @@ fn ends_named(n: &Network, from: &[u8], to: &[u8]) -> Option<(End, End)>
     ensures start { IfSome result (λ e. IsTrue (is_end n.now e.0)) }
     ensures goal { IfSome result (λ e. IsTrue (is_end n.now e.1)) }
 {
-    let start = end_named(n, from)?;
+    let start = start_named(n, from)?;
     let goal = end_named(n, to)?;
     if is_internet(start) && is_internet(goal) {
         None

@@ -4,13 +4,12 @@ use Rattle.std.specs.List.{slice_split}
 use Rattle.prefix_text.specs.Addr.{addr_at}
 use Rattle.vpc_laws.specs.Types.{Description, End, Interface}
 use Rattle.vpc_model.specs.declared.places.End.TheVariants as ends
-use Rattle.vpc_model.specs.declared.rows.InterfaceKind.{InterfaceKind}
 use Rattle.vpc_model.specs.declared.rows.InterfaceKind.TheVariants as kinds
 use Rattle.query_words.specs.declared.queries.Query.{Query}
 use Rattle.query_words.specs.declared.refusal.QueryRefusal.{QueryRefusal}
 use Rattle.query_words.specs.declared.refusal.QueryRefusal.TheVariants as refusals
 use Rattle.query_words.specs.Query.{query_of}
-use Rattle.text_tests.specs.WorkedPackets.{interface, network}
+use Rattle.text_tests.specs.WorkedPackets.{far, interface, network}
 
 -- ---- a network
 
@@ -79,6 +78,22 @@ TakesEnds = AskAll
     ∷ (codes "from internet to eni-x", asked ends.Internet (eni 2) 6 anywhere anywhere any_port any_port 20000)
     ∷ [])
 
+-- every address is meant at a network that isn't described, and where a packet of one goes
+abbrev pub TakesFarEnds : Type 0
+TakesFarEnds = AskAll
+    ((codes "from eni-a to vgw-1", asked (eni 0) (far 0) 6 a_alone anywhere any_port any_port 20000)
+    ∷ (codes "from vgw-1 to eni-b", asked (far 0) (eni 1) 6 anywhere anywhere any_port any_port 20000)
+    ∷ (codes "from vgw-1 to eni-x", asked (far 0) (eni 2) 6 anywhere anywhere any_port any_port 20000)
+    ∷ (codes "from vgw-1 to att-out", asked (far 0) (far 2) 6 anywhere anywhere any_port any_port 20000)
+    ∷ (codes "from internet to vgw-1", asked ends.Internet (far 0) 6 anywhere anywhere any_port any_port 20000)
+    ∷ (codes "from vgw-1 to internet", asked (far 0) ends.Internet 6 anywhere anywhere any_port any_port 20000)
+    ∷ (codes "from eni-a to vpce-s3 port 443-443", asked (eni 0) (far 3) 6 a_alone anywhere any_port (443, 443) 20000)
+    ∷ (
+      codes "from vgw-1 to eni-b src 10.0.1.9/24 dst 10.0.2.20/32",
+      asked (far 0) (eni 1) 6 (addr_at 10 0 1 0, addr_at 10 0 1 255) b_alone any_port any_port 20000,
+    )
+    ∷ [])
+
 -- each pair alone, and all of them
 abbrev pub TakesPairs : Type 0
 TakesPairs = AskAll
@@ -119,6 +134,10 @@ RefusesEnds = AskAll
     ∷ (codes "from eni-a to eni-z port", Err (refusals.UnknownId 6))
     ∷ (codes "from eni-a to eni-n port 90-80", Err (refusals.NotAnEnd (codes "eni-n")))
     ∷ (codes "from internet to internet port 90-80", Err refusals.BothInternet)
+    ∷ (codes "from att-in of eni-z", Err (refusals.NotAnEnd (codes "att-in")))
+    ∷ (codes "from vgw-1 to att-in port 90-80", Err (refusals.NotAnEnd (codes "att-in")))
+    ∷ (codes "from vpce-s3 of eni-z", Err (refusals.NotAStart 4))
+    ∷ (codes "from vpce-s3 to vpce-s3", Err (refusals.NotAStart 4))
     ∷ [])
 
 -- a name that is unknown, repeated or out of its place, or that of a pair which the protocol has not
@@ -175,6 +194,7 @@ RefusesLackOfAddresses = AskAll
       asked (eni 2) (eni 3) 6 a_alone b_alone any_port any_port 20000,
     )
     ∷ (codes "from eni-x to internet", Err (refusals.NoAddress (codes "eni-x")))
+    ∷ (codes "from eni-x to vgw-1", Err (refusals.NoAddress (codes "eni-x")))
     ∷ (codes "from eni-x to eni-y port 90-80", Err (refusals.EmptyRange 8))
     ∷ (codes "from eni-x to eni-y max 1 max 1", Err (refusals.BadWord 9))
     ∷ [])

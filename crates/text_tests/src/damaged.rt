@@ -23,8 +23,13 @@ const BUNDLE: &str = r#"{
     "NetworkInterfaces": [
         {"NetworkInterfaceId": "eni-a", "SubnetId": "subnet-a"},
         {"NetworkInterfaceId": "eni-b", "SubnetId": "subnet-a"}
-    ]
+    ],
+    "VpnGateways": [{"VpnGatewayId": "vgw-1"}]
 }"#;
+
+const TO_HOST: &[u8] = b"query from eni-a to eni-b";
+
+const TO_NETWORK: &[u8] = b"query from eni-a to vgw-1";
 
 const TWO_ROWS: &[u8] = b"vpc-report 1
 query from eni-a to eni-b
@@ -43,6 +48,13 @@ leaf reply AclOut acl-b 32767
 leaf request GroupsIn eni-b -
 leaf request SourceCheck eni-a -
 end 3
+";
+
+const OUTSIDE: &[u8] = b"vpc-report 1
+query from eni-a to vgw-1
+box 6-6 10.0.1.10-10.0.1.10 172.20.0.0-172.20.255.255 0-65535 443-443
+row 1 request FarDetached vgw-1 - 6-6 10.0.1.10-10.0.1.10 172.20.0.0-172.20.255.255 0-65535 443-443
+end 1
 ";
 
 fn put_told(out: &mut Vec<u8>, told: &StopText) -> Result<(), NoMemory> {
@@ -110,13 +122,14 @@ fn put_nodes(out: &mut Vec<u8>, nodes: &[Node<StopText>]) -> Result<(), NoMemory
     put_number_line(out, b"end", (nodes.len() as u128 + 1) / 2)
 }
 
-// The text of a report from the first interface to the second, from what was read of it.
-fn put_report(out: &mut Vec<u8>, report: &Report) -> Result<(), NoMemory> {
+// The text of a report about this query, from what was read of it.
+fn put_report(out: &mut Vec<u8>, query: &[u8], report: &Report) -> Result<(), NoMemory> {
     match &report.shape {
-        Shape::List(_) => put(out, b"vpc-report 1")?,
-        Shape::Tree(_) => put(out, b"vpc-report 2")?,
+        Shape::List(_) => put(out, b"vpc-report 1\n")?,
+        Shape::Tree(_) => put(out, b"vpc-report 2\n")?,
     }
-    put(out, b"\nquery from eni-a to eni-b\nbox")?;
+    put(out, query)?;
+    put(out, b"\nbox")?;
     put_box_word(out, &report.sides)?;
     put_end(out)?;
     match &report.shape {
@@ -126,26 +139,32 @@ fn put_report(out: &mut Vec<u8>, report: &Report) -> Result<(), NoMemory> {
 }
 
 // Whether this text is no report, or that of what is read of it; and whether it is a report.
-fn is_told(alloc: Global, n: &Network, text: &[u8]) -> (bool, bool) {
+fn is_told(alloc: Global, n: &Network, query: &[u8], text: &[u8]) -> (bool, bool) {
     let mut out = Vec::new(alloc);
     match read_report(alloc, n, text) {
         Ok(report) => {
-            let put = put_report(&mut out, &report);
+            let put = put_report(&mut out, query, &report);
             (put.is_ok() && out.as_slice() == text, true)
         }
         Err(_) => (true, false),
     }
 }
 
-fn tells_damage(rt: &impl Abort, alloc: Global, n: &Network, whole: &[u8]) -> Result<(), Fail> {
-    assert_eq!(rt; is_told(alloc, n, whole), (true, true));
+fn tells_damage(
+    rt: &impl Abort,
+    alloc: Global,
+    n: &Network,
+    query: &[u8],
+    whole: &[u8],
+) -> Result<(), Fail> {
+    assert_eq!(rt; is_told(alloc, n, query, whole), (true, true));
     for k in 0..whole.len() {
         for bits in [1, 2, 4, 16, 64] {
             let mut text = whole.to_vec(alloc)?;
             if let Some(c) = text.get_mut(k) {
                 *c ^= bits;
             }
-            let (same, _) = is_told(alloc, n, text.as_slice());
+            let (same, _) = is_told(alloc, n, query, text.as_slice());
             assert!(rt; same, "{k} {bits}");
         }
     }
@@ -156,8 +175,9 @@ fn tells_damage(rt: &impl Abort, alloc: Global, n: &Network, whole: &[u8]) -> Re
 fn reads_damaged_reports(rt: HostRuntime) -> Result<(), Fail> {
     match read_bundle(rt.alloc(), BUNDLE.as_bytes()) {
         Ok(n) => {
-            tells_damage(&rt, rt.alloc(), &n, TWO_ROWS)?;
-            tells_damage(&rt, rt.alloc(), &n, THREE_LEAVES)
+            tells_damage(&rt, rt.alloc(), &n, TO_HOST, TWO_ROWS)?;
+            tells_damage(&rt, rt.alloc(), &n, TO_HOST, THREE_LEAVES)?;
+            tells_damage(&rt, rt.alloc(), &n, TO_NETWORK, OUTSIDE)
         }
         Err(_) => Err(Fail::new("the bundle makes no network")),
     }

@@ -1,18 +1,20 @@
 // What the words of worked commands mean.
-ghost use Rattle.text_tests.specs.WorkedPackets.{RefusesPorts, RefusesWords, TakesWords};
-ghost use Rattle.text_tests.specs.WorkedQueries.{RefusesEnds, RefusesLackOfAddresses, RefusesNames, RefusesValues, TakesEnds, TakesPairs};
+ghost use Rattle.text_tests.specs.WorkedPackets as packets;
+ghost use Rattle.text_tests.specs.WorkedQueries as queries;
 
 fn worked_packets()
-    ensures takes { TakesWords }
-    ensures refuses { RefusesWords }
-    ensures ports { RefusesPorts }
+    ensures takes { packets.TakesWords }
+    ensures far { packets.TakesFarEnds }
+    ensures refuses { packets.RefusesWords }
+    ensures ports { packets.RefusesPorts }
 {}
 
 fn worked_queries()
-    ensures ends { TakesEnds }
-    ensures pairs { TakesPairs }
-    ensures refuses { RefusesEnds }
-    ensures names { RefusesNames }
-    ensures values { RefusesValues }
-    ensures addresses { RefusesLackOfAddresses }
+    ensures ends { queries.TakesEnds }
+    ensures far { queries.TakesFarEnds }
+    ensures pairs { queries.TakesPairs }
+    ensures refuses { queries.RefusesEnds }
+    ensures names { queries.RefusesNames }
+    ensures values { queries.RefusesValues }
+    ensures addresses { queries.RefusesLackOfAddresses }
 {}
