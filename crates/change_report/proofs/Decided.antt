@@ -1,11 +1,11 @@
 -- What `diff` answers is decided by its words, and tells of no device.
-use Rattle.std.proofs.Common.{◌≡◌, ◌∙◌, ◌++◌, ◌∷◌, [], Bool, Err, List, None, Ok, Option, Some, cond, false, filter, subst, sym, true, ℕ}
+use Rattle.std.proofs.Common.{◌≡◌, ◌∙◌, ◌++◌, ◌∷◌, [], Bool, Err, List, None, Ok, Option, Some, cond, false, filter, not, refl, subst, sym, true, ℕ}
 use Rattle.command_job.proofs.Devices.{no_device, no_is_none, query_is_none, yes_is_none}
 use Rattle.command_job.specs.Status.{IsOfDevice}
 use Rattle.command_job.specs.declared.status.Status.{Status}
 use Rattle.command_job.specs.declared.status.Status.TheVariants as ends
 use Rattle.listing_text.proofs.Decided.{same_sides, told_decides, told_is_none}
-use Rattle.listing_text.proofs.Orders.{AreAlike, alike-after, alike-kept, alike-orders, alike-same}
+use Rattle.listing_text.proofs.Orders.{AreAlike, alike-joined, alike-kept, alike-orders, alike-same}
 use Rattle.prefix_text.specs.Block.{Block}
 use Rattle.query_words.specs.ChangeQuery.{change_query_of, internet_in_both}
 use Rattle.query_words.specs.declared.changes.ChangeQuery.{ChangeQuery}
@@ -13,7 +13,7 @@ use Rattle.query_words.specs.declared.changes.ChangedEnd.{ChangedEnd}
 use Rattle.vpc_laws.specs.Types.{Description}
 use Rattle.change_report.specs.Answered.{IsDecided, IsDiffAnswered, IsDiffDecided, IsToldUnlessTooMany, IsTooMany}
 use Rattle.change_report.specs.Answered as answered
-use Rattle.changed_ends.specs.Asked.{AreAllOrSides, AreStarts, AreTargets, Comparison, StartAt, TargetsAre, addresses_in_either, comparison, hosts_of_either, is_goal, is_internet, is_start, prefixes_in_either}
+use Rattle.changed_ends.specs.Asked.{AreAllOrSides, AreStarts, AreTargets, Comparison, StartAt, TargetsAre, addresses_in_either, comparison, hosts_of_either, is_goal, is_outside_in_either, is_start, prefixes_in_either, sources_of_either, starts_among}
 use Rattle.change_report.specs.Texts.{lines_at, part_text, whole_text}
 use Rattle.change_report.specs.Told.{wanted}
 
@@ -27,7 +27,7 @@ pub same_targets : (before after : Description) (given : Option (ℕ × ℕ)) (g
 same_targets before after (Some side) goal xs ys a b = a ∙ sym b
 same_targets before after None None xs ys a b = a ∙ sym b
 same_targets before after None (Some goal) xs ys a b =
-    same_own (is_internet goal.before) (addresses_in_either before after goal) (prefixes_in_either before after goal) xs ys a b
+    same_own (is_outside_in_either goal) (addresses_in_either before after goal) (prefixes_in_either before after goal) xs ys a b
 
 -- ---- starts, in whatever order
 
@@ -35,12 +35,20 @@ starts_alike : (before after : Description) (src : Option (ℕ × ℕ)) (start g
 starts_alike before after src (Some start) goal xs ys a b = alike-same xs ys (a ∙ sym b)
 starts_alike before after src None goal xs ys a b =
     subst (λ (l : List ChangedEnd). AreAlike l ys) (sym a.are)
-    (subst (λ (l : List ChangedEnd). AreAlike (first ++ filter (is_start before after src goal) a.hosts) l) (sym b.are)
-    (alike-after first (filter (is_start before after src goal) a.hosts) (filter (is_start before after src goal) b.hosts)
-    (alike-kept (is_start before after src goal) a.hosts b.hosts (alike-orders (hosts_of_either before after) a.hosts b.hosts a.hosts_are.all b.hosts_are.all))))
+    (subst (λ (l : List ChangedEnd). AreAlike (starts_among before after src goal a.hosts a.outside) l) (sym b.are)
+    (alike-joined (first ++ filter sends a.hosts) (first ++ filter sends b.hosts) (filter others a.outside) (filter others b.outside)
+    (alike-joined first first (filter sends a.hosts) (filter sends b.hosts) (alike-same first first refl)
+    (alike-kept sends a.hosts b.hosts (alike-orders (hosts_of_either before after) a.hosts b.hosts a.hosts_are.all b.hosts_are.all)))
+    (alike-kept others a.outside b.outside (alike-orders (sources_of_either before after) a.outside b.outside a.outside_are.all b.outside_are.all))))
   where
     first : List ChangedEnd
     first = cond (is_goal goal internet_in_both) [] (internet_in_both ∷ [])
+
+    sends : ChangedEnd → Bool
+    sends = is_start before after src goal
+
+    others : ChangedEnd → Bool
+    others = λ e. not (is_goal goal e)
 
 -- ---- the status
 

@@ -16,6 +16,7 @@ use box_gather::{Gathered, gather_over};
 use changed_ends::{Compared, boxes_at};
 use header_boxes::Box5;
 use journey_changes::{Change, ChangeProbe, FateProbe, Toward};
+use ordered_cover::Probe;
 use query_words::ChangedEnd;
 use security_groups::AlikeGroups;
 use std::alloc::Global;
@@ -101,6 +102,22 @@ pub fn walks_of<'a>(asked: &Asked<'a>) -> ChangeProbe<'a>
     ChangeProbe::of(probe_before(asked), probe_after(asked), asked.alike)
 }
 
+// What a probe tells of the headers of boxes. It is taken as it is handed on: the prover compares what two shared references
+// to walks in two networks refer to in more steps than it has.
+fn gather<P: Probe>(
+    alloc: Global,
+    probe: &mut P,
+    boxes: &[Box5],
+    room: u32,
+) -> Result<Gathered<P::Word>, NoMemory>
+    requires valid { All IsValid boxes.now }
+    requires disjoint { AllPairs AreDisjoint boxes.now }
+    ensures gathered { IfOk result (IsGatheredOver (P.meaning probe.old) (P.cuts probe.old) boxes.now room) }
+    ensures same { probe.new ≡ probe.old }
+{
+    gather_over(alloc, probe, boxes, room)
+}
+
 // What changes for the headers of boxes, which are sent from a start in both networks.
 fn gather_from(
     alloc: Global,
@@ -120,7 +137,7 @@ fn gather_from(
     ensures walks { AreWalksOf compared.now walks.new.before.sent walks.new.after.sent }
 {
     walks.turn(start.before, start.after);
-    gather_over(alloc, walks, boxes, room)
+    gather(alloc, walks, boxes, room)
 }
 
 /// What changes for the requests that are asked for from a start, in at most `room` rows.

@@ -18,7 +18,7 @@ use Rattle.query_words.specs.declared.changes.ChangeQuery.{ChangeQuery}
 use Rattle.query_words.specs.declared.changes.ChangedEnd.{ChangedEnd}
 use Rattle.query_words.specs.declared.reaches.ReachPairs.{ReachPairs}
 use Rattle.vpc_laws.specs.Types.{Description}
-use Rattle.changed_ends.specs.Asked.{AreAllOrSides, AreTargets, Comparison, TargetsAre, addresses_in_either, boxes_at, boxes_between, each_once, is_internet, prefixes_in_either, sources_of}
+use Rattle.changed_ends.specs.Asked.{AreAllOrSides, AreTargets, Comparison, TargetsAre, addresses_in_either, boxes_at, boxes_between, each_once, is_outside_in_either, prefixes_in_either, sources_of}
 
 -- ---- sources
 
@@ -52,7 +52,7 @@ own_sides before after start false = once_sides (primary_in before start.before)
 
 sources_are_sides : (before after : Description) (given : Option (ℕ × ℕ)) (start : ChangedEnd) → IfSome given IsSide → AreSides (sources_of before after given start)
 sources_are_sides before after (Some side) start valid = one_side side valid
-sources_are_sides before after None start valid = own_sides before after start (is_internet start.before)
+sources_are_sides before after None start valid = own_sides before after start (is_outside_in_either start)
 
 -- ---- destinations
 
@@ -65,7 +65,7 @@ targets_are_sides : (before after : Description) (given : Option (ℕ × ℕ)) (
 targets_are_sides before after (Some side) goal targets valid are = subst AreSides (sym are) (one_side side valid)
 targets_are_sides before after None None targets valid are = subst AreSides (sym are) (one_side all_addresses all_side)
 targets_are_sides before after None (Some goal) targets valid are =
-    all_or_sides (is_internet goal.before) (addresses_in_either before after goal) (prefixes_in_either before after goal) targets are
+    all_or_sides (is_outside_in_either goal) (addresses_in_either before after goal) (prefixes_in_either before after goal) targets are
 
 -- ---- boxes
 

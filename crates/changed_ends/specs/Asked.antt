@@ -3,9 +3,11 @@ use Rattle.std.specs.List.{flat_map}
 use Rattle.std.specs.List.Sorted.{IsPermutation, IsSortedByKey}
 use Rattle.std.specs.Cmp.Lexicographic.{slice_cmp}
 use Rattle.std.specs.Ordering.{nat_cmp}
-use Rattle.std.specs.Prelude.{◌≡◌, ◌==◌, ◌&&◌, ◌++◌, ◌∷◌, [], if◌then◌else◌, Bool, List, None, Option, Some, false, filter, is_some, map, not, true, ℕ}
+use Rattle.std.specs.Prelude.{◌≡◌, ◌==◌, ◌&&◌, ◌++◌, ◌∷◌, [], if◌then◌else◌, Bool, List, None, Option, Some, ◌||◌, false, filter, is_some, map, not, option_and_then, true, ℕ}
 use Rattle.described_hosts.specs.Hosts.{hosts_of, id_of, is_host}
+use Rattle.described_hosts.specs.Outside.{far_id}
 use Rattle.header_boxes.specs.declared.boxes.Box5.{Box5}
+use Rattle.listing_text.specs.Outside as listed
 use Rattle.listing_text.specs.Sides.{AreSidesOf, alone, sides_between}
 use Rattle.prefix_text.specs.Block.{Block}
 use Rattle.query_words.specs.ChangeQuery.{AreChangedEnds, has_source, internet_in_both, primary_in}
@@ -13,7 +15,8 @@ use Rattle.query_words.specs.Sides.{all_addresses}
 use Rattle.query_words.specs.declared.changes.ChangeQuery.{ChangeQuery}
 use Rattle.query_words.specs.declared.changes.ChangedEnd.{ChangedEnd}
 use Rattle.query_words.specs.declared.reaches.ReachPairs.{ReachPairs}
-use Rattle.vpc_laws.specs.Types.{Description, End, EniNo}
+use Rattle.vpc_laws.specs.Types.{Description, End, EniNo, FarNo}
+use Rattle.vpc_model.specs.Far.{far_of_id}
 use Rattle.vpc_model.specs.Lookup.{both_addresses, eni_no, has_interface, interface_at}
 use Rattle.vpc_model.specs.Told.{end_id}
 use Rattle.vpc_model.specs.Verdict.{same_end}
@@ -72,6 +75,38 @@ pub record AreHostsOfEither (before after : Description) (hosts : List ChangedEn
   pub all : IsPermutation (hosts_of_either before after) hosts
   pub by_id : IsSortedByKey (changed_id before after) (slice_cmp nat_cmp) hosts
 
+-- ---- networks of either description
+
+-- the network with an id as an end, where requests start there
+abbrev pub source_with_id : Description → List ℕ → Option End
+source_with_id d id = option_and_then (λ k. if listed.is_source d k then Some (ends.Far k) else None) (far_of_id d id)
+
+-- the other description has no interface with the id
+abbrev pub is_free : Description → Description → FarNo → Bool
+is_free d other k = not (has_interface other (far_id d k))
+
+-- a network of the description before, with what it is afterwards
+abbrev pub far_from_before : Description → Description → FarNo → ChangedEnd
+far_from_before before after k = record { before = Some (ends.Far k); after = source_with_id after (far_id before k) }
+
+-- a network of the description after that is none before
+abbrev pub far_from_after : FarNo → ChangedEnd
+far_from_after l = record { before = None; after = Some (ends.Far l) }
+
+abbrev pub is_new_source : Description → Description → FarNo → Bool
+is_new_source before after l = is_free after before l && not (is_some (source_with_id before (far_id after l)))
+
+-- those of the description before, and those of the description after that it didn't have
+abbrev pub sources_of_either : Description → Description → List ChangedEnd
+sources_of_either before after =
+    map (far_from_before before after) (filter (is_free before after) (listed.sources_of before))
+    ++ map far_from_after (filter (is_new_source before after) (listed.sources_of after))
+
+-- the networks of either description, each once, in the order of their ids
+pub record AreSourcesOfEither (before after : Description) (sources : List ChangedEnd) : Type 0 where
+  pub all : IsPermutation (sources_of_either before after) sources
+  pub by_id : IsSortedByKey (changed_id before after) (slice_cmp nat_cmp) sources
+
 -- ---- starts
 
 abbrev pub same_option : Option End → Option End → Bool
@@ -93,16 +128,20 @@ can_send before after None e = has_source before after e
 abbrev pub is_start : Description → Description → Option (ℕ × ℕ) → Option ChangedEnd → ChangedEnd → Bool
 is_start before after src goal e = can_send before after src e && not (is_goal goal e)
 
--- the internet, and then such hosts, without the goal
-abbrev pub starts_among : Description → Description → Option (ℕ × ℕ) → Option ChangedEnd → List ChangedEnd → List ChangedEnd
-starts_among before after src goal hosts =
-    (if is_goal goal internet_in_both then [] else internet_in_both ∷ []) ++ filter (is_start before after src goal) hosts
+-- the internet, then such hosts and the networks that aren't described, without the goal
+abbrev pub starts_among : Description → Description → Option (ℕ × ℕ) → Option ChangedEnd → List ChangedEnd → List ChangedEnd → List ChangedEnd
+starts_among before after src goal hosts outside =
+    (if is_goal goal internet_in_both then [] else internet_in_both ∷ [])
+    ++ filter (is_start before after src goal) hosts
+    ++ filter (λ e. not (is_goal goal e)) outside
 
--- they, with the hosts in the order of their ids
+-- they, with the hosts and the networks in the order of their ids
 pub record AreAllStarts (before after : Description) (src : Option (ℕ × ℕ)) (goal : Option ChangedEnd) (starts : List ChangedEnd) : Type 0 where
   pub hosts : List ChangedEnd
+  pub outside : List ChangedEnd
   pub hosts_are : AreHostsOfEither before after hosts
-  pub are : starts ≡ starts_among before after src goal hosts
+  pub outside_are : AreSourcesOfEither before after outside
+  pub are : starts ≡ starts_among before after src goal hosts outside
 
 -- where requests start: at the end that is given, or at all
 abbrev pub StartAt : Description → Description → Option (ℕ × ℕ) → Option ChangedEnd → Option ChangedEnd → List ChangedEnd → Type 0
@@ -121,15 +160,21 @@ each_once None (Some b) = b ∷ []
 each_once (Some a) None = a ∷ []
 each_once (Some a) (Some b) = if a == b then a ∷ [] else a ∷ b ∷ []
 
-abbrev pub is_internet : Option End → Bool
-is_internet None = false
-is_internet (Some ends.Internet) = true
-is_internet (Some (ends.Interface i)) = false
+-- an end that has all addresses: the internet, or a network that isn't described
+abbrev pub is_outside : Option End → Bool
+is_outside None = false
+is_outside (Some ends.Internet) = true
+is_outside (Some (ends.Interface i)) = false
+is_outside (Some (ends.Far k)) = true
 
--- those of a start: its primary addresses; all, of the internet
+-- it is one in either network
+abbrev pub is_outside_in_either : ChangedEnd → Bool
+is_outside_in_either e = is_outside e.before || is_outside e.after
+
+-- those of a start: its primary addresses; all, of an end outside
 abbrev pub own_sources : Description → Description → ChangedEnd → List (ℕ × ℕ)
 own_sources before after start =
-    if is_internet start.before then all_addresses ∷ []
+    if is_outside_in_either start then all_addresses ∷ []
     else map alone (each_once (primary_in before start.before) (primary_in after start.after))
 
 -- those that are asked for: those that are given, else the start's own
@@ -143,6 +188,7 @@ sources_of before after None start = own_sources before after start
 abbrev pub addresses_of : Description → Option End → List ℕ
 addresses_of d None = []
 addresses_of d (Some ends.Internet) = []
+addresses_of d (Some (ends.Far k)) = []
 addresses_of d (Some (ends.Interface i)) = let e = interface_at d i in flat_map both_addresses e.addresses
 
 -- those that it has in either network
@@ -153,12 +199,13 @@ addresses_in_either before after e = addresses_of before e.before ++ addresses_o
 abbrev pub prefixes_of : Description → Option End → List Block
 prefixes_of d None = []
 prefixes_of d (Some ends.Internet) = []
+prefixes_of d (Some (ends.Far k)) = []
 prefixes_of d (Some (ends.Interface i)) = let e = interface_at d i in e.prefixes
 
 abbrev pub prefixes_in_either : Description → Description → ChangedEnd → List Block
 prefixes_in_either before after e = prefixes_of before e.before ++ prefixes_of after e.after
 
--- all of the internet, else the sides of some addresses and blocks
+-- all of an end outside, else the sides of some addresses and blocks
 abbrev pub AreAllOrSides : Bool → List ℕ → List Block → List (ℕ × ℕ) → Type 0
 AreAllOrSides true addresses blocks sides = sides ≡ all_addresses ∷ []
 AreAllOrSides false addresses blocks sides = AreSidesOf addresses blocks sides
@@ -166,7 +213,7 @@ AreAllOrSides false addresses blocks sides = AreSidesOf addresses blocks sides
 -- those of a goal: the addresses and the runs of the prefixes that it has in either network
 abbrev pub AreOwnTargets : Description → Description → ChangedEnd → List (ℕ × ℕ) → Type 0
 AreOwnTargets before after goal targets =
-    AreAllOrSides (is_internet goal.before) (addresses_in_either before after goal) (prefixes_in_either before after goal) targets
+    AreAllOrSides (is_outside_in_either goal) (addresses_in_either before after goal) (prefixes_in_either before after goal) targets
 
 -- those that are asked for: those that are given; else the goal's own, and all where there is none
 abbrev pub TargetsAre : Description → Description → Option (ℕ × ℕ) → Option ChangedEnd → List (ℕ × ℕ) → Type 0

@@ -6,7 +6,7 @@ ghost use Rattle.changed_ends.specs.Asked.{AreTargets, boxes_at, boxes_between, 
 
 use crate::compared::Compared;
 use crate::starts::primary_in;
-use crate::targets::is_internet;
+use crate::targets::is_outside_in_either;
 use header_boxes::Box5;
 use listing_text::{ALL, add_boxes, each_alone, only};
 use query_words::{ChangedEnd, ReachPairs};
@@ -42,7 +42,7 @@ fn own_sources(
 ) -> Result<Vec<(u32, u32)>, NoMemory>
     ensures { IfOk result (λ v. v.items ≡ own_sources before.now after.now start) }
 {
-    if is_internet(start.before) {
+    if is_outside_in_either(start) {
         return only(alloc, ALL);
     }
     let addresses = each_once(

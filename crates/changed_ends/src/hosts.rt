@@ -6,7 +6,7 @@ ghost use Rattle.std.specs.Ordering.{nat_cmp};
 ghost use Rattle.vpc_model.specs.Told.{end_id};
 ghost use Rattle.changed_ends.specs.Asked.{AreHostsOfEither, changed_id, from_after, from_before, host_with_id, hosts_of_either, id_or, is_host_at, is_new};
 
-use described_hosts::{hosts_of, id_of};
+use described_hosts::{far_id, hosts_of, id_of};
 use query_words::ChangedEnd;
 use reference_check::Network;
 use std::alloc::Global;
@@ -23,6 +23,7 @@ pub fn id_at<'a>(n: &'a Network, end: End) -> &'a [u8]
     match end {
         End::Interface(eni) => id_of(n, eni),
         End::Internet => b"internet",
+        End::Far(k) => far_id(n, k),
     }
 }
 
@@ -135,7 +136,8 @@ fn compare_ids(before: &Network, after: &Network, one: &ChangedEnd, other: &Chan
     changed_id(before, after, one).cmp(changed_id(before, after, other))
 }
 
-fn sort_by_id(before: &Network, after: &Network, ends: &mut Vec<ChangedEnd>)
+/// Sorts ends by their ids.
+pub fn sort_by_id(before: &Network, after: &Network, ends: &mut Vec<ChangedEnd>)
     ensures same { IsPermutation ends.old.items ends.new.items }
     ensures sorted { IsSortedByKey (changed_id before.now after.now) (slice_cmp nat_cmp) ends.new.items }
 {

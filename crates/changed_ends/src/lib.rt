@@ -4,6 +4,7 @@
 mod boxes;
 mod compared;
 mod hosts;
+mod outside;
 mod starts;
 mod targets;
 

@@ -1,10 +1,11 @@
 // Where the requests that are asked for start.
-ghost use Rattle.std.specs.Prelude.{◌≡◌, ◌++◌, All, IfOk, IfSome, OnOk, Some, filter};
+ghost use Rattle.std.specs.Prelude.{◌≡◌, ◌++◌, All, IfOk, IfSome, OnOk, Some, filter, not};
 ghost use Rattle.query_words.specs.ChangeQuery.{IsChangedEnd, has_source, internet_in_both, primary_in};
 ghost use Rattle.vpc_model.specs.declared.places.End.TheVariants as ends;
 ghost use Rattle.changed_ends.specs.Asked.{AreAllStarts, StartAt, can_send, is_goal, is_start, same_option, starts_among};
 
 use crate::hosts::hosts_of_either;
+use crate::outside::sources_of_either;
 use packet_emulator::same_end;
 use query_words::ChangedEnd;
 use reference_check::Network;
@@ -107,7 +108,24 @@ fn add_hosts(
     Ok(())
 }
 
-// The internet, and then the hosts.
+// Adds the networks that aren't described, without the goal.
+fn add_outside(
+    starts: &mut Vec<ChangedEnd>,
+    goal: Option<ChangedEnd>,
+    outside: &[ChangedEnd],
+) -> Result<(), NoMemory>
+    ensures { OnOk result (starts.new.items
+        ≡ starts.old.items ++ filter (λ e. not (is_goal goal e)) outside.now) }
+{
+    for end in outside {
+        if !is_goal(goal, end) {
+            starts.push(*end)?;
+        }
+    }
+    Ok(())
+}
+
+// The internet, then the hosts, then the networks that aren't described.
 fn starts_among(
     alloc: Global,
     before: &Network,
@@ -115,14 +133,17 @@ fn starts_among(
     src: Option<(u32, u32)>,
     goal: Option<ChangedEnd>,
     hosts: &[ChangedEnd],
+    outside: &[ChangedEnd],
 ) -> Result<Vec<ChangedEnd>, NoMemory>
-    ensures { IfOk result (λ v. v.items ≡ starts_among before.now after.now src goal hosts.now) }
+    ensures { IfOk result (λ v. v.items
+        ≡ starts_among before.now after.now src goal hosts.now outside.now) }
 {
     let mut starts = Vec::new(alloc);
     if !is_goal(goal, &internet()) {
         starts.push(internet())?;
     }
     add_hosts(&mut starts, before, after, src, goal, hosts)?;
+    add_outside(&mut starts, goal, outside)?;
     Ok(starts)
 }
 
@@ -136,10 +157,20 @@ fn all_starts(
     ensures { IfOk result (λ v. AreAllStarts before.now after.now src goal v.items) }
 {
     let hosts = hosts_of_either(alloc, before, after)?;
-    starts_among(alloc, before, after, src, goal, hosts.as_slice())
+    let outside = sources_of_either(alloc, before, after)?;
+    starts_among(
+        alloc,
+        before,
+        after,
+        src,
+        goal,
+        hosts.as_slice(),
+        outside.as_slice(),
+    )
 }
 
-/// Where requests start: at the end that is given, or at the internet and all hosts of either network, without the goal.
+/// Where requests start: at the end that is given, or at the internet, all hosts of either network and all networks that aren't
+/// described and may open connections in either, without the goal.
 /// Where no source is given, hosts without a primary address in either send nothing that is asked for.
 pub fn starts_of(
     alloc: Global,

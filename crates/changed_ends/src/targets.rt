@@ -1,7 +1,7 @@
 // The destinations that are asked for.
 ghost use Rattle.std.specs.Prelude.{◌≡◌, ◌++◌, IfOk, OnOk};
 ghost use Rattle.listing_text.specs.Sides.{AreSidesOf};
-ghost use Rattle.changed_ends.specs.Asked.{AreOwnTargets, TargetsAre, addresses_in_either, addresses_of, is_internet, prefixes_in_either, prefixes_of};
+ghost use Rattle.changed_ends.specs.Asked.{AreOwnTargets, TargetsAre, addresses_in_either, addresses_of, is_outside, is_outside_in_either, prefixes_in_either, prefixes_of};
 
 use listing_text::{ALL, add_pairs, ascending_sides, only};
 use prefix_text::Prefix;
@@ -79,14 +79,20 @@ fn prefixes_in_either(
     Ok(blocks)
 }
 
-/// An end that is the internet.
-pub fn is_internet(end: Option<End>) -> bool
-    ensures { result ≡ is_internet end }
+fn is_outside(end: Option<End>) -> bool
+    ensures { result ≡ is_outside end }
 {
     match end {
-        Some(End::Internet) => true,
+        Some(End::Internet) | Some(End::Far(_)) => true,
         _ => false,
     }
+}
+
+/// Whether an end has all addresses in either network: the internet, or a network that isn't described.
+pub fn is_outside_in_either(end: ChangedEnd) -> bool
+    ensures { result ≡ is_outside_in_either end }
+{
+    is_outside(end.before) || is_outside(end.after)
 }
 
 fn sides_in_either(
@@ -111,7 +117,7 @@ fn own_targets(
 ) -> Result<Vec<(u32, u32)>, NoMemory>
     ensures { IfOk result (λ v. AreOwnTargets before.now after.now goal v.items) }
 {
-    if is_internet(goal.before) {
+    if is_outside_in_either(goal) {
         only(alloc, ALL)
     } else {
         sides_in_either(alloc, before, after, goal)

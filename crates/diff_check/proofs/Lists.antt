@@ -1,5 +1,5 @@
 -- The starts of a question for what changes, with what is asked of each.
-use Rattle.std.proofs.Common.{All, Bool, Err, IfOk, IfSome, List, None, Ok, Option, Result, Some, [], ap, arith, cond, false, filter, get_or, length, map, option_map, refl, slice_get, subst, sym, true, ℕ, ◌+◌, ◌<◌, ◌^◌, ◌∙◌, ◌∷◌, ◌≡◌, ◌≤◌}
+use Rattle.std.proofs.Common.{All, Bool, Err, IfOk, IfSome, List, None, Ok, Option, Result, Some, [], ap, arith, cond, false, filter, get_or, length, map, not, option_map, refl, slice_get, subst, sym, true, ℕ, ◌++◌, ◌+◌, ◌<◌, ◌^◌, ◌∙◌, ◌∷◌, ◌≡◌, ◌≤◌}
 use Rattle.vpc_base.proofs.Lemmas.{All-map, count_by-le-length, length-append, length-filter, length-map, length_permutation, slice_get-get_or, slice_get-map}
 use Rattle.changed_ends.proofs.BoxLemmas.{boxes_at-valid}
 use Rattle.change_report.specs.Terms.{AreStarts, AreTargets, Comparison, StartAt, from_after, from_before, hosts_of_either, is_goal, is_new, is_start, nowhere, starts_among}
@@ -12,7 +12,9 @@ use Rattle.query_words.specs.Terms.{AreReachPairs, internet_in_both}
 use Rattle.query_words.specs.declared.changes.ChangedEnd.{ChangedEnd}
 use Rattle.vpc_laws.specs.Types.{Description, Header, Row}
 use Rattle.vpc_model.specs.Accepted.{IsAccepted}
-use Rattle.end_reach.proofs.Few.{few_hosts}
+use Rattle.changed_ends.specs.Asked.{far_from_after, far_from_before, is_free, is_new_source, sources_of_either}
+use Rattle.end_reach.proofs.Few.{few_hosts, few_sources}
+use Rattle.listing_text.specs.Outside as listed
 use Rattle.diff_check.specs.Diffs.{told_in, told_or_same}
 use Rattle.diff_check.specs.Starts.{origin_from}
 use Rattle.diff_check.specs.Diffs.{all_asked, asked_from}
@@ -83,27 +85,49 @@ few_of_either before after first second =
     let some = count_by-le-length (is_new before after) (hosts_of after) in
     omega (arith, one, other, joined, mapped, later, kept, some)
 
+few_outside : (before after : Description) → IsAccepted before → IsAccepted after → length (sources_of_either before after) ≤ 200000
+few_outside before after first second =
+    let one = few_sources before first in
+    let other = few_sources after second in
+    let free = filter (is_free before after) (listed.sources_of before) in
+    let new = filter (is_new_source before after) (listed.sources_of after) in
+    let joined = length-append (map (far_from_before before after) free) (map far_from_after new) in
+    let mapped = length-map free (far_from_before before after) in
+    let later = length-map new far_from_after in
+    let kept_free = length-filter (is_free before after) (listed.sources_of before) in
+    let some_free = count_by-le-length (is_free before after) (listed.sources_of before) in
+    let kept = length-filter (is_new_source before after) (listed.sources_of after) in
+    let some = count_by-le-length (is_new_source before after) (listed.sources_of after) in
+    omega (arith, one, other, joined, mapped, later, kept_free, some_free, kept, some)
+
 few_first : (b : Bool) → length (cond b [] (internet_in_both ∷ [])) ≤ 1
 few_first true = omega arith
 few_first false = omega arith
 
-few_among : (before after : Description) (src : Option (ℕ × ℕ)) (goal : Option ChangedEnd) (hosts : List ChangedEnd) → length (starts_among before after src goal hosts) ≤ 1 + length hosts
-few_among before after src goal hosts =
+few_among : (before after : Description) (src : Option (ℕ × ℕ)) (goal : Option ChangedEnd) (hosts outside : List ChangedEnd)
+    → length (starts_among before after src goal hosts outside) ≤ 1 + length hosts + length outside
+few_among before after src goal hosts outside =
     let first = cond (is_goal goal internet_in_both) [] (internet_in_both ∷ []) in
+    let others : ChangedEnd → Bool = λ e. not (is_goal goal e) in
     let one = few_first (is_goal goal internet_in_both) in
     let joined = length-append first (filter (is_start before after src goal) hosts) in
+    let all = length-append (first ++ filter (is_start before after src goal) hosts) (filter others outside) in
     let kept = length-filter (is_start before after src goal) hosts in
     let some = count_by-le-length (is_start before after src goal) hosts in
-    omega (arith, one, joined, kept, some)
+    let kept_outside = length-filter others outside in
+    let some_outside = count_by-le-length others outside in
+    omega (arith, one, joined, all, kept, some, kept_outside, some_outside)
 
 few_at : (before after : Description) (src : Option (ℕ × ℕ)) (start goal : Option ChangedEnd) (starts : List ChangedEnd) → IsAccepted before → IsAccepted after → StartAt before after src start goal starts → length starts < 2 ^ 32
 few_at before after src (Some start) goal starts first second are = let same = ap length are in omega (arith, same)
 few_at before after src None goal starts first second are =
     let same = ap length are.are in
-    let among = few_among before after src goal are.hosts in
+    let among = few_among before after src goal are.hosts are.outside in
     let moved = length_permutation (hosts_of_either before after) are.hosts are.hosts_are.all in
     let few = few_of_either before after first second in
-    omega (arith, same, among, moved, few)
+    let moved_outside = length_permutation (sources_of_either before after) are.outside are.outside_are.all in
+    let few_others = few_outside before after first second in
+    omega (arith, same, among, moved, few, moved_outside, few_others)
 
 pub few_changed_starts : (c : Comparison) (starts : List ChangedEnd) → IsAccepted c.before → IsAccepted c.after → AreStarts c starts → length starts < 2 ^ 32
 few_changed_starts c starts first second are = few_at c.before c.after c.query.pairs.src c.query.start c.query.goal starts first second are

@@ -1,20 +1,21 @@
 -- What `reach` answers is decided by its words, and tells of no device.
-use Rattle.std.proofs.Common.{◌≡◌, ◌∙◌, ◌++◌, ◌∷◌, [], Err, List, None, Ok, Option, Some, cond, filter, map, subst, sym, ℕ}
+use Rattle.std.proofs.Common.{◌≡◌, ◌∙◌, ◌++◌, ◌∷◌, [], Err, List, None, Ok, Option, Some, cond, filter, map, refl, subst, sym, ℕ}
 use Rattle.command_job.proofs.Devices.{no_device, no_is_none, query_is_none, yes_is_none}
 use Rattle.command_job.specs.Status.{IsOfDevice}
 use Rattle.command_job.specs.declared.status.Status.{Status}
 use Rattle.command_job.specs.declared.status.Status.TheVariants as ends
 use Rattle.described_hosts.specs.Hosts.{hosts_of}
 use Rattle.listing_text.proofs.Decided.{same_sides, told_decides, told_is_none}
-use Rattle.listing_text.proofs.Orders.{AreAlike, alike-after, alike-kept, alike-mapped, alike-orders, alike-same}
+use Rattle.listing_text.proofs.Orders.{AreAlike, alike-joined, alike-kept, alike-mapped, alike-orders, alike-same}
+use Rattle.listing_text.specs.Outside.{sources_of}
 use Rattle.query_words.specs.ReachQuery.{reach_query_of}
 use Rattle.query_words.specs.declared.reaches.ReachQuery.{ReachQuery}
-use Rattle.vpc_laws.specs.Types.{Description, End}
+use Rattle.vpc_laws.specs.Types.{Description, End, EniNo, FarNo}
 use Rattle.vpc_model.specs.Lookup.{interface_at}
 use Rattle.vpc_model.specs.declared.places.End.TheVariants as places
 use Rattle.end_reach.specs.Answered.{IsDecided, IsReachAnswered, IsReachDecided, IsToldUnlessTooMany, IsTooMany}
 use Rattle.end_reach.specs.Answered as answered
-use Rattle.end_reach.specs.Asked.{AreStarts, AreTargets, is_goal, is_start, own_addresses}
+use Rattle.end_reach.specs.Asked.{AreStarts, AreTargets, is_far_start, is_goal, is_start, own_addresses, starts_among}
 use Rattle.end_reach.specs.Texts.{part_text, row_lines_from, whole_text}
 use Rattle.end_reach.specs.Told.{wanted}
 
@@ -24,6 +25,7 @@ pub same_targets : (d : Description) (given : Option (ℕ × ℕ)) (goal : Optio
 same_targets d (Some side) goal xs ys a b = a ∙ sym b
 same_targets d None None xs ys a b = a ∙ sym b
 same_targets d None (Some places.Internet) xs ys a b = a ∙ sym b
+same_targets d None (Some (places.Far k)) xs ys a b = a ∙ sym b
 same_targets d None (Some (places.Interface i)) xs ys a b = let e = interface_at d i in same_sides (own_addresses e) e.prefixes xs ys a b
 
 -- ---- starts, in whatever order
@@ -32,13 +34,22 @@ starts_alike : (d : Description) (src : Option (ℕ × ℕ)) (start goal : Optio
 starts_alike d src (Some start) goal xs ys a b = alike-same xs ys (a ∙ sym b)
 starts_alike d src None goal xs ys a b =
     subst (λ (l : List End). AreAlike l ys) (sym a.are)
-    (subst (λ (l : List End). AreAlike (first ++ map places.Interface (filter (is_start d src goal) a.hosts)) l) (sym b.are)
-    (alike-after first (map places.Interface (filter (is_start d src goal) a.hosts)) (map places.Interface (filter (is_start d src goal) b.hosts))
+    (subst (λ (l : List End). AreAlike (starts_among d src goal a.hosts a.outside) l) (sym b.are)
+    (alike-joined (first ++ made_hosts a.hosts) (first ++ made_hosts b.hosts) (made_outside a.outside) (made_outside b.outside)
+    (alike-joined first first (made_hosts a.hosts) (made_hosts b.hosts) (alike-same first first refl)
     (alike-mapped places.Interface (filter (is_start d src goal) a.hosts) (filter (is_start d src goal) b.hosts)
-    (alike-kept (is_start d src goal) a.hosts b.hosts (alike-orders (hosts_of d) a.hosts b.hosts a.by_id.all b.by_id.all)))))
+    (alike-kept (is_start d src goal) a.hosts b.hosts (alike-orders (hosts_of d) a.hosts b.hosts a.by_id.all b.by_id.all))))
+    (alike-mapped places.Far (filter (is_far_start goal) a.outside) (filter (is_far_start goal) b.outside)
+    (alike-kept (is_far_start goal) a.outside b.outside (alike-orders (sources_of d) a.outside b.outside a.outside_by_id.all b.outside_by_id.all)))))
   where
     first : List End
     first = cond (is_goal goal places.Internet) [] (places.Internet ∷ [])
+
+    made_hosts : List EniNo → List End
+    made_hosts hosts = map places.Interface (filter (is_start d src goal) hosts)
+
+    made_outside : List FarNo → List End
+    made_outside outside = map places.Far (filter (is_far_start goal) outside)
 
 -- ---- the status
 

@@ -10,7 +10,7 @@ use Rattle.vpc_base.specs.declared.headers.Label.TheVariants as labels
 use Rattle.vpc_laws.proofs.Telling.{start-sound, walks_are_sound}
 use Rattle.vpc_laws.specs.Sound.{EndsWell}
 use Rattle.vpc_laws.specs.Types.{Box5, Description, End, Header, Outcome, Row, Verdict}
-use Rattle.vpc_model.specs.Terms.{Appliances, IsAccepted, Walk, cuts_of, is_end, request_walk, same_end, start_of, verdict_of, verdict_of_arrival}
+use Rattle.vpc_model.specs.Terms.{Appliances, IsAccepted, Walk, alone, cuts_of, is_end, request_walk, same_end, start_of, verdict_of, verdict_of_arrival}
 use Rattle.vpc_model.specs.declared.outcomes.Outcome.TheVariants as outcomes
 use Rattle.vpc_model.specs.declared.outcomes.Phase.TheVariants as phases
 use Rattle.vpc_model.specs.declared.outcomes.Verdict.TheVariants as verdicts
@@ -31,7 +31,7 @@ by_place at end false v is = by_verdict at end v is
 by_outcome : (d : Description) (a : Appliances) (start end : End) (h : Header) (w : Walk) (o : Outcome) → EndsWell d o → reached_end (journey_after d a start h w o) ≡ Some end → is_end d end ≡ true
 by_outcome d a start end h w (outcomes.Stopped s) well is = absurd cc
 by_outcome d a start end h w (outcomes.Arrived at k) well is =
-    subst (λ (e : End). is_end d e ≡ true) (sym (by_place at end (same_end at start) (verdict_of_arrival d a start at h w (reply_of k)) is)) well
+    subst (λ (e : End). is_end d e ≡ true) (sym (by_place at end (same_end at start) (verdict_of_arrival d a (alone start) at h w (reply_of k)) is)) well
 
 -- what is reached is a described end
 pub reached_is_end : (d : Description) (a : Appliances) (start end : End) (goal : Option End) (h : Header) → IsAccepted d → is_end d start ≡ true → IfSome goal (λ e. is_end d e ≡ true)

@@ -16,6 +16,7 @@ targets_are_sides : (d : Description) (given : Option (ℕ × ℕ)) (goal : Opti
 targets_are_sides d (Some side) goal targets valid are = subst AreSides (sym are) (one_side side valid)
 targets_are_sides d None None targets valid are = subst AreSides (sym are) (one_side all_addresses all_side)
 targets_are_sides d None (Some ends.Internet) targets valid are = subst AreSides (sym are) (one_side all_addresses all_side)
+targets_are_sides d None (Some (ends.Far k)) targets valid are = subst AreSides (sym are) (one_side all_addresses all_side)
 targets_are_sides d None (Some (ends.Interface i)) targets valid are = let e = interface_at d i in sides_of-sides (own_addresses e) e.prefixes targets are
 
 module _ (d : Description) (pairs : ReachPairs) (goal : Option End) (targets : List (ℕ × ℕ)) (src : ℕ × ℕ) (given : AreReachPairs pairs) (are : AreTargets d pairs.dst goal targets) where

@@ -2,11 +2,12 @@
 use Rattle.std.specs.List.{flat_map}
 use Rattle.std.specs.Prelude.{◌≡◌, ◌&&◌, ◌++◌, ◌∷◌, [], if◌then◌else◌, Bool, List, None, Option, Some, false, filter, is_some, map, not, option_map, true, ℕ}
 use Rattle.header_boxes.specs.declared.boxes.Box5.{Box5}
+use Rattle.listing_text.specs.Outside.{AreSourcesById}
 use Rattle.listing_text.specs.Sides.{AreSidesOf, alone, sides_between}
 use Rattle.query_words.specs.Sides.{all_addresses}
 use Rattle.query_words.specs.declared.reaches.ReachPairs.{ReachPairs}
 use Rattle.query_words.specs.declared.reaches.ReachQuery.{ReachQuery}
-use Rattle.vpc_laws.specs.Types.{Description, End, EniNo, Interface}
+use Rattle.vpc_laws.specs.Types.{Description, End, EniNo, FarNo, Interface}
 use Rattle.vpc_model.specs.Lookup.{both_addresses, interface_at}
 use Rattle.vpc_model.specs.Verdict.{same_end}
 use Rattle.vpc_model.specs.declared.places.End.TheVariants as ends
@@ -14,10 +15,11 @@ use Rattle.described_hosts.specs.Hosts.{AreHostsById}
 
 -- ---- sources
 
--- those of a start: its primary address, if it has one; all, of the internet
+-- those of a start: its primary address, if it has one; all, of the internet and of a network that isn't described
 abbrev pub own_sources : Description → End → Option (ℕ × ℕ)
 own_sources d (ends.Interface i) = let e = interface_at d i in option_map alone e.primary
 own_sources d ends.Internet = Some all_addresses
+own_sources d (ends.Far k) = Some all_addresses
 
 -- those that are asked for: those that are given, else the start's own
 abbrev pub sources_of : Description → Option (ℕ × ℕ) → End → Option (ℕ × ℕ)
@@ -36,6 +38,7 @@ abbrev pub AreTargets : Description → Option (ℕ × ℕ) → Option End → L
 AreTargets d (Some side) goal targets = targets ≡ side ∷ []
 AreTargets d None None targets = targets ≡ all_addresses ∷ []
 AreTargets d None (Some ends.Internet) targets = targets ≡ all_addresses ∷ []
+AreTargets d None (Some (ends.Far k)) targets = targets ≡ all_addresses ∷ []
 AreTargets d None (Some (ends.Interface i)) targets = let e = interface_at d i in AreSidesOf (own_addresses e) e.prefixes targets
 
 -- ---- boxes
@@ -68,16 +71,24 @@ has_source d None i = has_primary d i
 abbrev pub is_start : Description → Option (ℕ × ℕ) → Option End → EniNo → Bool
 is_start d src goal i = has_source d src i && not (is_goal goal (ends.Interface i))
 
--- the internet, and then such hosts, without the goal
-abbrev pub starts_among : Description → Option (ℕ × ℕ) → Option End → List EniNo → List End
-starts_among d src goal hosts =
-    (if is_goal goal ends.Internet then [] else ends.Internet ∷ []) ++ map ends.Interface (filter (is_start d src goal) hosts)
+-- a network that isn't described, and that isn't the goal
+abbrev pub is_far_start : Option End → FarNo → Bool
+is_far_start goal k = not (is_goal goal (ends.Far k))
 
--- they, with the hosts in the order of their ids
+-- the internet, then such hosts and such networks, without the goal
+abbrev pub starts_among : Description → Option (ℕ × ℕ) → Option End → List EniNo → List FarNo → List End
+starts_among d src goal hosts outside =
+    (if is_goal goal ends.Internet then [] else ends.Internet ∷ [])
+    ++ map ends.Interface (filter (is_start d src goal) hosts)
+    ++ map ends.Far (filter (is_far_start goal) outside)
+
+-- they, with the hosts and the networks in the order of their ids
 pub record AreAllStarts (d : Description) (src : Option (ℕ × ℕ)) (goal : Option End) (starts : List End) : Type 0 where
   pub hosts : List EniNo
+  pub outside : List FarNo
   pub by_id : AreHostsById d hosts
-  pub are : starts ≡ starts_among d src goal hosts
+  pub outside_by_id : AreSourcesById d outside
+  pub are : starts ≡ starts_among d src goal hosts outside
 
 -- where requests start: at the end that is given, or at all
 abbrev pub AreStarts : Description → Option (ℕ × ℕ) → Option End → Option End → List End → Type 0

@@ -42,7 +42,7 @@ fn own_sources(n: &Network, start: End) -> Option<(u32, u32)>
 {
     match start {
         End::Interface(eni) => alone(n.interface_at(eni).primary),
-        End::Internet => Some(ALL),
+        End::Internet | End::Far(_) => Some(ALL),
     }
 }
 

@@ -2,14 +2,15 @@
 ghost use Rattle.std.specs.Prelude.{◌≡◌, ◌++◌, ◌∷◌, [], All, IfOk, IfSome, IsTrue, OnOk, cond, filter, map};
 ghost use Rattle.vpc_model.specs.Sound.{is_end, is_eni};
 ghost use Rattle.vpc_model.specs.declared.places.End.TheVariants as ends;
-ghost use Rattle.end_reach.specs.Asked.{AreAllStarts, AreStarts, has_primary, has_source, is_goal, is_start, starts_among};
+ghost use Rattle.end_reach.specs.Asked.{AreAllStarts, AreStarts, has_primary, has_source, is_far_start, is_goal, is_start, starts_among};
 
 use described_hosts::hosts_by_id;
+use listing_text::sources_by_id;
 use packet_emulator::same_end;
 use reference_check::Network;
 use std::alloc::Global;
 use vpc_base::NoMemory;
-use vpc_model::{End, EniNo};
+use vpc_model::{End, EniNo, FarNo};
 
 fn is_goal(goal: Option<End>, end: End) -> bool
     ensures { result ≡ is_goal goal end }
@@ -89,18 +90,42 @@ fn first_starts(alloc: Global, goal: Option<End>) -> Result<Vec<End>, NoMemory>
     Ok(starts)
 }
 
-// The internet, and then the hosts.
+// Adds a network that isn't described, where it isn't the goal.
+fn add_far(starts: &mut Vec<End>, goal: Option<End>, far: FarNo) -> Result<(), NoMemory>
+    ensures { OnOk result (starts.new.items
+        ≡ starts.old.items ++ cond (is_far_start goal far) (ends.Far far ∷ []) []) }
+{
+    if !is_goal(goal, End::Far(far)) {
+        starts.push(End::Far(far))?;
+    }
+    Ok(())
+}
+
+// Adds the networks that aren't described, without the goal.
+fn add_outside(starts: &mut Vec<End>, goal: Option<End>, outside: &[FarNo]) -> Result<(), NoMemory>
+    ensures { OnOk result (starts.new.items
+        ≡ starts.old.items ++ map ends.Far (filter (is_far_start goal) outside.now)) }
+{
+    for far in outside {
+        add_far(starts, goal, *far)?;
+    }
+    Ok(())
+}
+
+// The internet, then the hosts, then the networks that aren't described.
 fn starts_among(
     alloc: Global,
     n: &Network,
     src: Option<(u32, u32)>,
     goal: Option<End>,
     hosts: &[EniNo],
+    outside: &[FarNo],
 ) -> Result<Vec<End>, NoMemory>
-    ensures { IfOk result (λ v. v.items ≡ starts_among n.now src goal hosts.now) }
+    ensures { IfOk result (λ v. v.items ≡ starts_among n.now src goal hosts.now outside.now) }
 {
     let mut starts = first_starts(alloc, goal)?;
     add_hosts(&mut starts, n, src, goal, hosts)?;
+    add_outside(&mut starts, goal, outside)?;
     Ok(starts)
 }
 
@@ -113,7 +138,8 @@ fn all_starts(
     ensures { IfOk result (λ v. AreAllStarts n.now src goal v.items) }
 {
     let hosts = hosts_by_id(alloc, n)?;
-    starts_among(alloc, n, src, goal, hosts.as_slice())
+    let outside = sources_by_id(alloc, n)?;
+    starts_among(alloc, n, src, goal, hosts.as_slice(), outside.as_slice())
 }
 
 fn only(alloc: Global, start: End) -> Result<Vec<End>, NoMemory>
@@ -124,8 +150,8 @@ fn only(alloc: Global, start: End) -> Result<Vec<End>, NoMemory>
     Ok(starts)
 }
 
-/// Where requests start: at the end that is given, or at the internet and all hosts, without the goal. Where no source is
-/// given, hosts without a primary address send nothing that is asked for.
+/// Where requests start: at the end that is given, or at the internet, all hosts and all networks that aren't described and may open
+/// connections, without the goal. Where no source is given, hosts without a primary address send nothing that is asked for.
 pub fn starts_of(
     alloc: Global,
     n: &Network,

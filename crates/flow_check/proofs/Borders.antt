@@ -5,7 +5,7 @@ use Rattle.vpc_base.proofs.Lemmas.{both_ways, cond-false, position-at, same_byte
 use Rattle.vpc_laws.proofs.Lemmas.{or_else-first, or_else-later}
 use Rattle.vpc_laws.proofs.Numbering.{accepted_numbers_are_own, nat_addresses_are_interfaces}
 use Rattle.vpc_laws.specs.Types.{Came, Description, EniNo, Header, NatGateway, NatLife, NatNo, Place, SubnetNo}
-use Rattle.vpc_laws.specs.Terms.{GoesOn, LiesIn, across, host, into, is_rewriting, nat_answered, nat_asked, out_of, past_none}
+use Rattle.vpc_laws.specs.Terms.{GoesOn, LiesIn, across, firewall, host, into, is_rewriting, nat_answered, nat_asked, out_of, past_none}
 use Rattle.vpc_model.specs.Terms.{IsAccepted, crossing, eni_no, entering, host_of, interface_at, is_eni, is_eni_of, is_nat, leaving, nat_at, nat_of, or_else, own_subnet, subnet_no, subnet_of}
 use Rattle.vpc_model.specs.declared.places.Place.TheVariants as places
 use Rattle.vpc_model.specs.declared.rows.NatLife.TheVariants as lives
@@ -55,11 +55,13 @@ inside-is d s t h q accepted (nat_answered v i n here found has is) =
     let lies = eni-found d i (host_of d v h.dst) (found-lies d v h.dst (host_of d v h.dst) refl) found in
     ap (is_inside d s) here ∙ ap (λ (u : SubnetNo). s.0 == u.0) (sym (is ∙ nat-subnet d i n accepted lies has))
 inside-is d s t h q accepted (nat_asked n here is) = ap (is_inside d s) here ∙ ap (λ (u : SubnetNo). s.0 == u.0) (sym is)
+inside-is d s t h q accepted (firewall e here is) = ap (is_inside d s) here ∙ ap (λ (u : SubnetNo). s.0 == u.0) (sym is)
 
 host-subnet : (d : Description) (h : Header) (i : EniNo) (t : SubnetNo) → LiesIn d h (places.Into i) t → t ≡ subnet_of d i
 host-subnet d h i t (host j here is) = let same : j ≡ i = cc in is ∙ ap (subnet_of d) same
 host-subnet d h i t (nat_answered v j n here found has is) = absurd (cc)
 host-subnet d h i t (nat_asked n here is) = absurd (cc)
+host-subnet d h i t (firewall e here is) = absurd (cc)
 
 -- ---- past ACLs
 

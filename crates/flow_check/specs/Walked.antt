@@ -8,6 +8,7 @@ use Rattle.vpc_model.specs.declared.outcomes.By.TheVariants as bys
 use Rattle.vpc_model.specs.declared.outcomes.Outcome.TheVariants as outcomes
 use Rattle.vpc_model.specs.declared.places.Place.TheVariants as places
 use Rattle.vpc_model.specs.declared.stops.Stop.TheVariants as stops
+use Rattle.vpc_model.specs.Step.Inspect.{firewall_subnet}
 use Rattle.flow_check.specs.Records.{has_ports}
 use Rattle.flow_check.specs.Rules.{direction_of, groups_stop, is_neighbour}
 use Rattle.flow_check.specs.Sorts.{sort_of}
@@ -52,6 +53,7 @@ abbrev pub is_inside : Description → SubnetNo → Place → Bool
 is_inside d s (places.Into i) = let t = subnet_of d i in s.0 == t.0
 is_inside d s (places.NatIn n) = let t = subnet_of_nat d n in s.0 == t.0
 is_inside d s (places.NatOut n) = let t = subnet_of_nat d n in s.0 == t.0
+is_inside d s (places.Inspect e) = let t = firewall_subnet d e in s.0 == t.0
 is_inside d s _ = false
 
 -- a packet comes from this place inside the subnet: from its router

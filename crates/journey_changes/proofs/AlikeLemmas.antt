@@ -9,7 +9,7 @@ use Rattle.cut_laws.proofs.Among.{among_through, left_among, right_among}
 use Rattle.header_boxes.proofs.Lemmas.{aligned_through, within_holds}
 use Rattle.header_boxes.specs.Boxes.{holds, low_of}
 use Rattle.vpc_base.specs.Cuts.{AreAmong}
-use Rattle.vpc_laws.specs.Types.{Box5, EniNo, Header, Interface, Phase, Stop}
+use Rattle.vpc_laws.specs.Types.{Box5, EniNo, Header, Phase, Stop}
 use Rattle.vpc_model.specs.declared.places.End.TheVariants as ends
 use Rattle.journey_changes.proofs.Joining.{none_changes, ok_if_reached}
 use Rattle.journey_changes.specs.Terms.{ComeTo, Fate, LetInAlike, Sent, change_by, change_cuts, change_of, fate, near, reached}

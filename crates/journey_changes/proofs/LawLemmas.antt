@@ -3,6 +3,7 @@ use Rattle.std.proofs.Common.{◌≡◌, ◌↔◌, ◌∙◌, Bool, Err, None, 
 use Rattle.std.specs.Option.{option_map}
 use Rattle.std.proofs.lemmas.Cmp.{nat_list_eq_equiv}
 use Rattle.described_hosts.specs.Hosts.{id_of}
+use Rattle.described_hosts.specs.Outside.{far_id}
 use Rattle.vpc_laws.specs.Types.{Description, End}
 use Rattle.vpc_model.specs.Appliances.{appliances_of}
 use Rattle.vpc_model.specs.declared.places.End.TheVariants as ends
@@ -20,12 +21,18 @@ use Rattle.journey_changes.specs.declared.changes.Change.TheVariants as changes
 one_id-turned : (before after : Description) (e f : End) → have_one_id after before f e ≡ have_one_id before after e f
 one_id-turned before after ends.Internet ends.Internet = refl
 one_id-turned before after ends.Internet (ends.Interface j) = refl
+one_id-turned before after ends.Internet (ends.Far l) = refl
 one_id-turned before after (ends.Interface i) ends.Internet = refl
 one_id-turned before after (ends.Interface i) (ends.Interface j) = nat_list_eq_equiv.symm (id_of after j) (id_of before i)
+one_id-turned before after (ends.Interface i) (ends.Far l) = refl
+one_id-turned before after (ends.Far k) ends.Internet = refl
+one_id-turned before after (ends.Far k) (ends.Interface j) = refl
+one_id-turned before after (ends.Far k) (ends.Far l) = nat_list_eq_equiv.symm (far_id after l) (far_id before k)
 
 one_id-itself : (d : Description) (e : End) → have_one_id d d e e ≡ true
 one_id-itself d ends.Internet = refl
 one_id-itself d (ends.Interface i) = nat_list_eq_equiv.refl (id_of d i)
+one_id-itself d (ends.Far k) = nat_list_eq_equiv.refl (far_id d k)
 
 -- ---- turned round
 

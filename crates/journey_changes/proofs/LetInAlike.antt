@@ -13,7 +13,7 @@ use Rattle.vpc_base.specs.declared.headers.Label.TheVariants as labels
 use Rattle.vpc_laws.specs.Types.{Box5, Description, End, EniNo, Header, Interface, RuleRef}
 use Rattle.vpc_model.specs.Terms.{Connection, appliances_of, first_rule, has_address, interface_at, is_eni, open_passing, passing_groups}
 use Rattle.journey_changes.proofs.Asked.{open_sent}
-use Rattle.journey_changes.specs.Terms.{AskAlike, ComeTo, LetInAlike, Sent, fate_by, has_groups, reached, reached_by, sent, start_or}
+use Rattle.journey_changes.specs.Terms.{AskAlike, ComeTo, LetInAlike, Sent, fate_by, has_groups, reached_by, sent, start_or}
 use Rattle.journey_changes.specs.declared.fates.Toward.TheVariants as towards
 
 -- ---- requests that come to an interface

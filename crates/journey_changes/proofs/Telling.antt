@@ -9,7 +9,7 @@ use Rattle.vpc_base.specs.declared.headers.Label.TheVariants as labels
 use Rattle.vpc_laws.proofs.Telling.{start-sound, verdicts_are_told, walks_are_sound}
 use Rattle.vpc_laws.specs.Sound.{EndsWell, IsTold}
 use Rattle.vpc_laws.specs.Types.{Description, End, Header, Outcome, Verdict}
-use Rattle.vpc_model.specs.Terms.{Appliances, IsAccepted, Walk, appliances_of, has_text, is_end, request_walk, same_end, start_of, verdict_of, verdict_of_arrival, verdict_of_request}
+use Rattle.vpc_model.specs.Terms.{Appliances, IsAccepted, Walk, alone, appliances_of, has_text, is_end, request_walk, same_end, start_of, verdict_of, verdict_of_arrival, verdict_of_request}
 use Rattle.vpc_model.specs.declared.outcomes.Outcome.TheVariants as outcomes
 use Rattle.vpc_model.specs.declared.outcomes.Phase.TheVariants as phases
 use Rattle.vpc_model.specs.declared.outcomes.Verdict.TheVariants as verdicts
@@ -31,18 +31,18 @@ by_verdict d end (verdicts.Stopped phase s) there told = told
 
 -- a request that has arrived at an end is judged as one toward it
 arrived : (d : Description) (a : Appliances) (start end : End) (h k : Header) (w : Walk)
-    → verdict_of_request d a start end h w (outcomes.Arrived end k) ≡ verdict_of_arrival d a start end h w (reply_of k)
+    → verdict_of_request d a (alone start) end h w (outcomes.Arrived end k) ≡ verdict_of_arrival d a (alone start) end h w (reply_of k)
 arrived d a start end h k w =
-    ap (λ (b : Bool). cond b (verdict_of_arrival d a start end h w (reply_of k)) (verdicts.Stopped phases.Request (stops.WrongPlace end))) (same-itself end)
+    ap (λ (b : Bool). cond b (verdict_of_arrival d a (alone start) end h w (reply_of k)) (verdicts.Stopped phases.Request (stops.WrongPlace end))) (same-itself end)
 
 by_place : (d : Description) (a : Appliances) (start end : End) (h k : Header) (w : Walk) (back : Bool) → is_end d end ≡ true
-    → IsTold d (verdict_of_arrival d a start end h w (reply_of k))
-    → EndsTold d (cond back (journeys.Stopped phases.Request (stops.WrongPlace end)) (journey_by end (verdict_of_arrival d a start end h w (reply_of k))))
+    → IsTold d (verdict_of_arrival d a (alone start) end h w (reply_of k))
+    → EndsTold d (cond back (journeys.Stopped phases.Request (stops.WrongPlace end)) (journey_by end (verdict_of_arrival d a (alone start) end h w (reply_of k))))
 by_place d a start end h k w true there told = there
-by_place d a start end h k w false there told = by_verdict d end (verdict_of_arrival d a start end h w (reply_of k)) there told
+by_place d a start end h k w false there told = by_verdict d end (verdict_of_arrival d a (alone start) end h w (reply_of k)) there told
 
 by_outcome : (d : Description) (a : Appliances) (start : End) (h : Header) (w : Walk) (o : Outcome) → EndsWell d o
-    → ((end : End) → is_end d end ≡ true → IsTold d (verdict_of_request d a start end h w o)) → EndsTold d (journey_after d a start h w o)
+    → ((end : End) → is_end d end ≡ true → IsTold d (verdict_of_request d a (alone start) end h w o)) → EndsTold d (journey_after d a start h w o)
 by_outcome d a start h w (outcomes.Stopped s) well judged = well
 by_outcome d a start h w (outcomes.Arrived end k) well judged =
     by_place d a start end h k w (same_end end start) well (subst (IsTold d) (arrived d a start end h k w) (judged end well))

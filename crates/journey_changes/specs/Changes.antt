@@ -1,6 +1,7 @@
 -- What changes for a request between two networks.
 use Rattle.std.specs.Prelude.{Bool, Err, None, Ok, Option, Some, bytes_eq, false, if◌then◌else◌, true}
 use Rattle.described_hosts.specs.Hosts.{id_of}
+use Rattle.described_hosts.specs.Outside.{far_id}
 use Rattle.vpc_base.specs.Cuts.{CutLists, joined_cuts}
 use Rattle.vpc_base.specs.declared.headers.Header.{Header}
 use Rattle.vpc_laws.specs.Types.{Description, End}
@@ -11,10 +12,11 @@ use Rattle.journey_changes.specs.Sent.{Sent, fate, near}
 use Rattle.journey_changes.specs.declared.changes.Change.{Change}
 use Rattle.journey_changes.specs.declared.changes.Change.TheVariants as changes
 
--- an end of each network: both are the internet, or interfaces with one id
+-- an end of each network: both are the internet, or interfaces with one id, or networks to which what has one id leads
 abbrev pub have_one_id : Description → Description → End → End → Bool
 have_one_id before after ends.Internet ends.Internet = true
 have_one_id before after (ends.Interface i) (ends.Interface j) = bytes_eq (id_of before i) (id_of after j)
+have_one_id before after (ends.Far k) (ends.Far l) = bytes_eq (far_id before k) (far_id after l)
 have_one_id before after e f = false
 
 -- from one end to another, where they are two

@@ -3,7 +3,7 @@ ghost use Rattle.std.specs.Prelude.{◌≡◌, ◌↔◌, IsTrue};
 ghost use Rattle.journey_changes.specs.Changes.{change_by, have_one_id, moved};
 
 use crate::fates::{Barrier, same_barrier};
-use described_hosts::id_of;
+use described_hosts::{far_id, id_of};
 use packet_emulator::same_end;
 use reference_check::Network;
 use vpc_model::End;
@@ -26,8 +26,8 @@ fn have_one_id(before: &Network, after: &Network, one: End, other: End) -> bool
     match (one, other) {
         (End::Interface(i), End::Interface(j)) => id_of(before, i) == id_of(after, j),
         (End::Internet, End::Internet) => true,
-        (End::Interface(_), End::Internet) => false,
-        (End::Internet, End::Interface(_)) => false,
+        (End::Far(k), End::Far(l)) => far_id(before, k) == far_id(after, l),
+        _ => false,
     }
 }
 

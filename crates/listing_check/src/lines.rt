@@ -104,6 +104,7 @@ pub fn unless_memory(refusal: &QueryRefusal) -> Result<(), NoMemory>
         QueryRefusal::BadWord(_)
         | QueryRefusal::UnknownId(_)
         | QueryRefusal::NotAnEnd(_)
+        | QueryRefusal::NotAStart(_)
         | QueryRefusal::BothInternet
         | QueryRefusal::EmptyRange(_)
         | QueryRefusal::MaxOutOfRange

@@ -1,7 +1,7 @@
 -- The boxes that a question of `diff` is about hold numbers of their fields.
 use Rattle.std.proofs.Common.{◌==◌, ◌<◌, ◌^◌, ◌∷◌, [], All, Bool, IfSome, List, None, Option, Some, false, if◌then◌else◌, map, true, ℕ}
 use Rattle.std.proofs.lemmas.List.Elements.{All-append, All-cons, All-head, All-map, All-nil, All-tail}
-use Rattle.changed_ends.specs.Asked.{AreAllOrSides, TargetsAre, addresses_in_either, addresses_of, boxes_between, each_once, is_internet, prefixes_in_either, prefixes_of, sources_of}
+use Rattle.changed_ends.specs.Asked.{AreAllOrSides, TargetsAre, addresses_in_either, addresses_of, boxes_between, each_once, is_outside_in_either, prefixes_in_either, prefixes_of, sources_of}
 use Rattle.listing_text.specs.Sides.{alone, sides_between}
 use Rattle.prefix_text.specs.Block.{Block}
 use Rattle.query_words.specs.ChangeQuery.{primary_in}
@@ -26,6 +26,7 @@ FitsAddress a = a < 2 ^ 32
 primary_fits : (d : Description) (end : Option End) → HasTypedInterfaces d → IfSome (primary_in d end) FitsAddress
 primary_fits d None typed = tt
 primary_fits d (Some ends.Internet) typed = tt
+primary_fits d (Some (ends.Far k)) typed = tt
 primary_fits d (Some (ends.Interface i)) typed = let k = known d i typed in k.primary
 
 once_fit : (a b : Option ℕ) → IfSome a FitsAddress → IfSome b FitsAddress → All FitsAddress (each_once a b)
@@ -38,8 +39,8 @@ once_fit (Some a) (Some b) first second = by (a == b)
     by true = All-cons FitsAddress a [] first (All-nil FitsAddress)
     by false = All-cons FitsAddress a (b ∷ []) first (All-cons FitsAddress b [] second (All-nil FitsAddress))
 
-own_fit : (internet : Bool) (addresses : List ℕ) → All FitsAddress addresses
-    → All FitsRange (if internet then all_addresses ∷ [] else map alone addresses)
+own_fit : (outside : Bool) (addresses : List ℕ) → All FitsAddress addresses
+    → All FitsRange (if outside then all_addresses ∷ [] else map alone addresses)
 own_fit true addresses all = All-cons FitsRange all_addresses [] all_fits (All-nil FitsRange)
 own_fit false addresses all = All-map FitsRange alone addresses all
 
@@ -47,7 +48,7 @@ sources_fit : (before after : Description) (given : Option (ℕ × ℕ)) (start 
     → HasTypedInterfaces after → FitsSide given → All FitsRange (sources_of before after given start)
 sources_fit before after (Some side) start first second fits = All-cons FitsRange side [] fits (All-nil FitsRange)
 sources_fit before after None start first second fits =
-    own_fit (is_internet start.before) (each_once (primary_in before start.before) (primary_in after start.after))
+    own_fit (is_outside_in_either start) (each_once (primary_in before start.before) (primary_in after start.after))
     (once_fit (primary_in before start.before) (primary_in after start.after) (primary_fits before start.before first)
     (primary_fits after start.after second))
 
@@ -56,15 +57,17 @@ sources_fit before after None start first second fits =
 addresses_fit : (d : Description) (end : Option End) → HasTypedInterfaces d → All FitsAddress (addresses_of d end)
 addresses_fit d None typed = All-nil FitsAddress
 addresses_fit d (Some ends.Internet) typed = All-nil FitsAddress
+addresses_fit d (Some (ends.Far k)) typed = All-nil FitsAddress
 addresses_fit d (Some (ends.Interface i)) typed = let k = known d i typed in k.addresses
 
 prefixes_fit : (d : Description) (end : Option End) → HasTypedInterfaces d → All FitsBlock (prefixes_of d end)
 prefixes_fit d None typed = All-nil FitsBlock
 prefixes_fit d (Some ends.Internet) typed = All-nil FitsBlock
+prefixes_fit d (Some (ends.Far k)) typed = All-nil FitsBlock
 prefixes_fit d (Some (ends.Interface i)) typed = let k = known d i typed in k.prefixes
 
-own_targets_fit : (internet : Bool) (addresses : List ℕ) (blocks : List Block) (targets : List (ℕ × ℕ)) → All FitsAddress addresses
-    → All FitsBlock blocks → AreAllOrSides internet addresses blocks targets → All FitsRange targets
+own_targets_fit : (outside : Bool) (addresses : List ℕ) (blocks : List Block) (targets : List (ℕ × ℕ)) → All FitsAddress addresses
+    → All FitsBlock blocks → AreAllOrSides outside addresses blocks targets → All FitsRange targets
 own_targets_fit true addresses blocks targets all fit are = one_fits all_addresses targets all_fits are
 own_targets_fit false addresses blocks targets all fit are = sides_fit addresses blocks targets all fit are
 
@@ -74,7 +77,7 @@ pub targets_fit : (before after : Description) (given : Option (ℕ × ℕ)) (go
 targets_fit before after (Some side) goal targets first second fits are = one_fits side targets fits are
 targets_fit before after None None targets first second fits are = one_fits all_addresses targets all_fits are
 targets_fit before after None (Some goal) targets first second fits are =
-    own_targets_fit (is_internet goal.before) (addresses_in_either before after goal) (prefixes_in_either before after goal) targets
+    own_targets_fit (is_outside_in_either goal) (addresses_in_either before after goal) (prefixes_in_either before after goal) targets
     (All-append FitsAddress (addresses_of before goal.before) (addresses_of after goal.after) (addresses_fit before goal.before first)
     (addresses_fit after goal.after second))
     (All-append FitsBlock (prefixes_of before goal.before) (prefixes_of after goal.after) (prefixes_fit before goal.before first)

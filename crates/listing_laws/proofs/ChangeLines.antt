@@ -1,7 +1,7 @@
 -- The lines that `diff` prints, and their ids.
 use Rattle.std.proofs.Common.{List, None, Option, Some, [], ap, arith, codes, length, map, refl, sym, true, ℕ, ◌++◌, ◌+◌, ◌∙◌, ◌∷◌, ◌≡◌}
 use Rattle.vpc_base.proofs.Lemmas.{length-map}
-use Rattle.listing_laws.specs.Terms.{Barrier, Change, ChangedEnd, HasTypedInterfaces, HasTypedRows, Printed, lines_from, lists_of, phase_text, row_count, stop_text, told_lines_from, word}
+use Rattle.listing_laws.specs.Terms.{Barrier, Change, ChangedEnd, HasTypedRows, Printed, lines_from, lists_of, phase_text, row_count, stop_text, told_lines_from, word}
 use Rattle.change_report.specs.Terms.{ChangeRows, Comparison, barrier_text, change_text, changed_id, id_or, lines_at, row_line, row_lines_from, start_id}
 use Rattle.journey_changes.specs.declared.changes.Change.TheVariants as changes
 use Rattle.journey_changes.specs.declared.fates.Barrier.TheVariants as barriers
@@ -56,11 +56,11 @@ told_count c targets told = same_count start_of (asked_from c targets) (rows_of 
 
 -- ---- ids and texts
 
-word_or : (d : Description) (end : Option End) (other : List ℕ) → HasTypedInterfaces d → IsShortWord other → IsShortWord (id_or d end other)
+word_or : (d : Description) (end : Option End) (other : List ℕ) → HasTypedRows d → IsShortWord other → IsShortWord (id_or d end other)
 word_or d None other typed word = word
-word_or d (Some e) other typed word = IsShortWord-end_id d e typed
+word_or d (Some e) other typed word = IsShortWord-end_id d e typed.interfaces typed.fars
 
-pub IsShortWord-changed_id : (before after : Description) (e : ChangedEnd) → HasTypedInterfaces before → HasTypedInterfaces after
+pub IsShortWord-changed_id : (before after : Description) (e : ChangedEnd) → HasTypedRows before → HasTypedRows after
     → IsShortWord (changed_id before after e)
 IsShortWord-changed_id before after e first second =
     word_or before e.before (id_or after e.after []) first (word_or after e.after [] second IsShortWord-nil)

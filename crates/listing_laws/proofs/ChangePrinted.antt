@@ -21,7 +21,7 @@ module _ (c : Comparison) (targets : List (ℕ × ℕ)) (first : HasTypedRows c.
   start_printable : (t : ChangeRows) → IsToldFrom (wanted c targets) t → IsPrintable (printed_from c targets t)
   start_printable t told =
       let query = c.query in
-      let id = IsShortWord-changed_id c.before c.after t.start first.interfaces second.interfaces in
+      let id = IsShortWord-changed_id c.before c.after t.start first second in
       record {
         id_line = id.no_newline;
         id_word = id.no_blank;
@@ -49,7 +49,7 @@ module _ (c : Comparison) (targets : List (ℕ × ℕ)) (first : HasTypedRows c.
 
   text_short : (start : ChangedEnd) (row : Row Change) → HasShortText (shown (text_at c start) row)
   text_short start row =
-      let id = IsShortWord-changed_id c.before c.after start first.interfaces second.interfaces in
+      let id = IsShortWord-changed_id c.before c.after start first second in
       let line = change_line c.before c.after (start_id c start) row.word first second (word_piece (start_id c start) id) in
       line.short
 
@@ -58,7 +58,7 @@ module _ (c : Comparison) (targets : List (ℕ × ℕ)) (first : HasTypedRows c.
     where
       short_at : (t : ChangeRows) → HasShortRows (printed_from c targets t)
       short_at t =
-          let id = IsShortWord-changed_id c.before c.after t.start first.interfaces second.interfaces in
+          let id = IsShortWord-changed_id c.before c.after t.start first second in
           record {
             id = id.short;
             rows = All-map HasShortText (shown (text_at c t.start)) t.rows (λ k row within. text_short t.start (get_or t.rows k row));

@@ -1,68 +1,60 @@
 -- The words of `diff`, read with `max N` behind them or without.
 use Rattle.std.proofs.Common.{Bool, Err, List, None, Ok, Option, Result, Some, ap, arith, bytes_eq, codes, false, if◌then◌else◌, refl, subst, sym, true, ℕ, ◌+◌, ◌<◌, ◌∙◌, ◌≡◌, ◌≤◌}
-use Rattle.vpc_base.proofs.Lemmas.{cond-false, same_bytes}
-use Rattle.query_words.specs.Terms.{apart, before_of, change_query_of, change_sourced, changed_end_of, end_in, given_changed_end, in_either, internet_in_both, named_end, reach_pairs_of, word_at, ◌>>=◌}
+use Rattle.query_words.specs.Terms.{apart, before_of, change_query_of, change_sourced, changed_end_of, changed_opens, changed_start_of, end_with, given_changed_end, given_changed_start, in_either, internet_in_both, named_end, reach_pairs_of, word_at, ◌>>=◌}
 use Rattle.query_words.specs.declared.changes.ChangeQuery.{ChangeQuery}
 use Rattle.query_words.specs.declared.changes.ChangedEnd.{ChangedEnd}
 use Rattle.query_words.specs.declared.reaches.ReachPairs.{ReachPairs}
 use Rattle.query_words.specs.declared.refusal.QueryRefusal.{QueryRefusal}
-use Rattle.query_words.specs.declared.refusal.QueryRefusal.TheVariants as refusals
 use Rattle.vpc_laws.specs.Types.{Description, End}
-use Rattle.vpc_model.specs.Lookup.{has_interface}
 use Rattle.report_reader.proofs.AskedEnds.{ok_is, was_taken}
-use Rattle.listing_laws.proofs.ShortWords.{IsShortWord, IsShortWord-id}
-use Rattle.listing_laws.specs.Typed.{HasTypedInterfaces}
+use Rattle.listing_laws.proofs.ShortWords.{IsShortWord}
+use Rattle.listing_laws.specs.Typed.{HasTypedRows}
 use Rattle.listing_laws.proofs.PairsRead.{ArePairsFit, Ended, PairsRead, is_named, pairs_read}
-use Rattle.listing_laws.proofs.Readers.{IsAny, then_reader}
+use Rattle.listing_laws.proofs.Readers.{IsAny, internet_or, named_word, then_reader}
 use Rattle.listing_laws.proofs.Taking.{Agree, IsReader, Passed, pair_step, pair_took, passed_both, passed_order}
-use Rattle.listing_laws.proofs.Typing.{IsShortWord-described}
 
 -- ---- ends
 
--- no end of either network
-abbrev no_end : ChangedEnd
-no_end = record { before = None; after = None }
+some_named : (before after : Description) (id : List ℕ) (n : ℕ) (b a : Option End) (e : ChangedEnd) → HasTypedRows before → HasTypedRows after
+    → end_with before id ≡ Ok b → end_with after id ≡ Ok a → in_either (record { before = b; after = a }) n ≡ Ok e → IsShortWord id
+some_named before after id n (Some x) a e first second one other is = named_word before id x first one
+some_named before after id n None (Some y) e first second one other is = named_word after id y second other
+some_named before after id n None None e first second one other is = absurd (cc)
 
-none_named : (before after : Description) (id : List ℕ) → has_interface before id ≡ false → has_interface after id ≡ false
-    → named_end before after id ≡ Ok no_end
-none_named before after id first second =
-    ap (λ (r : Result (Option End) QueryRefusal). r >>= (λ b. end_in after id >>= (λ a. Ok (record { before = b; after = a }))))
-    (cond-false _ _ _ first)
-    ∙ ap (λ (r : Result (Option End) QueryRefusal). r >>= (λ a. Ok (record { before = None; after = a }))) (cond-false _ _ _ second)
+end_word : (before after : Description) (id : List ℕ) (n : ℕ) (e : ChangedEnd) → HasTypedRows before → HasTypedRows after
+    → named_end before after id n ≡ Ok e → IsShortWord id
+end_word before after id n e first second is =
+    let one = was_taken (end_with before id) (λ b. end_with after id >>= (λ a. in_either (record { before = b; after = a }) n)) e is in
+    let other = was_taken (end_with after id) (λ a. in_either (record { before = one.value; after = a }) n) e one.follows in
+    some_named before after id n one.value other.value e first second one.taken other.taken other.follows
 
-end_word : (before after : Description) (id : List ℕ) (n : ℕ) (e : ChangedEnd) (internet first second : Bool) → HasTypedInterfaces before
-    → HasTypedInterfaces after
-    → bytes_eq id (codes "internet") ≡ internet → has_interface before id ≡ first → has_interface after id ≡ second
-    → (if internet then Ok internet_in_both else named_end before after id >>= (λ x. in_either x n)) ≡ Ok e → IsShortWord id
-end_word before after id n e true first second typed_before typed_after internet a b is =
-    subst IsShortWord (sym (same_bytes id (codes "internet") internet)) (IsShortWord-id (codes "internet") refl)
-end_word before after id n e false true second typed_before typed_after internet a b is = IsShortWord-described before id typed_before a
-end_word before after id n e false false true typed_before typed_after internet a b is = IsShortWord-described after id typed_after b
-end_word before after id n e false false false typed_before typed_after internet a b is =
-    let wrong : refused ≡ Ok e = sym (ap (λ (r : Result ChangedEnd QueryRefusal). r >>= (λ x. in_either x n))
-    (none_named before after id a b)) ∙ is in
-    absurd (cc)
-  where
-    refused : Result ChangedEnd QueryRefusal
-    refused = Err (refusals.UnknownId n)
-
-changed_reader : (before after : Description) → HasTypedInterfaces before → HasTypedInterfaces after
-    → IsReader (changed_end_of before after) IsAny
-changed_reader before after typed_before typed_after = record {
+changed_reader : (before after : Description) → HasTypedRows before → HasTypedRows after → IsReader (changed_end_of before after) IsAny
+changed_reader before after first second = record {
   spelled = λ words n e is.
       let id = word_at words n in
-      end_word before after id n e (bytes_eq id (codes "internet")) (has_interface before id)
-      (has_interface after id) typed_before typed_after refl refl refl is;
+      internet_or id internet_in_both (named_end before after id n) e (bytes_eq id (codes "internet")) refl
+      (end_word before after id n e first second) is;
   value = λ words n e is. tt;
   same =
-      λ words others n same. ap (λ (id : List ℕ). if bytes_eq id
-      (codes "internet") then Ok internet_in_both else named_end before after id >>= (λ x. in_either x n)) same;
+      λ words others n same. ap (λ (id : List ℕ). if bytes_eq id (codes "internet") then Ok internet_in_both else named_end before after id n)
+      same;
 }
 
-given_changed_reader : (before after : Description) → HasTypedInterfaces before → HasTypedInterfaces after
+given_changed_reader : (before after : Description) → HasTypedRows before → HasTypedRows after
     → IsReader (given_changed_end before after) IsAny
-given_changed_reader before after typed_before typed_after =
-    then_reader (changed_end_of before after) IsAny (λ n e. Ok (Some e)) IsAny (changed_reader before after typed_before typed_after)
+given_changed_reader before after first second =
+    then_reader (changed_end_of before after) IsAny (λ n e. Ok (Some e)) IsAny (changed_reader before after first second)
+    (λ n a b fits is. tt)
+
+changed_start_reader : (before after : Description) → HasTypedRows before → HasTypedRows after → IsReader (changed_start_of before after) IsAny
+changed_start_reader before after first second =
+    then_reader (changed_end_of before after) IsAny (changed_opens before after) IsAny (changed_reader before after first second)
+    (λ n a b fits is. tt)
+
+given_changed_start_reader : (before after : Description) → HasTypedRows before → HasTypedRows after
+    → IsReader (given_changed_start before after) IsAny
+given_changed_start_reader before after first second =
+    then_reader (changed_start_of before after) IsAny (λ n e. Ok (Some e)) IsAny (changed_start_reader before after first second)
     (λ n a b fits is. tt)
 
 -- ---- what follows the ends
@@ -136,16 +128,15 @@ pairs_follow before after words start goal n query is =
           ∙ ap (λ (q : ChangeQuery). Ok (for_most q)) same));
     }
 
-pub change_read : (before after : Description) (words : List (List ℕ)) (query : ChangeQuery) → HasTypedInterfaces before
-    → HasTypedInterfaces after → change_query_of before after words ≡ Ok query
+pub change_read : (before after : Description) (words : List (List ℕ)) (query : ChangeQuery) → HasTypedRows before
+    → HasTypedRows after → change_query_of before after words ≡ Ok query
     → ChangeRead before after words query
 change_read before after words query typed_before typed_after is =
-    let reader = given_changed_reader before after typed_before typed_after in
-    let read = given_changed_end before after in
-    let from = pair_took None (codes "from") read IsAny words 4 (after_from before after words) query
-    (is_named (codes "from") refl refl) reader tt is in
-    let to = pair_took None (codes "to") read IsAny words from.after (after_to before after words from.value) query
-    (is_named (codes "to") refl refl) reader tt from.follows in
+    let from = pair_took None (codes "from") (given_changed_start before after) IsAny words 4 (after_from before after words) query
+    (is_named (codes "from") refl refl) (given_changed_start_reader before after typed_before typed_after) tt is in
+    let to =
+    pair_took None (codes "to") (given_changed_end before after) IsAny words from.after (after_to before after words from.value) query
+    (is_named (codes "to") refl refl) (given_changed_reader before after typed_before typed_after) tt from.follows in
     let f = pairs_follow before after words from.value to.value to.after query to.follows in
     let a = passed_order words 4 from.after from.passed in
     let b = passed_order words from.after to.after to.passed in

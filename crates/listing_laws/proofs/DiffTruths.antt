@@ -50,7 +50,7 @@ module _ (before after : Description) (words : List (List ℕ)) (first : CanBeLi
   whole_is_true query targets starts told read few targets_are starts_are are =
       let one = first.typed in
       let two = second.typed in
-      let r = change_read before after words query one.interfaces two.interfaces read in
+      let r = change_read before after words query one two read in
       let given = are_given 3 r.stop words front refl r.passed r.ended in
       let again = asks_again before after words query r given in
       let fits = r.fits in

@@ -29,4 +29,5 @@ pub mod DiffTexts
 pub mod DiffTruths
 pub mod ReadRows
 pub mod NetworkRows
+pub mod OutsideRows
 pub mod ReadNetworks

@@ -10,12 +10,12 @@ use Rattle.query_words.specs.declared.reaches.ReachQuery.{ReachQuery}
 use Rattle.vpc_laws.specs.Types.{Description, End}
 use Rattle.vpc_model.specs.Lookup.{has_interface}
 use Rattle.listing_laws.specs.ReachTexts.{ReachTextsAreTrue, ReachTextsFit, ReachTextsPass}
-use Rattle.listing_laws.specs.Typed.{HasTypedInterfaces}
+use Rattle.listing_laws.specs.Typed.{HasTypedRows}
 use Rattle.listing_laws.proofs.Statuses.{more_is_not_all, query_is_not_all}
 use Rattle.listing_laws.proofs.ReachTexts.{text_is}
 use Rattle.listing_laws.proofs.ReachTruths.{IsTrueText, whole_is_true}
 
-module _ (d : Description) (words : List (List ℕ)) (status : Status) (text : List ℕ) (typed : HasTypedInterfaces d)
+module _ (d : Description) (words : List (List ℕ)) (status : Status) (text : List ℕ) (typed : HasTypedRows d)
     (named : has_interface d (codes "internet") ≡ false) (whole : (status ≡ ends.Yes) ⊎ (status ≡ ends.No)) where
   told_true : (query : ReachQuery) (targets : List (ℕ × ℕ)) (starts : List End) → reach_query_of d words ≡ Ok query
       → (IsTooMany d query → ⊥) → AreTargets d query.pairs.dst query.goal targets → AreStarts d query.pairs.src query.start query.goal starts
@@ -38,18 +38,15 @@ module _ (d : Description) (words : List (List ℕ)) (status : Status) (text : L
 
 pub reach_texts_are_true : ReachTextsAreTrue
 reach_texts_are_true d words text h t =
-    let typed = h.typed in
-    let answer = answer_true d words t.status text typed.interfaces h.named t.whole t.answered in
+    let answer = answer_true d words t.status text h.typed h.named t.whole t.answered in
     answer.is_true
 
 pub reach_texts_fit : ReachTextsFit
 reach_texts_fit d words text h t =
-    let typed = h.typed in
-    let answer = answer_true d words t.status text typed.interfaces h.named t.whole t.answered in
+    let answer = answer_true d words t.status text h.typed h.named t.whole t.answered in
     answer.fits
 
 pub reach_texts_pass : ReachTextsPass
 reach_texts_pass d words text status h t decided =
-    let typed = h.typed in
-    let answer = answer_true d words t.status text typed.interfaces h.named t.whole t.answered in
+    let answer = answer_true d words t.status text h.typed h.named t.whole t.answered in
     (decided.reach answer.first).1 answer.is_true

@@ -36,6 +36,7 @@ source_fits : (d : Description) (given : Option (ℕ × ℕ)) (start : End) → 
     → FitsSide (sources_of d given start)
 source_fits d (Some side) start typed fits = fits
 source_fits d None ends.Internet typed fits = all_fits
+source_fits d None (ends.Far k) typed fits = all_fits
 source_fits d None (ends.Interface i) typed fits = let k = known d i typed in alone_fits _ k.primary
 
 -- ---- destinations
@@ -69,6 +70,7 @@ pub targets_fit : (d : Description) (given : Option (ℕ × ℕ)) (goal : Option
 targets_fit d (Some side) goal targets typed fits are = one_fits side targets fits are
 targets_fit d None None targets typed fits are = one_fits all_addresses targets all_fits are
 targets_fit d None (Some ends.Internet) targets typed fits are = one_fits all_addresses targets all_fits are
+targets_fit d None (Some (ends.Far k)) targets typed fits are = one_fits all_addresses targets all_fits are
 targets_fit d None (Some (ends.Interface i)) targets typed fits are =
     let k = known d i typed in
     let e = interface_at d i in

@@ -2,7 +2,7 @@
 use Rattle.std.proofs.Common.{All, AllPairs, List, arith, get_or, map, subst, sym, ℕ, ◌≢◌}
 use Rattle.vpc_base.proofs.Lemmas.{All-map, AllPairs-map}
 use Rattle.end_reach.specs.Terms.{AreToldAll, StartRows, boxes_at, reached_in, wanted}
-use Rattle.listing_laws.specs.Terms.{ArePrintable, HasTypedInterfaces, IsPrintable, IsToldFrom, IsTrueOf, Printed, ReachQuery}
+use Rattle.listing_laws.specs.Terms.{ArePrintable, HasTypedRows, IsPrintable, IsToldFrom, IsTrueOf, Printed, ReachQuery}
 use Rattle.vpc_laws.specs.Types.{Description, End, Row}
 use Rattle.vpc_model.specs.Terms.{cuts_of, end_id}
 use Rattle.reach_check.specs.Reaches.{asked_from}
@@ -16,18 +16,18 @@ use Rattle.listing_laws.proofs.Shown.{all_shown_printable, shown, shown_is_true}
 use Rattle.listing_laws.proofs.Typing.{IsShortWord-end_id}
 use Rattle.listing_laws.proofs.ReachLines.{printed_from, rows_of, start_of, told_count}
 
-module _ (d : Description) (query : ReachQuery) (targets : List (ℕ × ℕ)) (typed : HasTypedInterfaces d) (fits : ArePairsFit query.pairs)
+module _ (d : Description) (query : ReachQuery) (targets : List (ℕ × ℕ)) (typed : HasTypedRows d) (fits : ArePairsFit query.pairs)
     (targets_fit : All FitsRange targets) where
   start_printable : (t : StartRows) → IsToldFrom (wanted d query targets) t → IsPrintable (printed_from d query targets t)
   start_printable t told =
-      let id = IsShortWord-end_id d t.start typed in
+      let id = IsShortWord-end_id d t.start typed.interfaces typed.fars in
       record {
         id_line = id.no_newline;
         id_word = id.no_blank;
         rows =
             all_shown_printable (cuts_of d) (boxes_at d query targets t.start) (end_id d) t.rows
-            (boxes_fit d query targets t.start typed fits targets_fit) told.rows_are.parts
-            (λ e. let w = IsShortWord-end_id d e typed in w.no_newline);
+            (boxes_fit d query targets t.start typed.interfaces fits targets_fit) told.rows_are.parts
+            (λ e. let w = IsShortWord-end_id d e typed.interfaces typed.fars in w.no_newline);
       }
 
   pub are_printable : (starts : List End) (told : List StartRows) → AllPairs (HaveOwnIds d) starts → AreToldAll d query targets starts told
@@ -45,7 +45,7 @@ module _ (d : Description) (query : ReachQuery) (targets : List (ℕ × ℕ)) (t
 
   text_short : (row : Row End) → HasShortText (shown (end_id d) row)
   text_short row =
-      let word = IsShortWord-end_id d row.word typed in
+      let word = IsShortWord-end_id d row.word typed.interfaces typed.fars in
       let short = word.short in
       omega (arith, short)
 
@@ -55,7 +55,7 @@ module _ (d : Description) (query : ReachQuery) (targets : List (ℕ × ℕ)) (t
     where
       short_at : (t : StartRows) → HasShortRows (printed_from d query targets t)
       short_at t =
-          let id = IsShortWord-end_id d t.start typed in
+          let id = IsShortWord-end_id d t.start typed.interfaces typed.fars in
           record {
             id = id.short;
             rows = All-map HasShortText (shown (end_id d)) t.rows (λ k row within. text_short (get_or t.rows k row));

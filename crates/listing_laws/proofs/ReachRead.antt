@@ -1,15 +1,15 @@
 -- The words of `reach`, read with `max N` behind them or without.
 use Rattle.std.proofs.Common.{◌≡◌, ◌∙◌, ◌+◌, ◌<◌, ◌≤◌, List, None, Ok, Option, Result, ap, arith, codes, refl, subst, ℕ}
-use Rattle.query_words.specs.ReachQuery.{apart, given_end, reach_pairs_of, reach_query_of, sourced}
+use Rattle.query_words.specs.ReachQuery.{apart, given_end, given_start, reach_pairs_of, reach_query_of, sourced}
 use Rattle.query_words.specs.Refusal.{◌>>=◌}
 use Rattle.query_words.specs.declared.reaches.ReachPairs.{ReachPairs}
 use Rattle.query_words.specs.declared.reaches.ReachQuery.{ReachQuery}
 use Rattle.query_words.specs.declared.refusal.QueryRefusal.{QueryRefusal}
 use Rattle.vpc_laws.specs.Types.{Description, End}
 use Rattle.report_reader.proofs.AskedEnds.{ok_is, was_taken}
-use Rattle.listing_laws.specs.Typed.{HasTypedInterfaces}
+use Rattle.listing_laws.specs.Typed.{HasTypedRows}
 use Rattle.listing_laws.proofs.PairsRead.{ArePairsFit, Ended, PairsRead, is_named, pairs_read}
-use Rattle.listing_laws.proofs.Readers.{IsAny, given_end_reader}
+use Rattle.listing_laws.proofs.Readers.{IsAny, given_end_reader, given_start_reader}
 use Rattle.listing_laws.proofs.Taking.{Agree, Passed, pair_step, pair_took, passed_both, passed_order}
 
 -- ---- what follows the ends
@@ -76,14 +76,13 @@ pairs_follow d words start goal n query is =
           ∙ ap (λ (q : ReachQuery). Ok (for_most q)) same));
     }
 
-pub reach_read : (d : Description) (words : List (List ℕ)) (query : ReachQuery) → HasTypedInterfaces d → reach_query_of d words ≡ Ok query
+pub reach_read : (d : Description) (words : List (List ℕ)) (query : ReachQuery) → HasTypedRows d → reach_query_of d words ≡ Ok query
     → ReachRead d words query
 reach_read d words query typed is =
-    let reader = given_end_reader d typed in
-    let from = pair_took None (codes "from") (given_end d) IsAny words 3 (after_from d words) query
-    (is_named (codes "from") refl refl) reader tt is in
+    let from = pair_took None (codes "from") (given_start d) IsAny words 3 (after_from d words) query
+    (is_named (codes "from") refl refl) (given_start_reader d typed) tt is in
     let to = pair_took None (codes "to") (given_end d) IsAny words from.after (after_to d words from.value) query
-    (is_named (codes "to") refl refl) reader tt from.follows in
+    (is_named (codes "to") refl refl) (given_end_reader d typed) tt from.follows in
     let f = pairs_follow d words from.value to.value to.after query to.follows in
     let a = passed_order words 3 from.after from.passed in
     let b = passed_order words from.after to.after to.passed in

@@ -1,6 +1,6 @@
 -- What `reach` prints of all requests is true.
 use Rattle.std.proofs.Common.{List, Ok, [], ap, arith, codes, drop, false, length, option_and_then, refl, subst, sym, true, ℕ, ◌-◌, ◌∙◌, ◌∷◌, ◌≡◌, ◌≤◌}
-use Rattle.listing_laws.specs.Terms.{HasTypedInterfaces, ReachQuery, given_words, length_limit, lists_of, origins_of, reach_query_of, result_ok, row_count}
+use Rattle.listing_laws.specs.Terms.{HasTypedRows, ReachQuery, given_words, length_limit, lists_of, origins_of, reach_query_of, result_ok, row_count}
 use Rattle.listing_check.specs.Lines.{all_lines, begins_with}
 use Rattle.reach_check.specs.Reaches.{IsTrueReach, all_asked, asked_from}
 use Rattle.end_reach.specs.Terms.{AreStarts, AreTargets, AreToldAll, IsTooMany, StartRows, whole_text}
@@ -36,7 +36,7 @@ pub record IsTrueText (d : Description) (text : List ℕ) : Type 0 where
   pub fits : length text ≤ length_limit
 
 pub whole_is_true : (d : Description) (words : List (List ℕ)) (query : ReachQuery) (targets : List (ℕ × ℕ)) (starts : List End)
-    (told : List StartRows) → HasTypedInterfaces d → has_interface d (codes "internet") ≡ false
+    (told : List StartRows) → HasTypedRows d → has_interface d (codes "internet") ≡ false
     → reach_query_of d words ≡ Ok query → (IsTooMany d query → ⊥) → AreTargets d query.pairs.dst query.goal targets
     → AreStarts d query.pairs.src query.start query.goal starts → AreToldAll d query targets starts told
     → IsTrueText d (whole_text d words told)
@@ -46,7 +46,7 @@ whole_is_true d words query targets starts told typed named read few targets_are
     let again = asks_again d words query r given in
     let fits = r.fits in
     let pairs = query.pairs in
-    let all = targets_fit d pairs.dst query.goal targets typed fits.dst targets_are in
+    let all = targets_fit d pairs.dst query.goal targets typed.interfaces fits.dst targets_are in
     let printable = are_printable d query targets typed fits all starts told
     (starts_apart d query.pairs.src query.start query.goal starts named starts_are) are in
     let each = are_true d query targets typed fits all told are.each in

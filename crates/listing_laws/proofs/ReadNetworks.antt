@@ -11,7 +11,7 @@ use Rattle.read_filters.specs.Filters.{filters_of}
 use Rattle.read_filters.specs.GroupRules.{group_rules_of}
 use Rattle.read_gateways.specs.Scope.{scope_of}
 use Rattle.read_filters.specs.Groups.{group_of}
-use Rattle.read_gateways.specs.Terms.{associations_of, attachment_of, attachments_of, gateways_of, igws_of, internet_gateway_of, nat_gateway_of, nats_of, peering_of, peerings_of, tgw_table_of, tgw_tables_of, transit_of}
+use Rattle.read_gateways.specs.Terms.{associations_of, attachment_of, attachments_of, gateways_of, igws_of, internet_gateway_of, nat_gateway_of, nats_of, outside_of, peering_of, peerings_of, tgw_table_of, tgw_tables_of, transit_of}
 use Rattle.read_network.specs.Terms.{appliances_of, interface_of, interfaces_of, network_of, prefix_lists_of, subnet_of, subnets_of, table_of, tables_of, vpc_of, vpcs_of}
 use Rattle.read_gateways.specs.declared.reader.GatewayRows.{GatewayRows}
 use Rattle.read_network.specs.declared.network.NetworkRows.{NetworkRows}
@@ -21,6 +21,7 @@ use Rattle.listing_laws.specs.Networks.{BundlesCanBeListed}
 use Rattle.listing_laws.specs.Typed.{HasTypedRows, IsTyped, IsTypedTable, IsTypedTgwTable}
 use Rattle.listing_laws.proofs.ReadRows.{any_then, each_kept_of_read, each_of_read, firsts_all, read_then}
 use Rattle.listing_laws.proofs.NetworkRows.{HasAclId, HasAttachmentId, HasIgwId, HasNatId, HasPeeringId, HasSubnetId, HasVpcId, acl_read, attachment_read, igw_read, interface_read, nat_read, peering_read, subnet_read, table_read, tgw_table_read, vpc_read}
+use Rattle.listing_laws.proofs.OutsideRows.{AreTypedOutsideRows, outside_read}
 
 -- ---- all lists
 
@@ -98,6 +99,7 @@ description_read bundle =
     read_then (gateways_of bundle) _ AreTypedGatewayRows HasTypedRows (gateways_read bundle) (λ gateways c.
     any_then (appliances_of bundle) _ HasTypedRows (λ appliances.
     any_then (group_rules_of bundle filters.groups) _ HasTypedRows (λ groups.
+    read_then (outside_of bundle) _ AreTypedOutsideRows HasTypedRows (outside_read bundle) (λ outside o.
     read_then (instances_of bundle network.interfaces) _ (All IsTyped) HasTypedRows (instances_read bundle network.interfaces a.interfaces) (λ interfaces i.
     any_then (scope_of bundle) _ HasTypedRows (λ scope. record {
       vpcs = a.vpcs;
@@ -110,7 +112,9 @@ description_read bundle =
       peerings = c.peerings;
       attachments = c.attachments;
       tgw_tables = c.tgw_tables;
-    })))))))
+      fars = o.fars;
+      firewalls = o.firewalls;
+    }))))))))
 
 -- ---- a network
 

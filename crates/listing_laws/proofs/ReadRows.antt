@@ -119,7 +119,7 @@ each_item_read read P row path field leads =
     (λ n item. leads item (at_row (at_member path field) n)))
 
 -- rows of which some are dropped
-kept_all : {A : Type 0} (P : A → Type 0) (rows : List (Option A)) → All (λ o. IfSome o P) rows → All P (those_there rows)
+pub kept_all : {A : Type 0} (P : A → Type 0) (rows : List (Option A)) → All (λ o. IfSome o P) rows → All P (those_there rows)
 kept_all P [] all = All-nil P
 kept_all P (None ∷ rows) all = kept_all P rows (All-tail (λ o. IfSome o P) None rows all)
 kept_all P (Some a ∷ rows) all =

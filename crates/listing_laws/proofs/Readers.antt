@@ -1,23 +1,25 @@
 -- What the words of pairs say: words without blanks, and numbers of their fields.
-use Rattle.std.proofs.Common.{All, Bool, Err, IfSome, List, None, Ok, Option, Result, Some, [], ap, arith, bytes_eq, codes, decimal, false, if◌then◌else◌, length-append, lit<, nat_le, ne_eqb, ok_or, option_map, refl, subst, sym, true, ℕ, ◌++◌, ◌<◌, ◌==◌, ◌^◌, ◌≡◌, ◌≢◌, ◌≤◌}
+use Rattle.std.proofs.Common.{All, Bool, Err, IfSome, List, None, Ok, Option, Result, Some, [], ap, arith, bytes_eq, codes, decimal, false, if◌then◌else◌, length-append, lit<, nat_le, ne_eqb, ok_or, option_map, refl, subst, sym, true, ℕ, ◌++◌, ◌<◌, ◌==◌, ◌^◌, ◌∙◌, ◌≡◌, ◌≢◌, ◌≤◌}
 use Rattle.vpc_base.proofs.Lemmas.{All-append, All-cons, All-nil, length-decimal-le, same_Some, same_bytes}
 use Rattle.prefix_text.proofs.AddrLaws.{All-addr_text, length-addr_text-le}
 use Rattle.prefix_text.proofs.BlockLaws.{prefix_of-Some}
 use Rattle.prefix_text.proofs.NumberLaws.{All-decimal, number_of-Some, two_digits}
 use Rattle.prefix_text.proofs.RangeLaws.{length-range_text-le, range_of-Some}
 use Rattle.prefix_text.specs.Terms.{Block, addr_text, cidr_text, number_of, prefix_of, range_of, range_text}
-use Rattle.query_words.specs.Terms.{end_at, end_of, given_end, proto_of, read_as, read_given_ports, read_given_proto, read_ports, read_side, side_of, some_ports, word_at, ◌>>=◌}
+use Rattle.query_words.specs.Ends.{known_end}
+use Rattle.query_words.specs.Terms.{end_at, end_of, end_with, far_named, given_end, given_start, known, opens, proto_of, read_as, read_given_ports, read_given_proto, read_ports, read_side, side_of, some_end, some_ports, start_of, word_at, ◌>>=◌}
 use Rattle.query_words.specs.declared.refusal.QueryRefusal.{QueryRefusal}
 use Rattle.query_words.specs.declared.refusal.QueryRefusal.TheVariants as refusals
 use Rattle.report_reader.proofs.AskedEnds.{ok_is, was_taken}
 use Rattle.report_reader.proofs.Printed.{IsWord-decimal, IsWord-range_text}
 use Rattle.listing_laws.proofs.ShortWords.{IsShortWord, IsShortWord-id, short_word}
-use Rattle.vpc_laws.specs.Types.{Description, End}
+use Rattle.vpc_laws.specs.Types.{Description, End, FarNo}
+use Rattle.vpc_model.specs.Far.{far_of_id}
 use Rattle.vpc_model.specs.Lookup.{eni_no, has_interface}
 use Rattle.vpc_model.specs.declared.places.End.TheVariants as ends
-use Rattle.listing_laws.specs.Typed.{HasTypedInterfaces}
+use Rattle.listing_laws.specs.Typed.{HasTypedRows}
 use Rattle.listing_laws.proofs.Taking.{IsReader}
-use Rattle.listing_laws.proofs.Typing.{IsShortWord-described}
+use Rattle.listing_laws.proofs.Typing.{IsShortWord-described, IsShortWord-found}
 
 -- ---- readers
 
@@ -169,23 +171,46 @@ given_ports_reader =
 abbrev pub IsAny : {A : Type 0} → A → Type 0
 IsAny a = Unit {0}
 
-end_word : (d : Description) (w : List ℕ) (n : ℕ) (e : End) (b c : Bool) → HasTypedInterfaces d → bytes_eq w (codes "internet") ≡ b
-    → has_interface d w ≡ c
-    → (if b then Ok ends.Internet else (if c then end_at d (eni_no d w) else Err (refusals.UnknownId n))) ≡ Ok e → IsShortWord w
-end_word d w n e true c typed internet there is =
-    subst IsShortWord (sym (same_bytes w (codes "internet") internet)) (IsShortWord-id (codes "internet") refl)
-end_word d w n e false true typed internet there is = IsShortWord-described d w typed there
-end_word d w n e false false typed internet there is = absurd (cc)
+-- an id that names an end
+named_by : (d : Description) (w : List ℕ) (e : End) (c : Bool) (m : Option FarNo) → HasTypedRows d → has_interface d w ≡ c → far_of_id d w ≡ m
+    → (if c then some_end (end_at d (eni_no d w)) else far_named d m) ≡ Ok (Some e) → IsShortWord w
+named_by d w e true m typed there found is = IsShortWord-described d w typed.interfaces there
+named_by d w e false (Some k) typed there found is = IsShortWord-found d w k typed.fars found
+named_by d w e false None typed there found is = absurd (cc)
 
-end_reader : (d : Description) → HasTypedInterfaces d → IsReader (end_of d) IsAny
+pub named_word : (d : Description) (w : List ℕ) (e : End) → HasTypedRows d → end_with d w ≡ Ok (Some e) → IsShortWord w
+named_word d w e typed is = named_by d w e (has_interface d w) (far_of_id d w) typed refl refl is
+
+known_some : (n : ℕ) (o : Option End) (e : End) → known n o ≡ Ok e → o ≡ Some e
+known_some n None e is = absurd (cc)
+known_some n (Some x) e is = cc
+
+known_word : (d : Description) (w : List ℕ) (n : ℕ) (e : End) → HasTypedRows d → known_end d w n ≡ Ok e → IsShortWord w
+known_word d w n e typed is =
+    let t = was_taken (end_with d w) (known n) e is in
+    named_word d w e typed (t.taken ∙ ap (λ (o : Option End). Ok o) (known_some n t.value e t.follows))
+
+-- a word for the internet, or an id
+pub internet_or : {A : Type 0} (w : List ℕ) (internet : A) (other : Result A QueryRefusal) (a : A) (b : Bool) → bytes_eq w (codes "internet") ≡ b
+    → (other ≡ Ok a → IsShortWord w) → (if b then Ok internet else other) ≡ Ok a → IsShortWord w
+internet_or w internet other a true is_word word is =
+    subst IsShortWord (sym (same_bytes w (codes "internet") is_word)) (IsShortWord-id (codes "internet") refl)
+internet_or w internet other a false is_word word is = word is
+
+end_reader : (d : Description) → HasTypedRows d → IsReader (end_of d) IsAny
 end_reader d typed = record {
-  spelled =
-      λ words n e is. let w = word_at words n in end_word d w n e (bytes_eq w (codes "internet")) (has_interface d w) typed refl refl is;
+  spelled = λ words n e is.
+      let w = word_at words n in
+      internet_or w ends.Internet (known_end d w n) e (bytes_eq w (codes "internet")) refl (known_word d w n e typed) is;
   value = λ words n e is. tt;
-  same =
-      λ words others n same. ap (λ (w : List ℕ). if bytes_eq w (codes "internet") then Ok ends.Internet else
-      (if has_interface d w then end_at d (eni_no d w) else Err (refusals.UnknownId n))) same;
+  same = λ words others n same. ap (λ (w : List ℕ). if bytes_eq w (codes "internet") then Ok ends.Internet else known_end d w n) same;
 }
 
-pub given_end_reader : (d : Description) → HasTypedInterfaces d → IsReader (given_end d) IsAny
+pub given_end_reader : (d : Description) → HasTypedRows d → IsReader (given_end d) IsAny
 given_end_reader d typed = then_reader (end_of d) IsAny (λ n e. Ok (Some e)) IsAny (end_reader d typed) (λ n a b fits is. tt)
+
+start_reader : (d : Description) → HasTypedRows d → IsReader (start_of d) IsAny
+start_reader d typed = then_reader (end_of d) IsAny (opens d) IsAny (end_reader d typed) (λ n a b fits is. tt)
+
+pub given_start_reader : (d : Description) → HasTypedRows d → IsReader (given_start d) IsAny
+given_start_reader d typed = then_reader (start_of d) IsAny (λ n e. Ok (Some e)) IsAny (start_reader d typed) (λ n a b fits is. tt)

@@ -5,8 +5,9 @@ use Rattle.std.proofs.lemmas.List.Elements.{All-append, All-cons, All-head, All-
 use Rattle.block_report.specs.Terms.{phase_text, stop_text, word}
 use Rattle.listing_reader.specs.ReadsBack.{IsOneLine}
 use Rattle.prefix_text.specs.Terms.{Block, addr_text, block_text}
-use Rattle.vpc_laws.specs.Types.{Access, Acl, AclNo, AttNo, Attachment, Component, Description, End, EniNo, Foreign, IgwNo, InternetGateway, NatGateway, NatNo, PeerNo, Peering, Subnet, SubnetNo, Vpc, Phase, Place, Reach, Route, RouteTable, Stop, StopRule, TableNo, TgwRoute, TgwTable, TgwTableNo, VpcNo}
+use Rattle.vpc_laws.specs.Types.{Access, Acl, AclNo, AttNo, Attachment, Component, Description, End, EniNo, FarNo, FirewallEndpoint, FirewallNo, Foreign, IgwNo, InternetGateway, NatGateway, NatNo, PeerNo, Peering, Subnet, SubnetNo, Vpc, Phase, Place, Reach, Route, RouteTable, Stop, StopRule, TableNo, TgwRoute, TgwTable, TgwTableNo, VpcNo}
 use Rattle.vpc_model.specs.Terms.{access_of, access_text, acl_at, attachment_at, component_id, component_of, end_id, foreign_id, igw_at, interface_at, is_id, name_of, name_text, nat_at, no_route, no_tgw_route, peering_at, place_id, reach_text, route_target_id, rule_of, rule_text, stop_id, stop_rule, subnet_at, table_at, target_id, tgw_route_attachment, tgw_table_at, vpc_at}
+use Rattle.vpc_model.specs.Lookup.{far_at, firewall_at}
 use Rattle.vpc_model.specs.declared.outcomes.Phase.TheVariants as phases
 use Rattle.vpc_model.specs.declared.places.Place.TheVariants as places
 use Rattle.vpc_model.specs.declared.rows.Access.TheVariants as modes
@@ -17,7 +18,7 @@ use Rattle.vpc_model.specs.declared.stops.StopRule.TheVariants as rules
 use Rattle.vpc_model.proofs.Names.{visible_name}
 use Rattle.listing_laws.proofs.ShortWords.{IsShortWord, IsShortWord-id}
 use Rattle.listing_laws.specs.Typed.{HasListId, HasTypedRows, IsTypedRoute, IsTypedTable, IsTypedTgwRoute, IsTypedTgwTable}
-use Rattle.listing_laws.proofs.Typing.{IsShortWord-end_id, known}
+use Rattle.listing_laws.proofs.Typing.{IsShortWord-end_id, IsShortWord-far, known}
 
 -- ---- texts
 
@@ -204,11 +205,17 @@ module _ (d : Description) (typed : HasTypedRows d) where
   target_line : (t : TableNo) (k : ℕ) → IsPiece (route_target_id d t k)
   target_line t k = let lines = table_lines d t typed in let route = lines.routes k in route.target
 
-  far_line : (t : TgwTableNo) (k : ℕ) → IsPiece (tgw_route_attachment d t k)
-  far_line t k = let lines = tgw_lines d t typed in lines.routes k
+  named_line : (t : TgwTableNo) (k : ℕ) → IsPiece (tgw_route_attachment d t k)
+  named_line t k = let lines = tgw_lines d t typed in lines.routes k
+
+  far_line : (k : FarNo) → (let row = far_at d k in IsPiece row.id)
+  far_line k = word_piece _ (IsShortWord-far d k typed.fars)
+
+  firewall_line : (e : FirewallNo) → (let row = firewall_at d e in IsPiece row.id)
+  firewall_line e = id_at (λ (x : FirewallEndpoint). x.id) d.firewalls e.0 _ typed.firewalls no_piece
 
   pub end_line : (e : End) → IsPiece (end_id d e)
-  end_line e = word_piece _ (IsShortWord-end_id d e typed.interfaces)
+  end_line e = word_piece _ (IsShortWord-end_id d e typed.interfaces typed.fars)
 
   place_line : (p : Place) → IsPiece (place_id d p)
   place_line (places.OutOf i) = interface_line i
@@ -223,6 +230,9 @@ module _ (d : Description) (typed : HasTypedRows d) where
   place_line (places.Peer x v) = peering_line x
   place_line (places.Tgw a s) = attachment_line a
   place_line (places.TgwLeave a s) = attachment_line a
+  place_line (places.FarOut k) = far_line k
+  place_line (places.FarIn k) = far_line k
+  place_line (places.Inspect e) = firewall_line e
 
   foreign_line : (f : Foreign) → IsPiece (foreign_id d f)
   foreign_line (foreign.Target t k) = target_line t k
@@ -230,7 +240,7 @@ module _ (d : Description) (typed : HasTypedRows d) where
   foreign_line (foreign.Peering x) = peering_line x
   foreign_line (foreign.Attachment a) = attachment_line a
   foreign_line (foreign.Table t) = tgw_table_line t
-  foreign_line (foreign.FarAttachment t k) = far_line t k
+  foreign_line (foreign.FarAttachment t k) = named_line t k
 
   component_line : (c : Component) → IsPiece (component_id d c)
   component_line (at.Interface i) = interface_line i

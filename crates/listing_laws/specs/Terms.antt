@@ -8,7 +8,7 @@ pub use Rattle.listing_check.specs.Answered.{origins_of}
 pub use Rattle.listing_check.specs.Asked.{IsTrueOf}
 pub use Rattle.listing_laws.specs.DiffTexts.{DiffTextsAreTrue, DiffTextsFit, DiffTextsPass}
 pub use Rattle.listing_laws.specs.Networks.{CanBeListed}
-pub use Rattle.listing_laws.specs.Typed.{HasTypedInterfaces, HasTypedRows}
+pub use Rattle.listing_laws.specs.Typed.{HasTypedFars, HasTypedInterfaces, HasTypedRows}
 pub use Rattle.listing_reader.specs.Printed.{Printed, lines_from, lists_of}
 pub use Rattle.listing_reader.specs.ReadsBack.{ArePrintable, IsPrintable}
 pub use Rattle.listing_text.specs.Texts.{given_words, told_lines_from}

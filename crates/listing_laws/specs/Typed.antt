@@ -19,6 +19,11 @@ pub record IsTyped (e : Interface) : Type 0 where
 abbrev pub HasTypedInterfaces : Description → Type 0
 HasTypedInterfaces d = All IsTyped d.interfaces
 
+-- ---- networks that aren't described
+
+abbrev pub HasTypedFars : Description → Type 0
+HasTypedFars d = All (λ f. is_id f.id ≡ true) d.fars
+
 -- ---- routes
 
 -- the id of a prefix list
@@ -54,3 +59,5 @@ pub record HasTypedRows (d : Description) : Type 0 where
   pub peerings : All (λ x. is_id x.id ≡ true) d.peerings
   pub attachments : All (λ a. is_id a.id ≡ true) d.attachments
   pub tgw_tables : All IsTypedTgwTable d.tgw_tables
+  pub fars : HasTypedFars d
+  pub firewalls : All (λ e. is_id e.id ≡ true) d.firewalls

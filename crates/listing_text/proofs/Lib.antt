@@ -5,3 +5,4 @@ pub mod SideLemmas
 pub mod BodyLemmas
 pub mod Orders
 pub mod Decided
+pub mod OutsideLemmas

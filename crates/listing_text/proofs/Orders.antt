@@ -1,5 +1,5 @@
 -- Starts that are asked in another order.
-use Rattle.std.proofs.Common.{◌≡◌, ◌∙◌, ◌+◌, ◌++◌, ◌∷◌, [], Bool, Contains, List, ap, arith, cond, false, filter, map, refl, subst, sum_by, sym, true, ℕ, ⊎_elim}
+use Rattle.std.proofs.Common.{◌≡◌, ◌∙◌, ◌+◌, ◌++◌, ◌∷◌, [], Bool, Contains, List, ap, ap₂, arith, cond, false, filter, map, refl, subst, sum_by, sym, true, ℕ, ⊎_elim}
 use Rattle.std.proofs.lemmas.List.Elements.{Contains-append_cases, Contains-append_left, Contains-append_right}
 use Rattle.std.proofs.lemmas.List.Sorted.{Contains-permutation, IsPermutation-sym, sum_by-IsPermutation}
 use Rattle.std.proofs.lemmas.List.Sums.{sum_by-append, sum_by-cons}
@@ -21,12 +21,12 @@ alike-orders all xs ys a b = record {
   members = λ x h. Contains-permutation all ys x b (Contains-permutation xs all x (IsPermutation-sym all xs a) h);
 }
 
-pub alike-after : {X : Type 0} (first xs ys : List X) → AreAlike xs ys → AreAlike (first ++ xs) (first ++ ys)
-alike-after first xs ys a = record {
-  sums = λ f. sum_by-append f first xs ∙ (ap (λ (n : ℕ). sum_by f first + n) (a.sums f) ∙ sym (sum_by-append f first ys));
+pub alike-joined : {X : Type 0} (xs ys us vs : List X) → AreAlike xs ys → AreAlike us vs → AreAlike (xs ++ us) (ys ++ vs)
+alike-joined xs ys us vs a b = record {
+  sums = λ f. sum_by-append f xs us ∙ (ap₂ (λ (m n : ℕ). m + n) (a.sums f) (b.sums f) ∙ sym (sum_by-append f ys vs));
   members = λ x h.
-      ⊎_elim (λ (here : Contains first x). Contains-append_left first ys x here)
-      (λ (there : Contains xs x). Contains-append_right first ys x (a.members x there)) (Contains-append_cases first xs x h);
+      ⊎_elim (λ (here : Contains xs x). Contains-append_left ys vs x (a.members x here))
+      (λ (there : Contains us x). Contains-append_right ys vs x (b.members x there)) (Contains-append_cases xs us x h);
 }
 
 -- ---- those that a test keeps

@@ -1,5 +1,11 @@
 -- Lists that are in one order and have the same members are the same.
-use Rattle.std.proofs.Common.{◌≡◌, ◌∙◌, ◌∷◌, ◌⊎◌, [], AllPairs, Contains, List, ap, arith, inl, inr, refl, subst, suc, sym}
+use Rattle.std.proofs.Common.{◌≡◌, ◌∙◌, ◌∷◌, ◌⊎◌, [], AllPairs, Contains, List, ap, arith, inl, inr, refl, subst, suc, sym, ℕ}
+use Rattle.std.specs.Cmp.Lexicographic.{slice_cmp}
+use Rattle.std.specs.List.Sorted.{IsPermutation}
+use Rattle.std.specs.Ordering.{nat_cmp, ordering_reverse}
+use Rattle.std.specs.declared.cmp.Ordering.TheVariants.{Greater, Less}
+use Rattle.std.proofs.lemmas.Cmp.{nat_list_cmp_total}
+use Rattle.std.proofs.lemmas.List.Sorted.{Contains-permutation, IsPermutation-sym}
 use Rattle.vpc_base.proofs.Members.{Contains-cases, Contains-later, Contains-none}
 use Rattle.vpc_base.proofs.Pairs.{AllPairs-tail}
 
@@ -35,3 +41,19 @@ module _ {X : Type 0} (R : X → X → Type 0) (one_way : (a b : X) → R a b �
       (λ z later. still_later y x z ys xs (sym first) up_y later (Contains-cases x z xs (back z (Contains-later y ys z later))))
       in
       ap (λ (l : List X). x ∷ l) rest ∙ ap (λ (z : X). z ∷ ys) first
+
+-- ---- in the order of their ids
+
+comes_one_way : (x y : List ℕ) → slice_cmp nat_cmp x y ≡ Less → slice_cmp nat_cmp y x ≡ Less → ⊥
+comes_one_way x y first second =
+    let other = nat_list_cmp_total.antisymm y x in
+    let wrong : Less ≡ Greater = sym second ∙ (other ∙ ap ordering_reverse first) in
+    cc
+
+among_both : {X : Type 0} (all xs ys : List X) → IsPermutation all xs → IsPermutation all ys → (z : X) → Contains xs z → Contains ys z
+among_both all xs ys a b z h = Contains-permutation all ys z b (Contains-permutation xs all z (IsPermutation-sym all xs a) h)
+
+pub same_by_id : {X : Type 0} (id : X → List ℕ) (all xs ys : List X) → IsPermutation all xs → IsPermutation all ys → AllPairs (λ x y. slice_cmp nat_cmp (id x) (id y) ≡ Less) xs
+    → AllPairs (λ x y. slice_cmp nat_cmp (id x) (id y) ≡ Less) ys → xs ≡ ys
+same_by_id {X = X} id all xs ys a b up_x up_y =
+    same_in_order (λ (x y : X). slice_cmp nat_cmp (id x) (id y) ≡ Less) (λ (x y : X). comes_one_way (id x) (id y)) xs ys up_x up_y (among_both all xs ys a b) (among_both all ys xs b a)

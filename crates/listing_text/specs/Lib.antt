@@ -1,3 +1,4 @@
+pub mod Outside
 pub mod Sides
 pub mod Told
 pub mod Texts

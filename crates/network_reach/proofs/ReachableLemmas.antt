@@ -8,7 +8,7 @@ use Rattle.block_report.specs.Terms.{arrived_header, header_text, hop_lines, lin
 use Rattle.vpc_laws.proofs.Telling.{start-sound, walks_are_sound}
 use Rattle.vpc_laws.specs.Sound.{IsSoundHop}
 use Rattle.vpc_laws.specs.Types.{Description, End, Header, Hop, Outcome, Phase, Stop, Verdict}
-use Rattle.vpc_model.specs.Terms.{Appliances, IsAccepted, Walk, ending_of, hops_after, hops_of_reply, is_end, is_header, reply_hops, reply_walk, request_walk, same_end, start_of, verdict_of, verdict_of_arrival, verdict_of_reply, verdict_of_request}
+use Rattle.vpc_model.specs.Terms.{Appliances, IsAccepted, Walk, alone, ending_of, hops_after, hops_of_reply, is_end, is_header, reply_hops, reply_walk, request_walk, same_end, start_of, verdict_of, verdict_of_arrival, verdict_of_reply, verdict_of_request}
 use Rattle.vpc_model.specs.declared.outcomes.Outcome.TheVariants as outcomes
 use Rattle.vpc_model.specs.declared.outcomes.Phase.TheVariants as phases
 use Rattle.vpc_model.specs.declared.outcomes.Verdict.TheVariants as verdicts
@@ -37,25 +37,25 @@ tested false v other not is = absurd (not is)
 stopped : (phase : Phase) (s : Stop) → verdicts.Stopped phase s ≡ verdicts.Through → ⊥
 stopped phase s is = cc
 
-returned : (start : End) (h : Header) (o : Outcome) → verdict_of_reply start h o ≡ verdicts.Through → (k : Header) × (o ≡ outcomes.Arrived start k)
+returned : (start : End) (h : Header) (o : Outcome) → verdict_of_reply (alone start) h o ≡ verdicts.Through → (k : Header) × (o ≡ outcomes.Arrived start k)
 returned start h (outcomes.Stopped s) is = absurd (stopped phases.Reply s is)
 returned start h (outcomes.Arrived end k) is =
     let through = tested (same_end end start && is_header k (reply_of h)) verdicts.Through (verdicts.Stopped phases.Reply (stops.WrongReturn end)) (stopped phases.Reply (stops.WrongReturn end)) is in
     let parts = and_parts (same_end end start) (is_header k (reply_of h)) through.0 in
     (k, ap (λ (e : End). outcomes.Arrived e k) (same-only end start parts.0))
 
-answered : (d : Description) (a : Appliances) (start goal : End) (h : Header) (request : Walk) (o : Option Header) → verdict_of_arrival d a start goal h request o ≡ verdicts.Through
+answered : (d : Description) (a : Appliances) (start goal : End) (h : Header) (request : Walk) (o : Option Header) → verdict_of_arrival d a (alone start) goal h request o ≡ verdicts.Through
     → (r : Header) × ((o ≡ Some r) × ArrivesAt (reply_walk d a goal r request) start)
 answered d a start goal h request None is = absurd (stopped phases.Reply (stops.NoReply goal) is)
 answered d a start goal h request (Some r) is =
     let back = returned start h (let reply = reply_walk d a goal r request in reply.outcome) is in
     (r, (refl, record { header = back.0; outcome = back.1 }))
 
-arrived : (d : Description) (a : Appliances) (start goal : End) (h : Header) (request : Walk) (o : Outcome) → request.outcome ≡ o → verdict_of_request d a start goal h request o ≡ verdicts.Through
+arrived : (d : Description) (a : Appliances) (start goal : End) (h : Header) (request : Walk) (o : Outcome) → request.outcome ≡ o → verdict_of_request d a (alone start) goal h request o ≡ verdicts.Through
     → (here : ArrivesAt request goal) × ((r : Header) × ((reply_of here.header ≡ Some r) × ArrivesAt (reply_walk d a goal r request) start))
 arrived d a start goal h request (outcomes.Stopped s) at is = absurd (stopped phases.Request s is)
 arrived d a start goal h request (outcomes.Arrived end k) at is =
-    let through = tested (same_end end goal) (verdict_of_arrival d a start goal h request (reply_of k)) (verdicts.Stopped phases.Request (stops.WrongPlace end)) (stopped phases.Request (stops.WrongPlace end)) is in
+    let through = tested (same_end end goal) (verdict_of_arrival d a (alone start) goal h request (reply_of k)) (verdicts.Stopped phases.Request (stops.WrongPlace end)) (stopped phases.Request (stops.WrongPlace end)) is in
     (record { header = k; outcome = at ∙ ap (λ (e : End). outcomes.Arrived e k) (same-only end goal through.0) }, answered d a start goal h request (reply_of k) through.1)
 
 gets-through : (d : Description) (a : Appliances) (start goal : End) (h : Header) → verdict_of d a start goal h ≡ verdicts.Through → GetsThrough d a start goal h

@@ -3,12 +3,14 @@ use Rattle.std.proofs.Common.{Bool, Err, List, None, Ok, Option, Result, Some, a
 use Rattle.vpc_base.proofs.Lemmas.{bytes_self, le-leb, member-list_any, not-true, row-member}
 use Rattle.prefix_text.specs.Range.{range_of, range_text}
 use Rattle.prefix_text.proofs.RangeLaws.{range_of-range_text}
+use Rattle.query_words.specs.Ends.{end_with, far_named, known, opens, some_end, start_of}
 use Rattle.query_words.specs.Terms.{end_at, end_of, ends_of, not_both, pairs_of, primary_side, query_of, sides_of, some_ports, ◌>>=◌}
 use Rattle.query_words.specs.declared.queries.Query.{Query}
 use Rattle.query_words.specs.declared.refusal.QueryRefusal.{QueryRefusal}
 use Rattle.query_words.specs.declared.refusal.QueryRefusal.TheVariants as refusals
 use Rattle.vpc_laws.proofs.Numbering.{accepted_numbers_are_own}
 use Rattle.vpc_laws.specs.Types.{Box5, Description, End, EniNo, Interface}
+use Rattle.vpc_model.specs.Far.{far_of_id}
 use Rattle.vpc_model.specs.Terms.{IsAccepted, eni_no, has_interface, interface_at, is_gateway, no_interface}
 use Rattle.vpc_model.specs.declared.places.End.TheVariants as places
 use Rattle.described_hosts.specs.Hosts.{id_of}
@@ -18,9 +20,9 @@ use Rattle.reach_matrix.specs.Pairs.{address_of, has_primary, query_between, req
 -- ---- ends
 
 -- what a word that isn't `internet` names, where it is the id of a host
-chosen : (internet there : Bool) (n : ℕ) (end : Result End QueryRefusal) (i : EniNo) → internet ≡ false → there ≡ true → end ≡ Ok (places.Interface i)
-    → (if internet then Ok places.Internet else (if there then end else Err (refusals.UnknownId n))) ≡ Ok (places.Interface i)
-chosen internet there n end i one two three = rw (one, two, three) refl
+chosen : (internet there : Bool) (n : ℕ) (end : Result End QueryRefusal) (far : Result (Option End) QueryRefusal) (i : EniNo) → internet ≡ false → there ≡ true → end ≡ Ok (places.Interface i)
+    → (if internet then Ok places.Internet else ((if there then some_end end else far) >>= known n)) ≡ Ok (places.Interface i)
+chosen internet there n end far i one two three = rw (one, two, three) refl
 
 host-end : (d : Description) (i : EniNo) → (let e = interface_at d i in is_gateway e.kind ≡ false) → end_at d i ≡ Ok (places.Interface i)
 host-end d i host = rw host refl
@@ -31,12 +33,16 @@ is-there d i can =
     member-list_any (λ (x : Interface). bytes_eq x.id (id_of d i)) d.interfaces e (row-member d.interfaces i.0 no_interface can.addressed.described) (bytes_self e.id)
 
 end-is : (d : Description) (n : ℕ) (i : EniNo) → IsAccepted d → CanBeAsked d i
-    → (let id = id_of d i in if bytes_eq id (codes "internet") then Ok places.Internet else (if has_interface d id then end_at d (eni_no d id) else Err (refusals.UnknownId n))) ≡ Ok (places.Interface i)
+    → (let id = id_of d i in if bytes_eq id (codes "internet") then Ok places.Internet else (end_with d id >>= known n)) ≡ Ok (places.Interface i)
 end-is d n i accepted can =
     let own = accepted_numbers_are_own d accepted in
     let e = interface_at d i in
-    chosen (bytes_eq (id_of d i) (codes "internet")) (has_interface d (id_of d i)) n (end_at d (eni_no d (id_of d i))) i can.named (is-there d i can)
+    chosen (bytes_eq (id_of d i) (codes "internet")) (has_interface d (id_of d i)) n (end_at d (eni_no d (id_of d i))) (far_named d (far_of_id d (id_of d i))) i can.named (is-there d i can)
     (ap (end_at d) (own.interface i can.addressed.described) ∙ host-end d i (not-true (is_gateway e.kind) can.host))
+
+-- a host is no service
+host-opens : (d : Description) (n : ℕ) (end : Result End QueryRefusal) (i : EniNo) → end ≡ Ok (places.Interface i) → (end >>= opens d n) ≡ Ok (places.Interface i)
+host-opens d n end i is = rw is refl
 
 two-ends : (first second : Result End QueryRefusal) (start goal : End) → first ≡ Ok start → second ≡ Ok goal
     → (first >>= (λ s. second >>= (λ g. not_both s g))) ≡ not_both start goal
@@ -45,8 +51,9 @@ two-ends first second start goal one other = rw (one, other) refl
 ends-are : (file : List ℕ) (d : Description) (pair : EniNo × EniNo) (ports : ℕ × ℕ) → IsAccepted d → CanBeAsked d pair.0 → CanBeAsked d pair.1
     → ends_of d (words_about file d pair ports) ≡ Ok (record { start = places.Interface pair.0; goal = places.Interface pair.1 })
 ends-are file d pair ports accepted from to =
-    two-ends (end_of d (words_about file d pair ports) 4) (end_of d (words_about file d pair ports) 6) (places.Interface pair.0) (places.Interface pair.1)
-    (end-is d 4 pair.0 accepted from) (end-is d 6 pair.1 accepted to)
+    let words = words_about file d pair ports in
+    two-ends (start_of d words 4) (end_of d words 6) (places.Interface pair.0) (places.Interface pair.1)
+    (host-opens d 4 (end_of d words 4) pair.0 (end-is d 4 pair.0 accepted from)) (end-is d 6 pair.1 accepted to)
 
 -- ---- pairs of words
 

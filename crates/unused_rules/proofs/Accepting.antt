@@ -10,7 +10,7 @@ use Rattle.copied_rows.specs.Filters.{with_filters}
 use Rattle.vpc_laws.specs.Types.{Acl, Appliance, Association, Attachment, Description, Group, Interface, InternetGateway, NatGateway, Peering, Permission, PrefixList, RouteTable, Subnet, TgwTable, Vpc}
 use Rattle.vpc_laws.proofs.Accepting.{AreEmpty, accepted_is_faultless, faultless_is_accepted}
 use Rattle.vpc_laws.proofs.Lengths.{none-too_long, too_long-none, too_long_by_list}
-use Rattle.vpc_model.specs.Accepted.{Claim, IsAccepted, claims_of, clashes_after, duplicates_in, holds_twice, ids_by_list, interface_clashes, is_long, is_long_group, is_long_rule, missing_of_acl, missing_of_appliance, missing_of_attachment, missing_of_group, missing_of_igw, missing_of_interface, missing_of_life, missing_of_subnet, missing_of_table, missing_references, too_long, too_many_rows, two_acls, wanted, without_acl}
+use Rattle.vpc_model.specs.Accepted.{Claim, IsAccepted, claims_of, clashes_after, duplicates_in, holds_twice, ids_by_list, interface_clashes, is_long, is_long_group, is_long_rule, missing_of_acl, missing_of_appliance, missing_of_attachment, missing_of_firewall, missing_of_group, missing_of_igw, missing_of_interface, missing_of_life, missing_of_subnet, missing_of_table, missing_references, too_long, too_many_rows, two_acls, wanted, without_acl}
 use Rattle.vpc_model.specs.Lookup.{has_group, is_listed}
 use Rattle.vpc_model.specs.declared.refusals.ListName.{ListName}
 use Rattle.vpc_model.specs.declared.refusals.ListName.TheVariants as lists
@@ -124,7 +124,9 @@ references-same d acls groups rows rules none =
     let r6 = r5 ++ flat_map (missing_of_igw d) d.igws in
     let r7 = r6 ++ flat_map (λ (n : NatGateway). missing_of_life d n.id n.life) d.nats in
     let r8 = r7 ++ flat_map (missing_of_attachment d) d.attachments in
-    let p8 = append-nothing r8 (flat_map (missing_of_appliance d) d.appliances) none in
+    let r9 = r8 ++ flat_map (missing_of_appliance d) d.appliances in
+    let p9 = append-nothing r9 (flat_map (missing_of_firewall d) d.firewalls) none in
+    let p8 = append-nothing r8 (flat_map (missing_of_appliance d) d.appliances) p9.0 in
     let p7 = append-nothing r7 (flat_map (missing_of_attachment d) d.attachments) p8.0 in
     let p6 = append-nothing r6 (flat_map (λ (n : NatGateway). missing_of_life d n.id n.life) d.nats) p7.0 in
     let p5 = append-nothing r5 (flat_map (missing_of_igw d) d.igws) p6.0 in
@@ -132,7 +134,8 @@ references-same d acls groups rows rules none =
     let there : flat_map (missing_of_group d) groups ≡ flat_map (missing_of_group d) d.groups = missing-groups d groups rules p4.1 ∙ sym p4.1 in
     ap₂ (λ (e : List Refusal) (f : List Refusal × List Refusal).
     r1 ++ e ++ flat_map (missing_of_table d) d.tables ++ f.0 ++ f.1 ++ flat_map (missing_of_igw d) d.igws
-    ++ flat_map (λ (n : NatGateway). missing_of_life d n.id n.life) d.nats ++ flat_map (missing_of_attachment d) d.attachments ++ flat_map (missing_of_appliance d) d.appliances)
+    ++ flat_map (λ (n : NatGateway). missing_of_life d n.id n.life) d.nats ++ flat_map (missing_of_attachment d) d.attachments ++ flat_map (missing_of_appliance d) d.appliances
+    ++ flat_map (missing_of_firewall d) d.firewalls)
     (missing-interfaces d acls groups rules)
     (ap₂ (λ (a g : List Refusal). (a, g)) (missing-acls d acls rows) there)
     ∙ none

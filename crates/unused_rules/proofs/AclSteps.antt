@@ -2,9 +2,15 @@
 use Rattle.std.proofs.Common.{◌≡◌, ◌==◌, ◌∙◌, ◌∷◌, [], Bool, List, None, Option, Some, ap, ap₂, cond, refl, slice_index_or, sym, ℕ}
 use Rattle.copied_rows.specs.Filters.{with_filters}
 use Rattle.vpc_base.specs.declared.headers.Dir.TheVariants as dirs
-use Rattle.vpc_laws.specs.Types.{Acl, AclNo, AttNo, Description, Dir, EniNo, Header, IgwNo, Interface, Label, NatLife, NatNo, PeerNo, Place, RuleRef, Stop, SubnetNo, TableNo, Target, VpcNo}
+use Rattle.vpc_laws.specs.Types.{Acl, AclNo, AttNo, Description, Dir, EniNo, FarKind, FarNo, FirewallNo, Header, IgwNo, Interface, Label, NatLife, NatNo, PeerNo, Place, RuleRef, Stop, SubnetNo, TableNo, Target, VpcNo}
+use Rattle.vpc_model.specs.Far.{far_end_of_id, far_of_id, vpc_beside}
+use Rattle.vpc_model.specs.Firewalls.{entrance_table, firewall_of}
+use Rattle.vpc_model.specs.Step.Enter.{enter_by_route, enter_by_table, enter_firewall, enter_interface, enter_target}
+use Rattle.vpc_model.specs.Step.Inspect.{firewall_subnet}
+use Rattle.vpc_model.specs.Step.Router.{is_beside, to_far, to_firewall, to_half_peering, to_network_by, to_other}
 use Rattle.vpc_model.specs.Terms.{Appliances, Moment, Next, acl_at, acl_of, acl_verdict, attachment_for, by_route, chosen_route, crossing, deliver, eni_no, enter_host, entering, first_rule_of, gateway_of, go, group_of_id, has_vpc, host_of, igw_no, interface_at, is_attached, is_gateway, is_listed, leaving, nat_at, nat_no, no_route, or_else, other_side, peer_no, peering_at, rule_of_group, step_at, stop, subnet_at, subnet_no, subnet_of, table_at, table_of, to_host, to_interface, to_internet, to_nat, to_peer, to_target, to_transit, to_zone, unless_stopped, vpc_at, vpc_of_subnet, zone_subnet}
 use Rattle.vpc_model.specs.declared.places.Place.TheVariants as places
+use Rattle.vpc_model.specs.declared.rows.FarKind.TheVariants as fars
 use Rattle.vpc_model.specs.declared.rows.NatLife.TheVariants as lives
 use Rattle.vpc_model.specs.declared.rows.Target.TheVariants as targets
 use Rattle.vpc_model.specs.declared.stops.Foreign.TheVariants as foreign
@@ -13,7 +19,7 @@ use Rattle.std.specs.Prelude.{option_and_then}
 use Rattle.unused_rules.proofs.Alike.{Alike, first-alike, get_or-alike}
 use Rattle.unused_rules.proofs.NestedSteps.{IsSameStep}
 use Rattle.unused_rules.proofs.SameSteps.{LetPassTheSame, same-into, same-out}
-use Rattle.vpc_model.specs.Lookup.{no_acl}
+use Rattle.vpc_model.specs.Lookup.{far_at, no_acl}
 
 -- of the same subnets, and with the same verdict on a header
 pub record JudgeTheSame (h : Header) (a b : Acl) : Type 0 where
@@ -75,12 +81,21 @@ module _ (d : Description) (acls : List Acl) (h : Header) (alike : Alike (JudgeT
   to_nat-same s n (lives.Live subnet eni address) =
       ap (λ (o : Option Stop). unless_stopped o (go (places.NatOut n) h)) (crossing-same s (subnet_no d subnet))
 
+  to_far-same : (s : SubnetNo) (k : FarNo) → to_far e s h k ≡ to_far d s h k
+  to_far-same s k = ap (λ (o : Option Stop). unless_stopped o (go (places.FarOut k) h)) (leaving-same s)
+
+  to_half_peering-same : (s : SubnetNo) (x : PeerNo) (k : Option FarNo) → to_half_peering e s h x k ≡ to_half_peering d s h x k
+  to_half_peering-same s x None = refl
+  to_half_peering-same s x (Some k) = to_far-same s k
+
   to_peer-same : (s : SubnetNo) (x : PeerNo) (pair : Option (List ℕ × List ℕ)) → to_peer e s h x pair ≡ to_peer d s h x pair
   to_peer-same s x None = refl
   to_peer-same s x (Some pair) =
       let v = vpc_of_subnet d s in
       let row = vpc_at d v in
-      ap (λ (o : Option Stop). cond (has_vpc d (other_side row.id pair)) (unless_stopped o (go (places.Peer x v) h)) (stop (stops.Unmodelled (foreign.Peering x)))) (leaving-same s)
+      let peering = peering_at d x in
+      ap₂ (λ (o : Option Stop) (half : Next). cond (has_vpc d (other_side row.id pair)) (unless_stopped o (go (places.Peer x v) h)) half) (leaving-same s)
+      (to_half_peering-same s x (far_end_of_id d peering.id))
 
   to_zone-same : (s : SubnetNo) (a : AttNo) (t : Option SubnetNo) → to_zone e s h a t ≡ to_zone d s h a t
   to_zone-same s a None = refl
@@ -96,6 +111,23 @@ module _ (d : Description) (acls : List Acl) (h : Header) (alike : Alike (JudgeT
       let i = interface_at d j in
       ap (λ (o : Option Stop). unless_stopped o (cond (is_gateway i.kind) (stop (stops.NotAHost j)) (go (places.Into j) h))) (crossing-same s (subnet_of d j))
 
+  to_network-same : (s : SubnetNo) (t : TableNo) (k : ℕ) (far : FarNo) (kind : FarKind) → to_network_by e s h t k far kind ≡ to_network_by d s h t k far kind
+  to_network-same s t k far (fars.PrivateGateway vpc) =
+      ap (λ (x : Next). cond (is_beside (vpc_of_subnet d s) (vpc_beside d (far_at d far))) x (stop (stops.FarDetached far))) (to_far-same s far)
+  to_network-same s t k far (fars.Endpoint vpc) =
+      ap (λ (x : Next). cond (is_beside (vpc_of_subnet d s) (vpc_beside d (far_at d far))) x (stop (stops.Unmodelled (foreign.Target t k)))) (to_far-same s far)
+  to_network-same s t k far (fars.Attachment vpc) = refl
+  to_network-same s t k far (fars.Peering requester accepter) = refl
+
+  to_firewall-same : (s : SubnetNo) (t : TableNo) (k : ℕ) (f : Option FirewallNo) → to_firewall e s h t k f ≡ to_firewall d s h t k f
+  to_firewall-same s t k None = refl
+  to_firewall-same s t k (Some f) =
+      ap (λ (o : Option Stop). unless_stopped o (go (places.Inspect f) h)) (crossing-same s (firewall_subnet d f))
+
+  to_other-same : (s : SubnetNo) (t : TableNo) (k : ℕ) (id : List ℕ) (far : Option FarNo) → to_other e s h t k id far ≡ to_other d s h t k id far
+  to_other-same s t k id None = to_firewall-same s t k (firewall_of d (vpc_of_subnet d s) id)
+  to_other-same s t k id (Some far) = let row = far_at d far in to_network-same s t k far row.kind
+
   to_target-same : (s : SubnetNo) (t : TableNo) (k : ℕ) (target : Target) → to_target e s h t k target ≡ to_target d s h t k target
   to_target-same s t k targets.Local = to_host-same s (host_of d (vpc_of_subnet d s) h.dst)
   to_target-same s t k (targets.Internet id) = to_internet-same s (igw_no d id)
@@ -103,7 +135,7 @@ module _ (d : Description) (acls : List Acl) (h : Header) (alike : Alike (JudgeT
   to_target-same s t k (targets.Peer id) = let row = peering_at d (peer_no d id) in to_peer-same s (peer_no d id) row.pair
   to_target-same s t k (targets.Transit id) = to_transit-same s t k (attachment_for d id s)
   to_target-same s t k (targets.Interface id) = to_interface-same s (eni_no d id)
-  to_target-same s t k (targets.Other id) = refl
+  to_target-same s t k (targets.Other id) = to_other-same s t k id (far_of_id d id)
 
   by_route-same : (s : SubnetNo) (t : TableNo) (k : Option ℕ) → by_route e s h t k ≡ by_route d s h t k
   by_route-same s t None = refl
@@ -112,9 +144,40 @@ module _ (d : Description) (acls : List Acl) (h : Header) (alike : Alike (JudgeT
       let r = slice_index_or table.routes k no_route in
       ap (λ (x : Next). cond r.blackhole (stop (stops.Blackhole t k)) x) (to_target-same s t k r.target)
 
+  -- ---- into a VPC
+
   enter_host-same : (v : VpcNo) (i : Option EniNo) → enter_host e v h i ≡ enter_host d v h i
   enter_host-same v None = refl
   enter_host-same v (Some i) = ap (λ (o : Option Stop). unless_stopped o (deliver d i h)) (entering-same (subnet_of d i))
+
+  enter_interface-same : (j : EniNo) → enter_interface e h j ≡ enter_interface d h j
+  enter_interface-same j =
+      let i = interface_at d j in
+      ap (λ (o : Option Stop). unless_stopped o (cond (is_gateway i.kind) (stop (stops.NotAHost j)) (go (places.Into j) h))) (entering-same (subnet_of d j))
+
+  enter_firewall-same : (t : TableNo) (k : ℕ) (f : Option FirewallNo) → enter_firewall e h t k f ≡ enter_firewall d h t k f
+  enter_firewall-same t k None = refl
+  enter_firewall-same t k (Some f) = ap (λ (o : Option Stop). unless_stopped o (go (places.Inspect f) h)) (entering-same (firewall_subnet d f))
+
+  enter_target-same : (v : VpcNo) (t : TableNo) (k : ℕ) (target : Target) → enter_target e v h t k target ≡ enter_target d v h t k target
+  enter_target-same v t k targets.Local = enter_host-same v (host_of d v h.dst)
+  enter_target-same v t k (targets.Interface id) = enter_interface-same (eni_no d id)
+  enter_target-same v t k (targets.Other id) = enter_firewall-same t k (firewall_of d v id)
+  enter_target-same v t k (targets.Internet id) = refl
+  enter_target-same v t k (targets.Nat id) = refl
+  enter_target-same v t k (targets.Transit id) = refl
+  enter_target-same v t k (targets.Peer id) = refl
+
+  enter_by_route-same : (v : VpcNo) (t : TableNo) (k : Option ℕ) → enter_by_route e v h t k ≡ enter_by_route d v h t k
+  enter_by_route-same v t None = refl
+  enter_by_route-same v t (Some k) =
+      let table = table_at d t in
+      let r = slice_index_or table.routes k no_route in
+      ap (λ (x : Next). cond r.blackhole (stop (stops.Blackhole t k)) x) (enter_target-same v t k r.target)
+
+  enter_by_table-same : (v : VpcNo) (t : Option TableNo) → enter_by_table e v h t ≡ enter_by_table d v h t
+  enter_by_table-same v None = enter_host-same v (host_of d v h.dst)
+  enter_by_table-same v (Some t) = let table = table_at d t in enter_by_route-same v t (chosen_route d table.routes h.dst)
 
   -- ---- groups
 
@@ -137,5 +200,5 @@ same_by_acls d acls appliances label (places.Router s came) m alike =
     let table = table_at d t in
     record { next = by_route-same d acls m.header alike s t (chosen_route d table.routes m.header.dst); conns = refl; nats = refl }
 same_by_acls d acls appliances label (places.Enter v by) m alike =
-    record { next = enter_host-same d acls m.header alike v (host_of d v m.header.dst); conns = refl; nats = refl }
+    record { next = enter_by_table-same d acls m.header alike v (entrance_table d v by); conns = refl; nats = refl }
 same_by_acls d acls appliances label p m alike = record { next = refl; conns = refl; nats = refl }

@@ -97,6 +97,9 @@ pub is_end-same : (d : Description) (rule : RuleName) (end : End) → is_end (wi
 is_end-same d (rules.Permission r) end = refl
 is_end-same d (rules.AclRow a k) end = refl
 
+pub is_end-kept : (d : Description) (c : Chunk) (end : End) → is_end (without_chunk d c) end ≡ is_end d end
+is_end-kept d c end = refl
+
 -- ---- needs
 
 verdict-without : (d : Description) (rule : RuleName) (start goal : End) (h : Header)

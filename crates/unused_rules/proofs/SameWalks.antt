@@ -4,7 +4,7 @@ use Rattle.vpc_base.specs.Header.{reply_of}
 use Rattle.vpc_base.specs.declared.headers.Label.TheVariants as labels
 use Rattle.vpc_laws.proofs.Walking.{hop_at, moment}
 use Rattle.vpc_laws.specs.Types.{Description, End, Header, Hop, Label, Outcome, Place, Verdict}
-use Rattle.vpc_model.specs.Terms.{Appliances, Connection, Moment, Next, Step, Translation, Walk, arrive, go, is_visited, same_end, start_of, step_of, stop, verdict_of, verdict_of_arrival, verdict_of_reply, verdict_of_request, walk_of, walk_on}
+use Rattle.vpc_model.specs.Terms.{Appliances, Connection, Moment, Next, Step, Translation, Walk, alone, arrive, go, is_visited, same_end, start_of, step_of, stop, verdict_of, verdict_of_arrival, verdict_of_reply, verdict_of_request, walk_of, walk_on}
 use Rattle.vpc_model.specs.declared.outcomes.Outcome.TheVariants as outcomes
 use Rattle.vpc_model.specs.declared.outcomes.Phase.TheVariants as phases
 use Rattle.vpc_model.specs.declared.outcomes.Verdict.TheVariants as verdicts
@@ -89,18 +89,18 @@ module _ (d e : Description) (appliances : Appliances) (start goal : End) (h : H
   abbrev replied : Description → Header → List Connection → List Translation → Verdict
   replied x r conns nats =
       let w = walk_of x appliances labels.Answer (record { place = start_of goal; header = r; conns = conns; nats = nats }) in
-      verdict_of_reply start h w.outcome
+      verdict_of_reply (alone start) h w.outcome
 
   same-arrivals : (one two : Walk) → IsSameWalk two one → (r : Option Header) → ((k : Header) → r ≡ Some k → Back k)
-      → verdict_of_arrival e appliances start goal h two r ≡ verdict_of_arrival d appliances start goal h one r
+      → verdict_of_arrival e appliances (alone start) goal h two r ≡ verdict_of_arrival d appliances (alone start) goal h one r
   same-arrivals one two same None back = refl
   same-arrivals one two same (Some r) back =
       let m : Moment = record { place = start_of goal; header = r; conns = one.conns; nats = one.nats } in
       let walks = same_walks d e appliances labels.Answer At Back answered m there (back r refl) in
-      ap₂ (replied e r) same.conns same.nats ∙ ap (λ (o : Outcome). verdict_of_reply start h o) walks.same.outcome
+      ap₂ (replied e r) same.conns same.nats ∙ ap (λ (o : Outcome). verdict_of_reply (alone start) h o) walks.same.outcome
 
   same-ends : (one two : Walk) → IsSameWalk two one → (o : Outcome) → IfArrived Of o
-      → verdict_of_request e appliances start goal h two o ≡ verdict_of_request d appliances start goal h one o
+      → verdict_of_request e appliances (alone start) goal h two o ≡ verdict_of_request d appliances (alone start) goal h one o
   same-ends one two same (outcomes.Stopped s) has = refl
   same-ends one two same (outcomes.Arrived end k) has =
       ap (λ (v : Verdict). cond (same_end end goal) v (verdicts.Stopped phases.Request (stops.WrongPlace end)))
@@ -112,5 +112,5 @@ module _ (d e : Description) (appliances : Appliances) (start goal : End) (h : H
       let walks = same_walks d e appliances labels.Opening At Of asked m from own in
       let one = walk_of d appliances labels.Opening m in
       let two = walk_of e appliances labels.Opening m in
-      ap (λ (o : Outcome). verdict_of_request e appliances start goal h two o) walks.same.outcome
+      ap (λ (o : Outcome). verdict_of_request e appliances (alone start) goal h two o) walks.same.outcome
       ∙ same-ends one two walks.same one.outcome walks.arrived

@@ -4,22 +4,30 @@ use Rattle.std.proofs.lemmas.Bool.{cond_both}
 use Rattle.vpc_base.specs.declared.headers.Dir.TheVariants.{Inward, Outward}
 use Rattle.vpc_base.specs.declared.headers.Label.TheVariants.{Answer, Opening}
 use Rattle.vpc_model.specs.declared.outcomes.By.TheVariants as bys
-use Rattle.vpc_model.specs.declared.places.Place.TheVariants.{OutOf, Router, Enter, Into, IgwOut, Internet, IgwIn, NatOut, NatIn, Peer, Tgw, TgwLeave}
+use Rattle.vpc_model.specs.declared.places.Place.TheVariants.{OutOf, Router, Enter, Into, IgwOut, Internet, IgwIn, NatOut, NatIn, Peer, Tgw, TgwLeave, FarOut, FarIn, Inspect}
 use Rattle.vpc_model.specs.declared.places.EnterBy.TheVariants as through
+use Rattle.vpc_model.specs.declared.rows.FarKind.TheVariants as fars
 use Rattle.vpc_model.specs.declared.rows.NatLife.TheVariants as lives
 use Rattle.vpc_model.specs.declared.rows.Target.TheVariants as targets
 use Rattle.vpc_model.specs.declared.stops.Foreign.TheVariants as foreign
 use Rattle.vpc_model.specs.declared.stops.Stop.TheVariants as stops
 use Rattle.vpc_model.specs.declared.places.End.TheVariants.{Interface}
 use Rattle.vpc_laws.proofs.Flow.{taken_by}
-use Rattle.vpc_laws.specs.Types.{AttNo, Box5, By, Description, EniNo, Header, IgwNo, Label, NatLife, NatNo, PeerNo, Place, Stop, SubnetNo, TableNo, Target, TgwTableNo, VpcNo}
+use Rattle.vpc_laws.specs.Types.{AttNo, Block, Box5, By, Description, EniNo, Far, FarKind, FarNo, FirewallNo, Header, IgwNo, Label, NatLife, NatNo, PeerNo, Place, Stop, SubnetNo, TableNo, Target, TgwTableNo, VpcNo}
 use Rattle.vpc_laws.specs.Walk.{hop_of}
-use Rattle.vpc_model.specs.Terms.{Appliances, Connection, Moment, Next, Step, Translation, acl_of, arrive, attachment_for, attachment_of_id, blocked, boxes_at, by_attachment, by_pair, chosen_route, chosen_tgw_route, crossing, deliver, deliver_by, eni_no, enter_host, entering, forwarded, from_inward, gateway_of, go, go_private, go_public, has_address, has_block, has_vpc, host_of, igw_no, in_passing, interface_at, inward, is_attached, is_blocked, is_full, is_gateway, is_translatable, is_unroutable, leave_by, leave_subnet, leaving, nat_at, nat_no, nat_of, no_route, no_tgw_route, or_else, other_side, out_passing, over_peering, owner_of, passes, passing_of, peer_no, peering_at, private_of, public_of, step_at, step_internet, step_into, step_nat_in, step_nat_out, step_of, step_out, stop, subnet_no, subnet_of, table_at, table_of, table_of_attachment, tgw_table_at, to_attachment, to_owner, translate, translation_of, unless_stopped, vpc_at, vpc_no, vpc_of_subnet, zone_subnet}
+use Rattle.vpc_model.specs.Terms.{Appliances, Connection, Moment, Next, Step, Translation, acl_of, arrive, attachment_for, attachment_of_id, blocked, boxes_at, by_pair, chosen_route, chosen_tgw_route, crossing, deliver, deliver_by, eni_no, entering, forwarded, from_inward, gateway_of, go, go_private, go_public, has_address, has_block, has_vpc, host_of, igw_no, in_passing, interface_at, inward, is_attached, is_blocked, is_full, is_gateway, is_translatable, is_unroutable, leave_by, leave_subnet, leaving, nat_at, nat_no, nat_of, no_route, no_tgw_route, or_else, other_side, out_passing, over_peering, owner_of, passes, passing_of, peer_no, peering_at, private_of, public_of, step_at, step_internet, step_into, step_nat_in, step_nat_out, step_of, step_out, stop, subnet_no, subnet_of, table_at, table_of, table_of_attachment, tgw_table_at, to_owner, translate, translation_of, unless_stopped, vpc_at, vpc_no, vpc_of_subnet, zone_subnet}
+use Rattle.vpc_model.specs.Far.{blocks_beyond, far_end_of_id, far_of_id, is_within, peering_to, table_of_attachment_id, vpc_beside}
+use Rattle.vpc_model.specs.Firewalls.{boxes_behind, entrance_table, firewall_of}
+use Rattle.vpc_model.specs.Lookup.{attachment_at, far_at}
 use Rattle.vpc_model.specs.Step.Crossing.{refused_in, refused_out}
+use Rattle.vpc_model.specs.Step.Enter as entrances
+use Rattle.vpc_model.specs.Step.Far as outside
+use Rattle.vpc_model.specs.Step.Inspect.{firewall_subnet, step_inspect}
 use Rattle.vpc_model.specs.Step.Router as model
 use Rattle.vpc_model.specs.Step.Transit as transits
+use Rattle.vpc_model.specs.Transit.{first_described}
 use Rattle.walk_reasons.specs.Borders as borders
-use Rattle.walk_reasons.specs.Decisions.{Decision, acl, by_group, by_route, by_tgw_route, by_tgw_table, decided, decided_at, judged, verdict_at}
+use Rattle.walk_reasons.specs.Decisions.{Decision, acl, at_table, by_entrance, by_group, by_route, by_tgw_route, by_tgw_table, decided, decided_at, from_outside, judged, verdict_at}
 use Rattle.walk_reasons.specs.Laws.{Explain, decided_stop, stopped_by}
 use Rattle.walk_reasons.specs.declared.borders.Borders.{Borders}
 
@@ -123,13 +131,62 @@ leave_by-quiet a h (Some s) = refl
 
 -- ---- transit gateways
 
-to_attachment-quiet : (entered : SubnetNo) (h : Header) (t : TgwTableNo) (k : ℕ) (a : Option AttNo) → Quiet (to_attachment entered h t k a)
-to_attachment-quiet entered h t k None = refl
-to_attachment-quiet entered h t k (Some a) = refl
+to_first-quiet : (h : Header) (a : AttNo) (s : Option SubnetNo) → Quiet (transits.to_first h a s)
+to_first-quiet h a None = refl
+to_first-quiet h a (Some s) = refl
 
-by_attachment-quiet : (d : Description) (entered : SubnetNo) (h : Header) (t : TgwTableNo) (k : ℕ) (id : Option (List ℕ)) → Quiet (by_attachment d entered h t k id)
+to_leave-quiet : (d : Description) (h : Header) (a : AttNo) (entered : Option SubnetNo) → Quiet (transits.to_leave d h a entered)
+to_leave-quiet d h a None = let row = attachment_at d a in to_first-quiet h a (first_described d row.subnets)
+to_leave-quiet d h a (Some s) = refl
+
+to_attachment-quiet : (d : Description) (entered : Option SubnetNo) (h : Header) (t : TgwTableNo) (k : ℕ) (a : Option AttNo)
+    → Quiet (transits.to_attachment d entered h t k a)
+to_attachment-quiet d entered h t k None = refl
+to_attachment-quiet d entered h t k (Some a) = to_leave-quiet d h a entered
+
+to_attached-quiet : (d : Description) (entered : Option SubnetNo) (h : Header) (t : TgwTableNo) (k : ℕ) (id : List ℕ) (far : Option FarNo)
+    → Quiet (transits.to_attached d entered h t k id far)
+to_attached-quiet d entered h t k id None = to_attachment-quiet d entered h t k (attachment_of_id d id)
+to_attached-quiet d entered h t k id (Some far) = refl
+
+by_attachment-quiet : (d : Description) (entered : Option SubnetNo) (h : Header) (t : TgwTableNo) (k : ℕ) (id : Option (List ℕ))
+    → Quiet (transits.by_attachment d entered h t k id)
 by_attachment-quiet d entered h t k None = refl
-by_attachment-quiet d entered h t k (Some id) = to_attachment-quiet entered h t k (attachment_of_id d id)
+by_attachment-quiet d entered h t k (Some id) = to_attached-quiet d entered h t k id (far_end_of_id d id)
+
+-- ---- networks that aren't described, and firewalls
+
+over_half_peering-quiet : (d : Description) (k : FarNo) (x : PeerNo) (h : Header) (beyond : List Block) (v : Option VpcNo)
+    → Quiet (outside.over_half_peering d k x h beyond v)
+over_half_peering-quiet d k x h beyond None = refl
+over_half_peering-quiet d k x h beyond (Some v) =
+    cond_both (not (has_block d v h.src)) _ _ Quiet (λ _. refl) (λ _. cond_both (not (is_within beyond h.dst)) _ _ Quiet (λ _. refl) (λ _. refl))
+
+to_service-quiet : (d : Description) (k : FarNo) (h : Header) (v : Option VpcNo) → Quiet (outside.to_service d k h v)
+to_service-quiet d k h None = refl
+to_service-quiet d k h (Some v) = cond_both (has_block d v h.src) _ _ Quiet (λ _. refl) (λ _. refl)
+
+out_by-quiet : (d : Description) (k : FarNo) (f : Far) (h : Header) (kind : FarKind) → Quiet (outside.out_by d k f h kind)
+out_by-quiet d k f h (fars.PrivateGateway vpc) = refl
+out_by-quiet d k f h (fars.Attachment vpc) = refl
+out_by-quiet d k f h (fars.Peering requester accepter) = over_half_peering-quiet d k (peering_to d f) h (blocks_beyond d f) (vpc_beside d f)
+out_by-quiet d k f h (fars.Endpoint vpc) = to_service-quiet d k h (vpc_beside d f)
+
+in_by_gateway-quiet : (k : FarNo) (h : Header) (v : Option VpcNo) → Quiet (outside.in_by_gateway k h v)
+in_by_gateway-quiet k h None = refl
+in_by_gateway-quiet k h (Some v) = refl
+
+in_by_peering-quiet : (d : Description) (x : PeerNo) (h : Header) (beyond : List Block) (v : Option VpcNo) → Quiet (outside.in_by_peering d x h beyond v)
+in_by_peering-quiet d x h beyond None = refl
+in_by_peering-quiet d x h beyond (Some v) =
+    cond_both (not (is_within beyond h.src)) _ _ Quiet (λ _. refl) (λ _. cond_both (not (has_block d v h.dst)) _ _ Quiet (λ _. refl) (λ _. refl))
+
+in_by_endpoint-quiet : (label : Label) (k : FarNo) (h : Header) (v : Option VpcNo) → Quiet (outside.in_by_endpoint label k h v)
+in_by_endpoint-quiet Opening k h v = refl
+in_by_endpoint-quiet Answer k h v = in_by_gateway-quiet k h v
+
+inspect-quiet : (d : Description) (e : FirewallNo) (m : Moment) → Quiet (step_inspect d e m).next
+inspect-quiet d e m = cond_both (passes (boxes_behind d e) m.header) _ _ Quiet (λ _. refl) (λ _. refl)
 
 -- ---- routes
 
@@ -140,18 +197,30 @@ route-explains : (d : Description) (b : Bool) (s : Stop) (next : Next) (rest : B
 route-explains d true s next rest none tells explains = inr (ap is_some tells, (sym tells, none))
 route-explains d false s next rest none tells explains = inl (refl, explains)
 
-by_tgw_route-explains : (d : Description) (entered : SubnetNo) (h : Header) (t : TgwTableNo) (k : Option ℕ)
+by_tgw_route-explains : (d : Description) (entered : Option SubnetNo) (h : Header) (t : TgwTableNo) (k : Option ℕ)
     → Explain d (stopped_by (transits.by_tgw_route d entered h t k)) (by_tgw_route t k)
 by_tgw_route-explains d entered h t None = refl
 by_tgw_route-explains d entered h t (Some k) =
     let table = tgw_table_at d t in
     let r = slice_index_or table.routes k no_tgw_route in
-    route-explains d r.blackhole (stops.TgwBlackhole t k) (by_attachment d entered h t k r.attachment) (λ b. []) refl refl (by_attachment-quiet d entered h t k r.attachment)
+    route-explains d r.blackhole (stops.TgwBlackhole t k) (transits.by_attachment d entered h t k r.attachment) (λ b. []) refl refl (by_attachment-quiet d entered h t k r.attachment)
 
 by_tgw_table-explains : (d : Description) (a : AttNo) (entered : SubnetNo) (h : Header) (t : Option TgwTableNo)
     → Explain d (stopped_by (transits.by_tgw_table d a entered h t)) (by_tgw_table d h t)
 by_tgw_table-explains d a entered h None = refl
-by_tgw_table-explains d a entered h (Some t) = let table = tgw_table_at d t in by_tgw_route-explains d entered h t (chosen_tgw_route table.routes h.dst)
+by_tgw_table-explains d a entered h (Some t) = let table = tgw_table_at d t in by_tgw_route-explains d (Some entered) h t (chosen_tgw_route table.routes h.dst)
+
+in_by_attachment-explains : (d : Description) (k : FarNo) (h : Header) (t : Option TgwTableNo)
+    → Explain d (stopped_by (outside.in_by_attachment d k h t)) (by_tgw_table d h t)
+in_by_attachment-explains d k h None = refl
+in_by_attachment-explains d k h (Some t) = let table = tgw_table_at d t in by_tgw_route-explains d None h t (chosen_tgw_route table.routes h.dst)
+
+in_by-explains : (d : Description) (label : Label) (k : FarNo) (f : Far) (h : Header) (kind : FarKind)
+    → Explain d (stopped_by (outside.in_by d label k f h kind)) (from_outside d h f kind)
+in_by-explains d label k f h (fars.PrivateGateway vpc) = in_by_gateway-quiet k h (vpc_beside d f)
+in_by-explains d label k f h (fars.Attachment vpc) = in_by_attachment-explains d k h (table_of_attachment_id d f.id)
+in_by-explains d label k f h (fars.Peering requester accepter) = in_by_peering-quiet d (peering_to d f) h (blocks_beyond d f) (vpc_beside d f)
+in_by-explains d label k f h (fars.Endpoint vpc) = in_by_endpoint-quiet label k h (vpc_beside d f)
 
 -- ---- ACLs
 
@@ -218,13 +287,23 @@ module _ (d : Description) (s : SubnetNo) (h : Header) where
   to_nat-explains n lives.Unmodelled = refl
   to_nat-explains n (lives.Live subnet eni address) = across-explains d h (go (NatOut n) h) refl s (subnet_no d subnet)
 
-  to_peer-explains : (x : PeerNo) (pair : Option (List ℕ × List ℕ)) → Explain d (stopped_by (model.to_peer d s h x pair)) (judged d h (borders.to_peer d s pair))
+  to_far-explains : (k : FarNo) → Explain d (stopped_by (model.to_far d s h k)) (judged d h (borders.out_of s))
+  to_far-explains k = out_of-explains d h (go (FarOut k) h) refl s
+
+  to_half_peering-explains : (x : PeerNo) (k : Option FarNo) → Explain d (stopped_by (model.to_half_peering d s h x k)) (judged d h (borders.to_outside s k))
+  to_half_peering-explains x None = refl
+  to_half_peering-explains x (Some k) = to_far-explains k
+
+  to_peer-explains : (x : PeerNo) (pair : Option (List ℕ × List ℕ))
+      → Explain d (stopped_by (model.to_peer d s h x pair)) (judged d h (let row = peering_at d x in borders.to_peer d s row.id pair))
   to_peer-explains x None = refl
   to_peer-explains x (Some pair) =
       let v = vpc_of_subnet d s in
       let row = vpc_at d v in
-      either-explains d h (has_vpc d (other_side row.id pair)) (unless_stopped (leaving d s h) (go (Peer x v) h)) (stop (stops.Unmodelled (foreign.Peering x))) (borders.out_of s) borders.no_borders
-      (out_of-explains d h (go (Peer x v) h) refl s) refl
+      let peering = peering_at d x in
+      let far = far_end_of_id d peering.id in
+      either-explains d h (has_vpc d (other_side row.id pair)) (unless_stopped (leaving d s h) (go (Peer x v) h)) (model.to_half_peering d s h x far) (borders.out_of s) (borders.to_outside s far)
+      (out_of-explains d h (go (Peer x v) h) refl s) (to_half_peering-explains x far)
 
   to_zone-explains : (a : AttNo) (t : Option SubnetNo) → Explain d (stopped_by (model.to_zone d s h a t)) (judged d h (borders.to_zone s t))
   to_zone-explains a None = refl
@@ -240,6 +319,25 @@ module _ (d : Description) (s : SubnetNo) (h : Header) where
       across-explains d h (cond (is_gateway e.kind) (stop (stops.NotAHost j)) (go (Into j) h))
       (cond_both (is_gateway e.kind) (stop (stops.NotAHost j)) (go (Into j) h) Quiet (λ _. refl) (λ _. refl)) s (subnet_of d j)
 
+  to_network-explains : (t : TableNo) (k : ℕ) (far : FarNo) (kind : FarKind)
+      → Explain d (stopped_by (model.to_network_by d s h t k far kind)) (judged d h (borders.to_network_by d s far kind))
+  to_network-explains t k far (fars.PrivateGateway vpc) =
+      either-explains d h (model.is_beside (vpc_of_subnet d s) (vpc_beside d (far_at d far))) (model.to_far d s h far) (stop (stops.FarDetached far)) (borders.out_of s) borders.no_borders
+      (to_far-explains far) refl
+  to_network-explains t k far (fars.Endpoint vpc) =
+      either-explains d h (model.is_beside (vpc_of_subnet d s) (vpc_beside d (far_at d far))) (model.to_far d s h far) (stop (stops.Unmodelled (foreign.Target t k))) (borders.out_of s) borders.no_borders
+      (to_far-explains far) refl
+  to_network-explains t k far (fars.Attachment vpc) = refl
+  to_network-explains t k far (fars.Peering requester accepter) = refl
+
+  to_firewall-explains : (t : TableNo) (k : ℕ) (e : Option FirewallNo) → Explain d (stopped_by (model.to_firewall d s h t k e)) (judged d h (borders.to_firewall d s e))
+  to_firewall-explains t k None = refl
+  to_firewall-explains t k (Some e) = across-explains d h (go (Inspect e) h) refl s (firewall_subnet d e)
+
+  to_other-explains : (t : TableNo) (k : ℕ) (id : List ℕ) (far : Option FarNo) → Explain d (stopped_by (model.to_other d s h t k id far)) (judged d h (borders.to_other d s id far))
+  to_other-explains t k id None = to_firewall-explains t k (firewall_of d (vpc_of_subnet d s) id)
+  to_other-explains t k id (Some far) = let row = far_at d far in to_network-explains t k far row.kind
+
   to_target-explains : (t : TableNo) (k : ℕ) (target : Target) → Explain d (stopped_by (model.to_target d s h t k target)) (judged d h (borders.to_target d s h target))
   to_target-explains t k targets.Local = to_host-explains (host_of d (vpc_of_subnet d s) h.dst)
   to_target-explains t k (targets.Internet id) = to_internet-explains (igw_no d id)
@@ -247,7 +345,7 @@ module _ (d : Description) (s : SubnetNo) (h : Header) where
   to_target-explains t k (targets.Peer id) = let row = peering_at d (peer_no d id) in to_peer-explains (peer_no d id) row.pair
   to_target-explains t k (targets.Transit id) = to_transit-explains t k (attachment_for d id s)
   to_target-explains t k (targets.Interface id) = to_interface-explains (eni_no d id)
-  to_target-explains t k (targets.Other id) = refl
+  to_target-explains t k (targets.Other id) = to_other-explains t k id (far_of_id d id)
 
   by_route-explains : (t : TableNo) (k : Option ℕ) → Explain d (stopped_by (model.by_route d s h t k)) (by_route d s h t k)
   by_route-explains t None = refl
@@ -257,9 +355,43 @@ module _ (d : Description) (s : SubnetNo) (h : Header) where
       route-explains d r.blackhole (stops.Blackhole t k) (model.to_target d s h t k r.target) (λ b. judged d h (cond b borders.no_borders (borders.to_target d s h r.target))) refl refl
       (to_target-explains t k r.target)
 
-enter_host-explains : (d : Description) (v : VpcNo) (h : Header) (i : Option EniNo) → Explain d (stopped_by (enter_host d v h i)) (judged d h (borders.of_host d i))
-enter_host-explains d v h None = refl
-enter_host-explains d v h (Some i) = into-explains d h (deliver d i h) (deliver-quiet d i h) (subnet_of d i)
+-- ---- into VPCs
+
+module _ (d : Description) (v : VpcNo) (h : Header) where
+  enter_host-explains : (i : Option EniNo) → Explain d (stopped_by (entrances.enter_host d v h i)) (judged d h (borders.of_host d i))
+  enter_host-explains None = refl
+  enter_host-explains (Some i) = into-explains d h (deliver d i h) (deliver-quiet d i h) (subnet_of d i)
+
+  enter_interface-explains : (j : EniNo) → Explain d (stopped_by (entrances.enter_interface d h j)) (judged d h (borders.into (subnet_of d j)))
+  enter_interface-explains j =
+      let e = interface_at d j in
+      into-explains d h (cond (is_gateway e.kind) (stop (stops.NotAHost j)) (go (Into j) h))
+      (cond_both (is_gateway e.kind) (stop (stops.NotAHost j)) (go (Into j) h) Quiet (λ _. refl) (λ _. refl)) (subnet_of d j)
+
+  enter_firewall-explains : (t : TableNo) (k : ℕ) (e : Option FirewallNo) → Explain d (stopped_by (entrances.enter_firewall d h t k e)) (judged d h (borders.of_firewall d e))
+  enter_firewall-explains t k None = refl
+  enter_firewall-explains t k (Some e) = into-explains d h (go (Inspect e) h) refl (firewall_subnet d e)
+
+  enter_target-explains : (t : TableNo) (k : ℕ) (target : Target) → Explain d (stopped_by (entrances.enter_target d v h t k target)) (judged d h (borders.of_target d v h target))
+  enter_target-explains t k targets.Local = enter_host-explains (host_of d v h.dst)
+  enter_target-explains t k (targets.Interface id) = enter_interface-explains (eni_no d id)
+  enter_target-explains t k (targets.Other id) = enter_firewall-explains t k (firewall_of d v id)
+  enter_target-explains t k (targets.Internet id) = refl
+  enter_target-explains t k (targets.Nat id) = refl
+  enter_target-explains t k (targets.Transit id) = refl
+  enter_target-explains t k (targets.Peer id) = refl
+
+  enter_by_route-explains : (t : TableNo) (k : Option ℕ) → Explain d (stopped_by (entrances.enter_by_route d v h t k)) (by_entrance d v h t k)
+  enter_by_route-explains t None = refl
+  enter_by_route-explains t (Some k) =
+      let table = table_at d t in
+      let r = slice_index_or table.routes k no_route in
+      route-explains d r.blackhole (stops.Blackhole t k) (entrances.enter_target d v h t k r.target) (λ b. judged d h (cond b borders.no_borders (borders.of_target d v h r.target))) refl refl
+      (enter_target-explains t k r.target)
+
+  enter_by_table-explains : (t : Option TableNo) → Explain d (stopped_by (entrances.enter_by_table d v h t)) (at_table d v h t)
+  enter_by_table-explains None = enter_host-explains (host_of d v h.dst)
+  enter_by_table-explains (Some t) = let table = table_at d t in enter_by_route-explains t (chosen_route d table.routes h.dst)
 
 -- ---- all places
 
@@ -270,7 +402,7 @@ step_at-explains d appliances label (Router s came) m =
     let t = table_of d s in
     let table = table_at d t in
     by_route-explains d s m.header t (chosen_route d table.routes m.header.dst)
-step_at-explains d appliances label (Enter v by) m = enter_host-explains d v m.header (host_of d v m.header.dst)
+step_at-explains d appliances label (Enter v by) m = enter_by_table-explains d v m.header (entrance_table d v by)
 step_at-explains d appliances label (Into i) m = groups-explain d (step_into d appliances label i m) (step_into-quiet d appliances label i m)
 step_at-explains d appliances label (IgwOut v) m = go_public-quiet d v m.header (public_of d v m.header.src)
 step_at-explains d appliances label Internet m = step_internet-quiet d m
@@ -280,6 +412,9 @@ step_at-explains d appliances label (NatIn n) m = step_nat_in-quiet d label n m
 step_at-explains d appliances label (Peer x v) m = let row = peering_at d x in by_pair-quiet d x v m.header row.pair
 step_at-explains d appliances label (Tgw a s) m = by_tgw_table-explains d a s m.header (table_of_attachment d a)
 step_at-explains d appliances label (TgwLeave a s) m = leave_by-quiet a m.header (leave_subnet d a s)
+step_at-explains d appliances label (FarOut k) m = let f = far_at d k in out_by-quiet d k f m.header f.kind
+step_at-explains d appliances label (FarIn k) m = let f = far_at d k in in_by-explains d label k f m.header f.kind
+step_at-explains d appliances label (Inspect e) m = inspect-quiet d e m
 
 pub decisions_explain : (d : Description) (appliances : Appliances) (label : Label) (m : Moment)
     → let s = step_of d appliances label m in Explain d (stopped_by s.next) (decided d (hop_of d appliances label m))

@@ -3,11 +3,11 @@ use Rattle.std.proofs.Common.{◌≡◌, ◌++◌, ◌∙◌, ◌∷◌, [], Boo
 use Rattle.fabric.specs.Indexes.{IsAclIndex}
 use Rattle.network_acls.specs.Tried.{TriedRows, rows_tried}
 use Rattle.vpc_base.specs.declared.headers.Dir.TheVariants.{Inward, Outward}
-use Rattle.vpc_laws.specs.Types.{AclNo, Description, Dir, EniNo, Header, SubnetNo, TableNo, VpcNo}
-use Rattle.vpc_model.specs.Terms.{acl_at, acl_of, acl_verdict, chosen_route, host_of, table_at, table_of}
+use Rattle.vpc_laws.specs.Types.{AclNo, Description, Dir, EnterBy, Header, SubnetNo, TableNo, VpcNo}
+use Rattle.vpc_model.specs.Terms.{acl_at, acl_of, acl_verdict, chosen_route, table_at, table_of}
+use Rattle.vpc_model.specs.Firewalls.{entrance_table}
 use Rattle.vpc_model.specs.Connections.{same_header}
-use Rattle.walk_reasons.specs.Borders.{of_host}
-use Rattle.walk_reasons.specs.Decisions.{at_entry, at_router, becomes, by_route, judged, judged_in, judged_out, judgement, verdict_at}
+use Rattle.walk_reasons.specs.Decisions.{at_entry, at_router, at_table, becomes, by_entrance, by_route, judged, judged_in, judged_out, judgement, verdict_at}
 use Rattle.walk_reasons.specs.Reasons.{acl_words, decision_line, decision_lines, rewritten}
 use Rattle.walk_reasons.specs.declared.borders.Borders.{Borders}
 
@@ -56,8 +56,13 @@ router-lines d n s h t o same is told =
     ap (λ (x : Option ℕ). decision_lines d (by_route d s h t x)) told
     ∙ ap (λ (u : TableNo). decision_lines d (by_route d s h u (chosen_route d (table_at d u).routes h.dst))) (is ∙ ap (λ (m : Description). table_of m s) same)
 
-pub entry-lines : (d n : Description) (v : VpcNo) (h : Header) (o : Option EniNo) → n ≡ d → o ≡ host_of n v h.dst → decision_lines d (judged d h (of_host d o)) ≡ decision_lines d (at_entry d v h)
-entry-lines d n v h o same told = ap (λ (x : Option EniNo). decision_lines d (judged d h (of_host d x))) (told ∙ ap (λ (m : Description). host_of m v h.dst) same)
+pub table-lines : (d : Description) (v : VpcNo) (h : Header) (t : TableNo) (o : Option ℕ) → o ≡ chosen_route d (table_at d t).routes h.dst
+    → decision_lines d (by_entrance d v h t o) ≡ decision_lines d (at_table d v h (Some t))
+table-lines d v h t o told = ap (λ (x : Option ℕ). decision_lines d (by_entrance d v h t x)) told
+
+pub entry-lines : (d : Description) (v : VpcNo) (by : EnterBy) (h : Header) (o : Option TableNo) → o ≡ entrance_table d v by
+    → decision_lines d (at_table d v h o) ≡ decision_lines d (at_entry d v by h)
+entry-lines d v by h o is = ap (λ (x : Option TableNo). decision_lines d (at_table d v h x)) is
 
 -- ---- headers
 

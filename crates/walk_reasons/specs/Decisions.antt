@@ -1,15 +1,18 @@
 -- What decides of a packet at a place of its walk, in the order in which it is evaluated.
 use Rattle.std.specs.Prelude.{◌∷◌, [], if◌then◌else◌, Bool, List, None, Option, Some, ℕ}
 use Rattle.vpc_base.specs.declared.headers.Dir.TheVariants as dirs
-use Rattle.vpc_laws.specs.Types.{AclNo, AttNo, By, Description, Dir, Header, Hop, Place, RuleRef, SubnetNo, TableNo, TgwTableNo, VpcNo}
+use Rattle.vpc_laws.specs.Types.{AclNo, AttNo, By, Description, Dir, EnterBy, Far, FarKind, Header, Hop, Place, RuleRef, SubnetNo, TableNo, TgwTableNo, VpcNo}
 use Rattle.vpc_model.specs.declared.outcomes.By.TheVariants as bys
 use Rattle.vpc_model.specs.declared.places.Place.TheVariants as places
 use Rattle.vpc_model.specs.Acls.{acl_verdict}
-use Rattle.vpc_model.specs.Lookup.{acl_at, acl_of, host_of, table_at, table_of, tgw_table_at}
+use Rattle.vpc_model.specs.Far.{table_of_attachment_id}
+use Rattle.vpc_model.specs.Firewalls.{entrance_table}
+use Rattle.vpc_model.specs.declared.rows.FarKind.TheVariants as fars
+use Rattle.vpc_model.specs.Lookup.{acl_at, acl_of, far_at, host_of, table_at, table_of, tgw_table_at}
 use Rattle.vpc_model.specs.Routes.{chosen_route}
 use Rattle.vpc_model.specs.Transit.{chosen_tgw_route, table_of_attachment}
 use Rattle.walk_reasons.specs.declared.borders.Borders.{Borders}
-use Rattle.walk_reasons.specs.Borders.{of_host, of_route}
+use Rattle.walk_reasons.specs.Borders.{of_entrance, of_host, of_route}
 
 -- the rule of a group by which a packet passes, the row that a route table or a transit gateway's table chooses, what a network
 -- ACL says of a packet that leaves or enters a subnet with the number of its rule, and the header that a gateway gives a packet
@@ -59,9 +62,18 @@ at_router d s h =
     let table = table_at d t in
     by_route d s h t (chosen_route d table.routes h.dst)
 
--- where a packet enters a VPC (VPC User Guide, "Network ACLs")
-abbrev pub at_entry : Description → VpcNo → Header → List Decision
-at_entry d v h = judged d h (of_host d (host_of d v h.dst))
+-- by the chosen route of a gateway's table (VPC User Guide, "Gateway route tables")
+abbrev pub by_entrance : Description → VpcNo → Header → TableNo → Option ℕ → List Decision
+by_entrance d v h t None = []
+by_entrance d v h t (Some k) = route t k ∷ judged d h (of_entrance d v h t k)
+
+-- where a packet enters a VPC: by the table of the gateway if it has one (VPC User Guide, "Network ACLs")
+abbrev pub at_table : Description → VpcNo → Header → Option TableNo → List Decision
+at_table d v h None = judged d h (of_host d (host_of d v h.dst))
+at_table d v h (Some t) = let table = table_at d t in by_entrance d v h t (chosen_route d table.routes h.dst)
+
+abbrev pub at_entry : Description → VpcNo → EnterBy → Header → List Decision
+at_entry d v by h = at_table d v h (entrance_table d v by)
 
 -- at a transit gateway, by the chosen route of a table (Transit Gateways guide, "How transit gateways work")
 abbrev pub by_tgw_route : TgwTableNo → Option ℕ → List Decision
@@ -75,11 +87,18 @@ by_tgw_table d h (Some t) = let table = tgw_table_at d t in by_tgw_route t (chos
 abbrev pub at_transit : Description → AttNo → Header → List Decision
 at_transit d a h = by_tgw_table d h (table_of_attachment d a)
 
+-- from a network that isn't described: by the table of its attachment, where an attachment leads there
+abbrev pub from_outside : Description → Header → Far → FarKind → List Decision
+from_outside d h f (fars.PrivateGateway vpc) = []
+from_outside d h f (fars.Attachment vpc) = by_tgw_table d h (table_of_attachment_id d f.id)
+from_outside d h f (fars.Peering requester accepter) = []
+from_outside d h f (fars.Endpoint vpc) = []
+
 -- what decides at a place of a packet with this header, which passed groups by this
 abbrev pub decided_at : Description → Header → By → Place → List Decision
 decided_at d h by (places.OutOf i) = by_group by
 decided_at d h by (places.Router s came) = at_router d s h
-decided_at d h by (places.Enter v entry) = at_entry d v h
+decided_at d h by (places.Enter v entry) = at_entry d v entry h
 decided_at d h by (places.Into i) = by_group by
 decided_at d h by (places.IgwOut v) = []
 decided_at d h by places.Internet = []
@@ -89,6 +108,9 @@ decided_at d h by (places.NatIn n) = []
 decided_at d h by (places.Peer x v) = []
 decided_at d h by (places.Tgw a entered) = at_transit d a h
 decided_at d h by (places.TgwLeave a entered) = []
+decided_at d h by (places.FarOut k) = []
+decided_at d h by (places.FarIn k) = let f = far_at d k in from_outside d h f f.kind
+decided_at d h by (places.Inspect e) = []
 
 -- what decides at a hop
 abbrev pub decided : Description → Hop → List Decision

@@ -6,10 +6,8 @@
 
 mod answer;
 mod borders;
-mod choosing;
 mod command;
 mod deciding;
-mod hops;
 mod judging;
 mod laws;
 mod lines;

@@ -7,8 +7,7 @@ ghost use Rattle.walk_reasons.specs.Parts.{hop_text, hops_text};
 ghost use Rattle.walk_reasons.specs.Reasons.{decision_lines, reasons_text, rewritten};
 
 use crate::deciding::put_decided_at;
-use crate::hops::{put_hop, put_outcome};
-use block_report::put_header_line;
+use block_report::{put_header_line, put_hop, put_outcome};
 use fabric::Fabric;
 use vpc_base::{Header, NoMemory};
 use vpc_model::{Hop, Outcome};

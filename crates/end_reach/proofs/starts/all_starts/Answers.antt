@@ -1,10 +1,17 @@
-use Rattle.std.proofs.Common.{◌≡◌, ◌∙◌, ap}
+use Rattle.std.proofs.Common.{◌≡◌, ◌∙◌, ap₂}
 use Rattle.vpc_base.proofs.Results.{if_ok}
 use Rattle.end_reach.specs.Asked.{AreAllStarts, starts_among}
 use Rattle.end_reach.proofs.starts.all_starts.Goals as goal
 
 pub returns : goal.returns
 returns c =
-    if_ok (λ v. v.items ≡ starts_among c.args.n.now c.args.src c.args.goal c.as_slice.result.now) (λ v. AreAllStarts c.args.n.now c.args.src c.args.goal v.items) c.starts_among.result
-    (λ v is. record { hosts = c.in_ok-hosts.hosts.items; by_id = c.in_ok-hosts.ensures; are = is ∙ ap (starts_among c.args.n.now c.args.src c.args.goal) c.as_slice.ensures.value })
+    let n = c.args.n.now in
+    if_ok (λ v. v.items ≡ starts_among n c.args.src c.args.goal c.as_slice.result.now c.as_slice-2.result.now) (λ v. AreAllStarts n c.args.src c.args.goal v.items) c.starts_among.result
+    (λ v is. record {
+      hosts = c.in_ok-hosts.hosts.items;
+      outside = c.in_ok-outside.outside.items;
+      by_id = c.in_ok-hosts.ensures;
+      outside_by_id = c.in_ok-outside.ensures;
+      are = is ∙ ap₂ (starts_among n c.args.src c.args.goal) c.as_slice.ensures.value c.as_slice-2.ensures.value;
+    })
     c.starts_among.ensures
