@@ -13,6 +13,10 @@
                    belongs to the next one too, where some interfaces have it
     delegated N    the same as account, where each host has 16 delegated prefixes of 16 addresses, as nodes of EKS have, in
                    further blocks of its VPC: 100.64.0.0/16 and the seven behind it, in each VPC
+    outside N      the same as account, where of each two VPCs the first has a virtual private gateway, whose 100 routes its
+                   tables take, and a peering with a VPC that isn't described, the second an endpoint of S3; and the transit
+                   gateway has an attachment more for each two, of a VPN, a Direct Connect gateway, another transit gateway
+                   or a VPC that isn't described. So 20,000 interfaces have 20 networks that aren't described
     fit            an account as large as fits a file (64 MiB); with --indent it is indented as `aws` prints it
 
 --lean leaves out the members that aren't read. A full row is a kilobyte without blanks, so that 100,000 interfaces fit a
@@ -44,7 +48,7 @@ Hostile bundles, each of which a linear reader takes as easily as an account of 
     escapes              64 MiB of escapes in a text that is read over: accepted
 
 The bundles of `all`: account-1000, account-10000, account-40000, account-100000 (lean), joined-10000, delegated-10000,
-fit-indented, and each hostile kind with 100,000 rows (subnets with 30,000, associated with 50,000)."""
+outside-20000, fit-indented, and each hostile kind with 100,000 rows (subnets with 30,000, associated with 50,000)."""
 import json
 import os
 import sys
@@ -52,6 +56,7 @@ import sys
 LIMIT = 64 * 1024 * 1024
 OWNER, REGION = '111122223333', 'us-east-1'
 PER_VPC, SUBNETS, PER_GROUP, PREFIXES = 2000, 8, 50, 16
+TGW, TGW_TABLE, PROPAGATED = 'tgw-00000000000000001', 'tgw-rtb-00000000000000001', 100
 ANY = '0.0.0.0/0'
 
 
@@ -196,7 +201,7 @@ def account(n, lean=False):
         local = {'DestinationCidrBlock': f'10.{v}.0.0/16', 'GatewayId': 'local', 'Origin': 'CreateRouteTable', 'State': 'active'}
         igw, nat, pcx, att = (hexed(kind, v) for kind in ('igw', 'nat', 'pcx', 'tgw-attach'))
         peer = [route(f'10.{v + 1}.0.0/16', lean, VpcPeeringConnectionId=pcx)] if v + 1 < vpcs else []
-        inner = [local, route(ANY, lean, NatGatewayId=nat), route('10.0.0.0/8', lean, TransitGatewayId='tgw-00000000000000001'), *peer,
+        inner = [local, route(ANY, lean, NatGatewayId=nat), route('10.0.0.0/8', lean, TransitGatewayId=TGW), *peer,
                  {'DestinationIpv6CidrBlock': '::/0', 'EgressOnlyInternetGatewayId': hexed('eigw', v), 'Origin': 'CreateRoute', 'State': 'active'},
                  {'DestinationPrefixListId': 'pl-0000000000000000c', 'GatewayId': hexed('vpce', v), 'Origin': 'CreateRoute', 'State': 'active'}]
         d['RouteTables'].append(table(v * (SUBNETS + 1), v, [dict(r) for r in inner], lean, main=True))
@@ -229,20 +234,20 @@ def account(n, lean=False):
                 'RequesterVpcInfo': {'CidrBlock': f'10.{v}.0.0/16', 'OwnerId': OWNER, 'VpcId': hexed('vpc', v), 'Region': REGION},
                 'Status': {'Code': 'active', 'Message': 'Active'}, 'Tags': [], 'VpcPeeringConnectionId': pcx})
         d['TransitGatewayVpcAttachments'].append({
-            'TransitGatewayAttachmentId': att, 'TransitGatewayId': 'tgw-00000000000000001', 'VpcId': hexed('vpc', v), 'VpcOwnerId': OWNER, 'State': 'available',
+            'TransitGatewayAttachmentId': att, 'TransitGatewayId': TGW, 'VpcId': hexed('vpc', v), 'VpcOwnerId': OWNER, 'State': 'available',
             'SubnetIds': [row['SubnetId'] for row in rows[:4]], 'CreationTime': '2026-01-10T10:00:00+00:00', 'Options': {'DnsSupport': 'enable', 'Ipv6Support': 'disable'}, 'Tags': []})
         d['TransitGatewayAttachments'].append({
-            'TransitGatewayAttachmentId': att, 'TransitGatewayId': 'tgw-00000000000000001', 'TransitGatewayOwnerId': OWNER, 'ResourceOwnerId': OWNER, 'ResourceType': 'vpc',
-            'ResourceId': hexed('vpc', v), 'State': 'available', 'Association': {'TransitGatewayRouteTableId': 'tgw-rtb-00000000000000001', 'State': 'associated'},
+            'TransitGatewayAttachmentId': att, 'TransitGatewayId': TGW, 'TransitGatewayOwnerId': OWNER, 'ResourceOwnerId': OWNER, 'ResourceType': 'vpc',
+            'ResourceId': hexed('vpc', v), 'State': 'available', 'Association': {'TransitGatewayRouteTableId': TGW_TABLE, 'State': 'associated'},
             'CreationTime': '2026-01-10T10:00:00+00:00', 'Tags': []})
         learnt.append({'DestinationCidrBlock': f'10.{v}.0.0/16', 'TransitGatewayAttachments': [
             {'ResourceId': hexed('vpc', v), 'TransitGatewayAttachmentId': att, 'ResourceType': 'vpc'}], 'Type': 'propagated', 'State': 'active'})
     learnt.append({'DestinationCidrBlock': '192.168.0.0/16', 'Type': 'static', 'State': 'blackhole'})
-    d['TransitGatewayRoutes'].append({'TransitGatewayRouteTableId': 'tgw-rtb-00000000000000001', 'Routes': learnt})
+    d['TransitGatewayRoutes'].append({'TransitGatewayRouteTableId': TGW_TABLE, 'Routes': learnt})
     return d
 
 
-def gateway(option, name='tgw-00000000000000001'):
+def gateway(option, name=TGW):
     return {'TransitGatewayId': name, 'State': 'available', 'OwnerId': OWNER, 'Options': {'DnsSupport': 'enable', 'SecurityGroupReferencingSupport': option}, 'Tags': []}
 
 
@@ -282,6 +287,65 @@ def delegated(n, lean=False):
         place, s = divmod(k % (PER_VPC - 1), SUBNETS)
         first = (100 << 24) + (64 + s << 16) + 16 * PREFIXES * place
         it['Ipv4Prefixes'] = [{'Ipv4Prefix': f'{dotted(first + 16 * k)}/28'} for k in range(PREFIXES)]
+    return d
+
+
+def private_gateway(d, v, lean):
+    """A virtual private gateway of a VPC, whose tables take its routes: to half of what rules call 192.0.2.0/24, and to many that no rule names."""
+    name = hexed('vgw', v)
+    row = {'VpnGatewayId': name, 'VpcAttachments': [{'State': 'attached', 'VpcId': hexed('vpc', v)}]}
+    d['VpnGateways'].append(row if lean else dict({'AmazonSideAsn': 64512, 'State': 'available', 'Type': 'ipsec.1', 'Tags': []}, **row))
+    blocks = ['192.0.2.0/25', *(f'172.{16 + k // 16}.{k % 16 * 16}.0/20' for k in range(PROPAGATED - 1))]
+    for it in d['RouteTables'][v * (SUBNETS + 1):(v + 1) * (SUBNETS + 1)]:
+        it['Routes'] += [dict(route(block, True, GatewayId=name), Origin='EnableVgwRoutePropagation') for block in blocks]
+        if not lean:
+            it['PropagatingVgws'] = [{'GatewayId': name}]
+
+
+def half_peering(d, v, lean):
+    """A peering with a VPC that isn't described, which has the other half of 192.0.2.0/24."""
+    name, far = f'pcx-f{v:016x}', {'CidrBlock': '192.0.2.128/25', 'OwnerId': '444455556666', 'VpcId': f'vpc-f{v:016x}', 'Region': REGION}
+    near = {'CidrBlock': f'10.{v}.0.0/16', 'OwnerId': OWNER, 'VpcId': hexed('vpc', v), 'Region': REGION}
+    d['VpcPeeringConnections'].append({'AccepterVpcInfo': far, 'RequesterVpcInfo': near, 'Status': {'Code': 'active', 'Message': 'Active'}, 'Tags': [],
+                                       'VpcPeeringConnectionId': name})
+    for it in d['RouteTables'][v * (SUBNETS + 1):(v + 1) * (SUBNETS + 1)]:
+        it['Routes'].append(route('192.0.2.128/25', lean, VpcPeeringConnectionId=name))
+
+
+def endpoint(d, v, lean):
+    """The endpoint to which the tables of a VPC route the addresses of S3."""
+    row = {'VpcEndpointId': hexed('vpce', v), 'VpcEndpointType': 'Gateway', 'VpcId': hexed('vpc', v), 'State': 'available'}
+    more = {'ServiceName': f'com.amazonaws.{REGION}.s3', 'SubnetIds': [], 'Groups': [], 'PrivateDnsEnabled': False, 'RequesterManaged': False, 'NetworkInterfaceIds': [],
+            'DnsEntries': [], 'CreationTimestamp': '2026-01-10T10:00:00+00:00', 'Tags': [], 'OwnerId': OWNER}
+    tables = d['RouteTables'][v * (SUBNETS + 1):(v + 1) * (SUBNETS + 1)]
+    used = [it['RouteTableId'] for it in tables if any(to.get('GatewayId') == row['VpcEndpointId'] for to in it['Routes'])]
+    d['VpcEndpoints'].append(row if lean else dict(more, RouteTableIds=used, **row))
+
+
+def far_attachment(d, k):
+    """An attachment of the transit gateway to what isn't described. (It has a floor of the office, which a prefix list of rules names.)"""
+    kind = ('vpn', 'direct-connect-gateway', 'peering', 'vpc')[k % 4]
+    name, resource = f'tgw-attach-f{k:016x}', {'vpn': 'vpn', 'peering': 'tgw', 'vpc': 'vpc'}.get(kind, 'dxgw') + f'-f{k:016x}'
+    d['TransitGatewayAttachments'].append({
+        'TransitGatewayAttachmentId': name, 'TransitGatewayId': TGW, 'TransitGatewayOwnerId': OWNER, 'ResourceOwnerId': OWNER, 'ResourceType': kind, 'ResourceId': resource,
+        'State': 'available', 'Association': {'TransitGatewayRouteTableId': TGW_TABLE, 'State': 'associated'}, 'CreationTime': '2026-01-10T10:00:00+00:00', 'Tags': []})
+    d['TransitGatewayRoutes'][0]['Routes'].append({'DestinationCidrBlock': f'198.51.100.{16 * k % 256}/28', 'TransitGatewayAttachments': [
+        {'ResourceId': resource, 'TransitGatewayAttachmentId': name, 'ResourceType': kind}], 'Type': 'static', 'State': 'active'})
+
+
+def outside(n, lean=False):
+    """An account that leads to networks that aren't described."""
+    d = account(n, lean)
+    d['VpnGateways'], d['VpcEndpoints'] = [], []
+    for it in d['RouteTables']:
+        it['Routes'].append(route('198.51.100.0/24', lean, TransitGatewayId=TGW))
+    for v in range(len(d['Vpcs'])):
+        if v % 2 == 0:
+            private_gateway(d, v, lean)
+            half_peering(d, v, lean)
+            far_attachment(d, v // 2)
+        else:
+            endpoint(d, v, lean)
     return d
 
 
@@ -389,7 +453,7 @@ def filled(before, item, after):
     return before + ','.join([item] * count) + after
 
 
-WHOLE = {'account': account, 'joined': joined, 'delegated': delegated}
+WHOLE = {'account': account, 'joined': joined, 'delegated': delegated, 'outside': outside}
 HOSTILE = {
     'equal-ids': lambda n: {'Vpcs': [{'VpcId': 'vpc-1', 'CidrBlock': '10.0.0.0/16'}] * n},
     'equal-peerings': lambda n: {'VpcPeeringConnections': [{'VpcPeeringConnectionId': 'pcx-1', 'Status': {'Code': 'deleted'}}] * n},
@@ -444,6 +508,7 @@ def make_all(folder):
     write(os.path.join(folder, 'account-100000.json'), make('account', 100_000, lean=True))
     for kind in ('joined', 'delegated'):
         write(os.path.join(folder, f'{kind}-10000.json'), make(kind, 10_000))
+    write(os.path.join(folder, 'outside-20000.json'), make('outside', 20_000))
     write(os.path.join(folder, 'fit-indented.json'), make('fit', indent=True))
     for kind in (*HOSTILE, *TEXTS):
         write(os.path.join(folder, f'{kind}.json'), make(kind))

@@ -15,7 +15,7 @@ HERE = pathlib.Path(__file__).parent
 WORDS = 'open from eni-a tcp 10.0.1.10 10.0.1.20 5000 443'.split()
 LOAD = 'import json,sys;json.load(open(sys.argv[1],encoding="utf-8"))'
 KINDS = [
-    ['account', '1000'], ['account', '10000'], ['account', '40000'], ['account', '100000', '--lean'], ['joined', '10000'], ['delegated', '10000'], ['fit', '--indent'],
+    ['account', '1000'], ['account', '10000'], ['account', '40000'], ['account', '100000', '--lean'], ['joined', '10000'], ['delegated', '10000'], ['outside', '20000'], ['fit', '--indent'],
     ['equal-ids', '100000'], ['one-vpc', '50000'], ['one-vpc', '100000'], ['subnets', '15000'], ['subnets', '30000'],
     ['named-by-one', '100000'], ['named-by-rule', '100000'], ['rules', '100000'], ['routes', '100000'], ['long-ids', '100000'],
     ['equal-gateways', '100000'], ['associated', '25000'], ['associated', '50000'],

@@ -3,11 +3,15 @@
 
 Usage: python3 bench/reach.py [PROGRAM]     (default: the program that ./vpc builds)
 
-Two accounts: that of wide.py, of 20,000 interfaces in 40 VPCs, for questions from the internet, from one host and to one; and one of 480
-hosts in 8 VPCs over a transit gateway, some of whose groups take each other, for all to all. 'Beyond reading' is what a question takes
-more than `trace` of one packet in the same file.
+Three accounts: that of wide.py, of 20,000 interfaces in 40 VPCs, for questions from the internet, from one host and to one; that of
+`accounts.py outside`, of 20,000 interfaces in 10 VPCs with 20 networks that aren't described, for questions from and to these; and one of
+480 hosts in 8 VPCs over a transit gateway, some of whose groups take each other, for all to all. 'Beyond reading' is what a question takes
+more than `trace` of one packet in the same file. With names of accounts behind PROGRAM (wide, outside, small) those alone are asked about.
 """
 
+import sys
+
+import accounts
 import wide
 from measuring import loaded, measured, program, written
 
@@ -51,7 +55,16 @@ def all_to_all(count):
     return whole
 
 
-# Words of questions about the wide account, and about the other.
+def outside(count):
+    return accounts.outside(count, lean=True)
+
+
+# Words of questions about each account.
+GATEWAY, PEERING, ATTACHMENT, ENDPOINT, HOST = "vgw-00000000000000000", "pcx-f0000000000000000", "tgw-attach-f0000000000000000", "vpce-00000000000000001", "eni-00000000000000001"
+OUTSIDE = [
+    f"from {GATEWAY}", f"from {GATEWAY} port 443-443", f"from {GATEWAY} src 192.0.2.0/25", f"from {GATEWAY} to {HOST}", f"from {PEERING}", f"from {ATTACHMENT}", f"from {ATTACHMENT} port 443-443",
+    f"from {HOST}", f"from {HOST} to {GATEWAY}", f"to {GATEWAY} port 443-443", f"to {ENDPOINT} port 443-443",
+]
 WIDE = ["from internet", "from internet port 22-22", "from eni-3-9", "from eni-3-8", "to eni-3-9", "to eni-3-8", "to internet"]
 SMALL = ["", "port 443-443", "max 1"]
 
@@ -73,10 +86,16 @@ def told(name, path, packet, questions):
 
 
 def main():
-    path = written(f"wide-{wide.VPCS}.json", wide.account, wide.VPCS)
-    told("20,000 interfaces", path, "open from eni-3-9 tcp 10.3.32.5 10.3.32.6 5000 443", WIDE)
-    path = written("all-to-all.json", all_to_all, HOSTS)
-    told("480 interfaces", path, "open from eni-0-0 tcp 10.0.0.10 10.0.0.11 0 443", SMALL)
+    names = sys.argv[2:] or ["wide", "outside", "small"]
+    if "wide" in names:
+        path = written(f"wide-{wide.VPCS}.json", wide.account, wide.VPCS)
+        told("20,000 interfaces", path, "open from eni-3-9 tcp 10.3.32.5 10.3.32.6 5000 443", WIDE)
+    if "outside" in names:
+        path = written("outside-20000.json", outside, 20_000)
+        told("20,000 interfaces, 20 networks outside", path, f"open from {HOST} tcp 10.0.17.4 192.0.2.7 5000 443", OUTSIDE)
+    if "small" in names:
+        path = written("all-to-all.json", all_to_all, HOSTS)
+        told("480 interfaces", path, "open from eni-0-0 tcp 10.0.0.10 10.0.0.11 0 443", SMALL)
 
 
 if __name__ == "__main__":

@@ -1,5 +1,5 @@
-# Completion of vpc's words in bash: commands, names of files, ends (the interfaces of the bundle that is named), labels, protocols,
-# and the names of pairs in their order. A line in ~/.bashrc turns it on:
+# Completion of vpc's words in bash: commands, names of files, ends (the interfaces of the bundle that is named, and what may lead
+# outside), labels, protocols, and the names of pairs in their order. A line in ~/.bashrc turns it on:
 #
 #     source CHECKOUT/completion/vpc.bash
 #
@@ -21,8 +21,11 @@ _vpc_commands() {
     printf '%s\n' "$list"
 }
 
-# The ends that begin with $1: the internet, and the interfaces in the files that follow. Of a file no more is read than a bundle
-# may have.
+# The members that are ids of what may be an end.
+_vpc_members='NetworkInterface|VpnGateway|TransitGatewayAttachment|VpcPeeringConnection|VpcEndpoint'
+
+# The ends that begin with $1: the internet, and of the files that follow the interfaces, and what leads to networks that aren't
+# described: not all of these are ends, as interfaces of gateways aren't. Of a file no more is read than a bundle may have.
 _vpc_ends() {
     local begun=$1 file
     [[ internet != "$begun"* ]] || echo internet
@@ -30,7 +33,7 @@ _vpc_ends() {
     [[ $begun != *[!0-9A-Za-z._-]* ]] || return
     for file in "${@:2}"; do
         [[ ! -f $file || ! -r $file ]] || head -c 67108864 -- "$file"
-    done | LC_ALL=C grep -ao "\"NetworkInterfaceId\" *: *\"${begun//./[.]}[0-9A-Za-z._-]*\"" | head -n 200000 |
+    done | LC_ALL=C grep -aoE "\"($_vpc_members)Id\" *: *\"${begun//./[.]}[0-9A-Za-z._-]*\"" | head -n 200000 |
         cut -d '"' -f 4 | LC_ALL=C sort -u
 }
 

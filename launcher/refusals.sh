@@ -233,10 +233,17 @@ refused_query() {
         what="$(named "$of" "$@"), is neither internet nor the id of an interface of $(files)"
         case $it in
         i-*) tell "$what: name the interface of that instance" ;;
+        vgw-* | tgw-attach-* | pcx-* | vpce-*) tell "$what, nor of what is told to lead outside: docs/REACH.md has what a bundle tells of it" ;;
         *) tell "$what" ;;
         esac
         ;;
-    NotAnEnd) tell "$(shown "$of") belongs to a gateway, which sends no packets of its own: ask about the host behind it" ;;
+    NotAnEnd)
+        case $of in
+        eni-*) tell "$(shown "$of") belongs to a gateway, which sends no packets of its own: ask about the host behind it" ;;
+        *) tell "$(shown "$of") doesn't lead from VPCs that are described to a network that isn't: ask about the hosts there" ;;
+        esac
+        ;;
+    NotAStart) tell "$(named "$of" "$@"), is a gateway endpoint, whose service opens no connection: ask to it" ;;
     NoAddress) tell "$(shown "$of") has no primary address, which is meant where src or dst is left out: say which" ;;
     BothInternet) tell 'both ends are the internet: one has to be an interface' ;;
     MaxOutOfRange) tell "$(named $# "$@"), is no number from 1 to $(most_rows)" ;;

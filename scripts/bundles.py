@@ -29,6 +29,8 @@ LISTS = {
     "TransitGatewayVpcAttachments": "TransitGatewayAttachmentId",
     "TransitGatewayAttachments": "TransitGatewayAttachmentId",
     "TransitGatewayRoutes": "TransitGatewayRouteTableId",
+    "VpnGateways": "VpnGatewayId",
+    "VpcEndpoints": "VpcEndpointId",
     "SecurityGroupVpcAssociations": "GroupId",
     "Appliances": "NetworkInterfaceId",
 }
@@ -149,6 +151,11 @@ def word_of(row: Row, name: str) -> str:
     return printable(value) if isinstance(value, str) else ""
 
 
+# The lists of what may lead to a network that isn't described, and how such ids begin.
+LEADING = (
+    "VpnGateways", "TransitGatewayAttachments", "VpcPeeringConnections", "VpcEndpoints",
+)
+LEADING_IDS = ("vgw-", "tgw-attach-", "pcx-", "vpce-")
 # What is described so tells nothing of its own.
 DEFAULT_DESCRIPTIONS = ("", "Primary network interface", "RDSNetworkInterface")
 
@@ -171,6 +178,7 @@ class Names:
         self.names: dict[str, str] = {}
         self.homes: dict[str, Home] = {}
         self.prefixes: dict[str, list[str]] = {}
+        self.leading: set[str] = set()
         objects = list(objects)
         instances = dict(instance_names(objects))
         for it in objects:
@@ -186,6 +194,8 @@ class Names:
         """By its tag, and a group or a prefix list by its own name."""
         own = {"SecurityGroups": "GroupName", "PrefixLists": "PrefixListName"}.get(list_name)
         row_id, name = row.get(LISTS[list_name]), tag_of(row) or (row.get(own) if own else None)
+        if list_name in LEADING and isinstance(row_id, str):
+            self.leading.add(row_id)
         if isinstance(row_id, str) and isinstance(name, str) and printable(name):
             self.names.setdefault(row_id, printable(name))
 
@@ -207,6 +217,11 @@ class Names:
         self.homes.setdefault(own, Home(description, tuple(sorted(groups)), subnet, vpc))
         found = (it.get("Ipv4Prefix") for it in rows(row, "Ipv4Prefixes"))
         self.prefixes.setdefault(own, [it for it in found if isinstance(it, str)])
+
+    def is_outside(self, end: str) -> bool:
+        """Whether an end is what leads to a network that isn't described."""
+        is_leading = end in self.leading or end.startswith(LEADING_IDS)
+        return is_leading and end not in self.homes
 
     def of(self, component: str) -> Optional[str]:
         """The name of a component, where it has one that its id doesn't end with."""

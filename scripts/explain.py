@@ -39,7 +39,7 @@ from scripts.explain_told import (
 from scripts.explain_words import Teller, box_words, fare_words, packet_words
 from scripts.headers import Header, low_corner, reply_of
 from scripts.texts import NoText, Stopped, Walk, Why
-from scripts.words import counted
+from scripts.words import STARTS, counted
 
 TOLD = (
     "why", "trace", "ask", "check", "replay", "reach", "diff", "expect", "unused", "flows",
@@ -83,8 +83,9 @@ class Answer:
 
     def known(self, end: str) -> str:
         """Refuses an end that the bundle doesn't have."""
-        if end != "internet" and end not in self.network.interfaces:
-            raise NoText(f"{end} is no interface of the bundle")
+        is_end = end in self.network.interfaces or self.network.far_end(end)
+        if end != "internet" and not is_end:
+            raise NoText(f"{end} is no end of the bundle")
         return end
 
     def named(self, component: str) -> str:
@@ -112,7 +113,7 @@ class Answer:
     def why(self, told: Why) -> None:
         """A walk, of which the decisions are told, or aren't: then they are asked for."""
         first, found = told.walk.hops[0], dict[str, Why]()
-        if first.place not in ("out", "internet"):
+        if first.place not in STARTS:
             raise NoText("its first hop is no place where a packet starts")
         for label in ("open", "answer"):
             it = self.program.why(label, self.known(first.id), first.header)
@@ -124,12 +125,17 @@ class Answer:
         sure = fitting[0] if len(fitting) == 1 and len(found) == 2 else None
         kinds = {"open": ", the first packet of its connection", "answer": ", an answer"}
         self.tell(f"The packet is {packet_words(first.header)}{kinds.get(sure or '', '')}.")
-        if not (fitting or told.decisions) and any(it.place in DECIDING for it in told.walk.hops):
+        if not (fitting or told.decisions) and any(map(self.decides, told.walk.hops)):
             self.tell(UNDECIDED)
         best = found[fitting[0]] if fitting else told
         whole = best if best.decisions else Why(told.walk, [[] for _ in told.walk.hops])
         must_be_there(self.network, whole)
         self.tell_walk(whole, sure)
+
+    def decides(self, hop: texts.Hop) -> bool:
+        """Whether routes or rows of network ACLs decide at a hop."""
+        is_led = hop.place == "far-in" and hop.id in self.network.associations
+        return is_led or hop.place in DECIDING
 
     def reachable(self, answer: texts.Reachable) -> None:
         start, goal = answer.request.hops[0].id, answer.reply.hops[0].id
@@ -326,13 +332,14 @@ class Answer:
         return bare
 
     def ends(self) -> Sequence[str]:
-        return ["internet", *self.network.interfaces]
+        return ["internet", *self.network.interfaces, *self.network.fars]
 
     def starts_of(self, h: Header) -> Iterator[str]:
         """The ends that may have sent a packet."""
         interfaces = self.network.interfaces.values()
         yield from (it.id for it in interfaces if it.has(h.src) and not it.is_gateway)
         yield "internet"
+        yield from filter(self.network.far_end, self.network.fars)
 
     def replay(self, answer: texts.Events) -> None:
         for number, it in enumerate(answer.events, 1):

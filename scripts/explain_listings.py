@@ -48,7 +48,8 @@ class Listings:
 
     def named(self, end: str) -> str:
         """An end, which the bundle has to have."""
-        known(self.network, None if end == "internet" else "interfaces", end)
+        is_outside = end == "internet" or self.network.far_end(end)
+        known(self.network, None if is_outside else "interfaces", end)
         return self.teller.named(end)
 
     def more(self, following: Optional[tuple[str, Header]], what: str) -> Iterator[str]:

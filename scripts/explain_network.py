@@ -11,6 +11,7 @@ from typing import Any, NamedTuple, Optional
 from scripts.bundles import TARGETS, Names, Row, member, rows
 from scripts.commands import ODD, Refused, read_objects
 from scripts.headers import Block, Header, address, block_of
+from scripts.outside import Far, Outside
 from scripts.words import ATTACHED, USABLE
 
 
@@ -368,7 +369,10 @@ class Network:
         self.read_gateways(lists["InternetGateways"], lists["NatGateways"])
         self.read_peerings(lists["VpcPeeringConnections"])
         self.read_transit(lists)
-        self.appliances = {it["NetworkInterfaceId"]: appliance_of(it) for it in lists["Appliances"]}
+        self.read_appliances(lists["Appliances"])
+        pairs = {it.id: it.pair for it in self.peerings.values() if it.pair}
+        self.outside = Outside(lists, self.vpcs, pairs)
+        self.fars, self.firewalls = self.outside.fars, self.outside.firewalls
         self.names = Names(objects)
         self.index_addresses()
 
@@ -385,6 +389,7 @@ class Network:
 
     def read_tables(self, found: list[Row]) -> None:
         self.tables: dict[str, RouteTable] = {}
+        self.table_of_gateway: dict[str, RouteTable] = {}
         self.main_of: dict[str, RouteTable] = {}
         self.table_of_subnet: dict[str, RouteTable] = {}
         for row in found:
@@ -396,6 +401,8 @@ class Network:
                     self.main_of[table.vpc] = table
                 if it.get("SubnetId") is not None:
                     self.table_of_subnet[it["SubnetId"]] = table
+                if it.get("GatewayId") is not None:
+                    self.table_of_gateway.setdefault(it["GatewayId"], table)
 
     def read_lists(self, found: list[Row], entries: list[Row]) -> None:
         self.lists: dict[str, list[Block]] = {}
@@ -500,6 +507,16 @@ class Network:
             routes = [it for it in routes if ":" not in it["DestinationCidrBlock"]]
             self.transit_tables[table] = list(map(transit_route_of, routes))
 
+    def read_appliances(self, found: list[Row]) -> None:
+        """Those at interfaces, and those behind the endpoints of firewalls."""
+        self.appliances: dict[str, Appliance] = {}
+        self.inspecting: dict[str, Appliance] = {}
+        for it in found:
+            if it.get("NetworkInterfaceId") is not None:
+                self.appliances[it["NetworkInterfaceId"]] = appliance_of(it)
+            else:
+                self.inspecting[it["VpcEndpointId"]] = appliance_of(it)
+
     def index_addresses(self) -> None:
         self.hosts: dict[str, Owners] = {}
         self.owner_of: dict[int, tuple[Interface, int, str]] = {}
@@ -554,7 +571,7 @@ class Network:
     def counts(self, side: Side, reference: str) -> bool:
         """Whether a rule that counts there may name a group."""
         found = self.groups.get(reference)
-        return bool(found) and any(self.is_joined(side, it) for it in found.vpcs)
+        return found is not None and any(self.is_joined(side, it) for it in found.vpcs)
 
     def is_joined(self, side: Side, vpc: str) -> bool:
         """Whether rules that count there may name groups of a VPC."""
@@ -632,7 +649,24 @@ class Network:
         found = self.tables[table].routes if table in self.tables else []
         return next((it for it in found if it.reach() == reach and it.blackhole), None)
 
+    # -- ends
+
+    def far_end(self, name: str) -> Optional[Far]:
+        """The network outside that is an end by this id."""
+        return None if name in self.interfaces else self.outside.end(name)
+
+    def is_end(self, name: str) -> bool:
+        is_host = name in self.interfaces and not self.interfaces[name].is_gateway
+        return name == "internet" or is_host or bool(self.far_end(name))
+
     # -- what leads where
+
+    def firewall_subnet(self, vpc: str, name: str) -> Optional[str]:
+        """The subnet of the endpoint of a firewall, where it is one of the VPC and what stands
+        behind it is told."""
+        found = self.firewalls.get(name)
+        is_told = found and found.vpc == vpc and name in self.inspecting
+        return found.subnet if found and is_told else None
 
     def host_of(self, vpc: str, number: int) -> Optional[Interface]:
         """The interface of a VPC that has an address."""
@@ -663,7 +697,21 @@ class Network:
             found = (it for it in self.attachments.values() if (it.gateway, it.vpc) == wanted)
             attachment = next(found, None)
             return self.zone_subnet(attachment, subnet) if attachment else None
+        if route.kind == "other" and route.target not in self.fars:
+            return self.firewall_subnet(vpc, route.target)
         return None
+
+    def entered_from_outside(
+        self, route: Optional[Route], vpc: str, number: int
+    ) -> Optional[str]:
+        """The subnet that packets to an address enter that come into a VPC, by a route of its
+        gateway's table, if that has one."""
+        if route is None or route.kind == "local":
+            host = self.host_of(vpc, number)
+            return host.subnet if host else None
+        if route.kind == "interface" and route.target in self.interfaces:
+            return self.interfaces[route.target].subnet
+        return self.firewall_subnet(vpc, route.target) if route.kind == "other" else None
 
 
 def read_network(path: str) -> Network:

@@ -116,6 +116,27 @@ SENTENCES = {
         "the route {s.rule} of {s.it}{s.chosen_for} is a blackhole.",
         f"the route {{s.rule}} of {{s.it}} would have to lead to an attachment, {ANOTHER}.",
     ),
+    "FarNoTable": (
+        "attachment {s.it} {s.transit_table}, so nothing comes in by it.",
+        "{s.it} would have to be associated with a route table of the transit gateway whose routes "
+        "are in the bundle.",
+    ),
+    "FarSource": (
+        "{s.its_source} lies in no block of {s.vpc_of_endpoint}, and gateway endpoint {s.it} "
+        "serves the hosts of its own VPC alone.",
+        "the packet would have to come from a block of that VPC, or the route to lead elsewhere, "
+        "as to an interface endpoint.",
+    ),
+    "FarOpens": (
+        "the packet opens a connection, and what stands behind gateway endpoint {s.it} opens none: "
+        "it only answers.",
+        "the connection would have to be opened from inside, to {s.it}.",
+    ),
+    "InspectDrop": (
+        "the firewall behind endpoint {s.it} passes {s.passed}, and not {s.packet}.",
+        "what is told of it in Appliances would have to forward {s.packet}, or a route to lead "
+        "around it.",
+    ),
     "Unmodelled": (
         "not known: {s.beyond}. The packet is neither let through nor refused here.",
         "nothing that is known. To learn more, ask on from behind {s.it}, or about the part "
@@ -217,8 +238,8 @@ class Why:
 
     @property
     def table(self) -> str:
-        subnet = self.facts.get("subnet")
-        return f"{self.it}, the table of {self.teller.named(subnet)}," if subnet else self.it
+        of = self.facts.get("subnet") or self.facts.get("gateway")
+        return f"{self.it}, the table of {self.teller.named(of)}," if of else self.it
 
     @property
     def chosen_route(self) -> str:
@@ -264,6 +285,14 @@ class Why:
     @property
     def forwarded(self) -> str:
         return appliance_words(self.network.appliances[self.stop.id])
+
+    @property
+    def passed(self) -> str:
+        return appliance_words(self.network.inspecting[self.stop.id])
+
+    @property
+    def vpc_of_endpoint(self) -> str:
+        return self.blocks(self.network.fars[self.stop.id].vpc or "")
 
     @property
     def public_address(self) -> str:
@@ -330,12 +359,31 @@ class Why:
         if what in network.nats:
             return f"NAT gateway {self.it} has no subnet of its own"
         if what in network.peerings:
-            return f"the VPC at the other side of peering {self.it} isn't described"
+            told = "and not the blocks of both sides are told"
+            return f"the VPC at the other side of peering {self.it} isn't described, {told}"
+        if what in network.firewalls and what not in network.inspecting:
+            return f"Appliances doesn't tell what the firewall behind endpoint {self.it} passes"
         if what in network.transit_tables:
             return f"the chosen route of {self.it} names no attachment"
         if what in network.attachments:
             return f"attachment {self.it} leads to a VPC that isn't described, or has no subnet"
         return f"{self.it} leads beyond what vpc follows"
+
+    # -- networks outside
+
+    def stop_fardetached(self) -> tuple[str, str]:
+        gateway = f"virtual private gateway {self.it}"
+        if self.route:
+            led = f"{self.route_of_table(self.route)} leads to {gateway}"
+            return f"{led}, which isn't attached to {self.vpc}.", self.attached(self.vpc)
+        where = "a VPC that is described"
+        why = f"{gateway} is attached to no VPC that is described, so nothing comes in by it."
+        if not self.facts:
+            where, why = "the VPC whose packets it carries", f"{gateway} isn't attached to the VPC."
+        return why, self.attached(where)
+
+    def attached(self, where: str) -> str:
+        return f"{self.it} would have to be attached to {where}."
 
     # -- security groups
 
@@ -491,8 +539,13 @@ class Why:
         return why, f"{list_words(which)} would have to be {public}, or {routes}."
 
     def blocks(self, vpc: str) -> str:
-        """A VPC, with its blocks."""
-        return f"{self.teller.named(vpc)} ({some(map(str, self.network.vpcs[vpc].blocks))})"
+        """A VPC, with its blocks: of one that isn't described, as the peering tells them."""
+        network = self.network
+        if vpc in network.vpcs:
+            found = list(map(str, network.vpcs[vpc].blocks))
+        else:
+            found = network.outside.blocks_beyond(network.fars[self.stop.id])
+        return f"{self.teller.named(vpc)} ({some(found)})"
 
     def stop_peersource(self) -> tuple[str, str]:
         if not self.h:
@@ -530,7 +583,8 @@ class Why:
             routes = "routes to lead it to the internet"
             change = f"the packet would have to go to {where}, and {routes}."
         else:
-            where = f"an address of {named(goal)}"
+            is_outside = goal not in self.network.interfaces
+            where = f"an address {'behind' if is_outside else 'of'} {named(goal)}"
             change = f"the packet would have to go to {where}, or routes to lead it there."
         return f"nothing stopped it, but it arrived at {self.it}{packet}, and not {meant}.", change
 
@@ -542,7 +596,8 @@ class Why:
         start, wanted = self.facts["start"], self.facts["wanted"]
         name, arrived_as = self.teller.named(start), f" as {packet_words(self.h)}" if self.h else ""
         why = f"{arrived}{arrived_as}, and not at {name} as {packet_words(wanted)}."
-        if start != "internet" and not self.network.interfaces[start].has(wanted.dst):
+        host = self.network.interfaces.get(start)
+        if host and not host.has(wanted.dst):
             change = f"the request would have to come from an address of {name}"
             return why, f"{change}, or routes to lead its reply to {name}."
         back = WAY_BACK.replace("back ", f"back to {name} ", 1)

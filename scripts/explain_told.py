@@ -6,7 +6,7 @@ from __future__ import annotations
 from collections.abc import Iterator, Sequence
 from typing import Any, NamedTuple, Optional, Union
 
-from scripts.explain_network import Interface, Network, Route, is_unroutable
+from scripts.explain_network import Network, Route, is_unroutable
 from scripts.headers import Header, reply_of
 from scripts.texts import (
     AclVerdict, ChosenRoute, Decision, End, Hop, NoText, Stopped, Walk, Why,
@@ -19,7 +19,8 @@ Decisions = Sequence[list[Decision]]
 PLACE_HOMES = {
     "out": "interfaces", "in": "interfaces", "router": "subnets", "enter": "vpcs",
     "igw-out": "igws", "igw-in": "igws", "nat-out": "nats", "nat-in": "nats", "peer": "peerings",
-    "tgw": "attachments", "tgw-leave": "attachments",
+    "tgw": "attachments", "tgw-leave": "attachments", "far-out": "fars", "far-in": "fars",
+    "inspect": "firewalls",
 }
 HOMES = {
     "interfaces": "Detached SourceCheck DestCheck GroupsOut GroupsIn NotAHost",
@@ -33,6 +34,8 @@ HOMES = {
     "peerings": "PeerNotActive PeerSource PeerDestination",
     "attachments": "TgwNoZone TgwNoTable",
     "transit_tables": "TgwNoRoute TgwBlackhole",
+    "fars": "FarDetached FarNoTable FarSource FarOpens",
+    "inspecting": "InspectDrop",
 }
 
 
@@ -77,7 +80,7 @@ def must_be_there(network: Network, why: Why) -> None:
             if isinstance(it, AclVerdict):
                 known(network, "acls", it.acl)
             if isinstance(it, ChosenRoute):
-                home = "transit_tables" if hop.place == "tgw" else "tables"
+                home = "transit_tables" if hop.place in ("tgw", "far-in") else "tables"
                 known(network, home, it.table)
     if isinstance(why.walk.end, Stopped):
         bare_stop(network, why.walk.end)
@@ -104,10 +107,9 @@ def route_at(network: Network, found: list[Decision]) -> Optional[Route]:
 
 def entered_at(network: Network, hop: Hop, found: list[Decision]) -> Optional[str]:
     """The subnet that a packet enters from a router, or from outside its VPC."""
-    if hop.place == "enter":
-        host = network.host_of(hop.id, hop.header.dst)
-        return host.subnet if host else None
     route = route_at(network, found)
+    if hop.place == "enter":
+        return network.entered_from_outside(route, hop.id, hop.header.dst)
     return network.entered_by(route, hop.id, hop.header.dst) if route else None
 
 
@@ -157,7 +159,27 @@ class Way:
     def at_out(self) -> dict[str, Any]:
         return {}
 
-    at_in = at_enter = at_nat_out = at_nat_in = at_igw_in = at_tgw_leave = at_out
+    at_in = at_nat_out = at_nat_in = at_igw_in = at_tgw_leave = at_inspect = at_out
+
+    def at_enter(self) -> dict[str, Any]:
+        """By the table of the gateway, if it has one."""
+        assert isinstance(self.end, Stopped)
+        network, gateway, name = self.network, self.entrance(), self.end.name
+        if gateway is None:
+            return {}
+        table, route = network.table_of_gateway[gateway], route_at(network, self.found)
+        if name == "Blackhole":
+            route = network.gone_route(self.end.id, self.end.rule)
+        facts: dict[str, Any] = {"vpc": self.last.id, "gateway": gateway}
+        if route and (name != "NotAHost" or route.target == self.end.id):
+            facts.update(table=table, route=route)
+        return facts
+
+    def entrance(self) -> Optional[str]:
+        """The gateway by which the packet came in, where it has a table."""
+        before = self.hops[-2] if len(self.hops) > 1 else self.last
+        is_gateway = before.place in ("igw-in", "far-in")
+        return before.id if is_gateway and before.id in self.network.table_of_gateway else None
 
     def at_router(self) -> dict[str, Any]:
         assert isinstance(self.end, Stopped)
@@ -186,6 +208,21 @@ class Way:
 
     def at_tgw(self) -> dict[str, Any]:
         return {"attachment": self.last.id}
+
+    def at_far_out(self) -> dict[str, Any]:
+        return self.far_facts(True)
+
+    def at_far_in(self) -> dict[str, Any]:
+        return self.far_facts(False)
+
+    def far_facts(self, outward: bool) -> dict[str, Any]:
+        """Of a peering the VPC that sends, and the other one."""
+        outside, far = self.network.outside, self.network.fars[self.last.id]
+        if far.kind == "attachment":
+            return {"attachment": far.id}
+        vpcs = [outside.beside(far), outside.other(far)]
+        here, other = vpcs if outward else vpcs[::-1]
+        return {"vpc": here, "other": other} if far.kind == "peering" else {"far": far.id}
 
 
 def as_end(end: End) -> Union[str, tuple[str, str, str]]:

@@ -129,6 +129,9 @@ PLACE_NAMES = {
     "peer": "peering {}",
     "tgw": "transit gateway, by attachment {}",
     "tgw-leave": "out of the transit gateway, by attachment {}",
+    "far-out": "to the network behind {}",
+    "far-in": "from the network behind {}",
+    "inspect": "through the firewall behind endpoint {}",
 }
 
 
@@ -228,6 +231,9 @@ class Teller:
         h = hop.header
         if hop.place == "internet" and not (is_unroutable(h.src) or is_unroutable(h.dst)):
             return "its addresses are ones that the internet routes"
+        if hop.place in ("far-out", "far-in"):
+            outside = self.network.outside.behind(self.network.fars[hop.id])
+            return f"{harmless(hop.id)} leads to {outside}"
         if hop.by is None:
             return ""
         if hop.by == "none":
@@ -249,7 +255,7 @@ class Teller:
 
     def decided_words(self, hop: Hop, found: list[Decision]) -> Iterator[str]:
         chosen = chosen_at(found)
-        if chosen and hop.place == "tgw":
+        if chosen and hop.place in ("tgw", "far-in"):
             yield self.transit_words(chosen)
             return
         route, entered = route_at(self.network, found), entered_at(self.network, hop, found)
@@ -259,8 +265,8 @@ class Teller:
             return
         if chosen and route:
             yield f"{self.named(chosen.table)} sends it by its route {self.route_words(route)}"
-        if hop.place == "enter" or (route and route.kind == "local"):
-            yield self.host_words(hop, route)
+        if (hop.place == "enter" and not route) or (route and route.kind == "local"):
+            yield self.host_words(hop)
         verdicts = [it for it in found if isinstance(it, AclVerdict)]
         for it in verdicts:
             if it.allows:
@@ -278,9 +284,9 @@ class Teller:
         reach = f"{chosen.reach} to {self.named(chosen.target)}"
         return f"its table {self.named(chosen.table)} sends it by its route {reach}"
 
-    def host_words(self, hop: Hop, route: Optional[Route]) -> str:
+    def host_words(self, hop: Hop) -> str:
         network, number = self.network, hop.header.dst
-        vpc = network.subnets[hop.id].vpc if route else hop.id
+        vpc = hop.id if hop.place == "enter" else network.subnets[hop.id].vpc
         host = network.host_of(vpc, number)
         return f"{dotted(number)} is {self.own_words(host, number)}" if host else ""
 
@@ -302,6 +308,7 @@ class Teller:
             "in": self.then_in, "igw-out": self.then_igw_out, "igw-in": self.then_igw_in,
             "internet": self.then_internet, "nat-out": self.then_nat_out,
             "nat-in": self.then_nat_in, "peer": self.then_peer, "tgw-leave": self.then_tgw_leave,
+            "inspect": self.then_inspect,
         }
         return words[hop.place](hop, after) if hop.place in words else ""
 
@@ -342,6 +349,12 @@ class Teller:
             raise NoText(f"{hop.id} doesn't lead to {after.id}")
         vpc = self.network.other_side(peering, after.id)
         return f"from a block of {self.named(vpc)} to a block of {self.named(after.id)}"
+
+    def then_inspect(self, hop: Hop, after: Hop) -> str:
+        appliance = self.network.inspecting.get(hop.id)
+        if not appliance:
+            raise NoText(f"nothing is told of what stands behind {hop.id}")
+        return f"it passes {appliance_words(appliance)}"
 
     def then_tgw_leave(self, hop: Hop, after: Hop) -> str:
         vpc = self.network.attachments[hop.id].vpc

@@ -235,7 +235,7 @@ FORMS = {
         "refused of=unused why=TooManyRules",
         "refused of=packet|query why=BadWord|UnknownId N",
         "refused of=packet|query why=NotAnEnd ID",
-        "refused of=query why=EmptyRange N",
+        "refused of=query why=EmptyRange|NotAStart N",
         "refused of=query why=NoAddress ID",
         "refused of=query why=BothInternet|MaxOutOfRange",
         "refused BUNDLE why=TooBig|NotJson",

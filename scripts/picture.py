@@ -15,7 +15,8 @@ file TEXT or comes on standard input:
                    and no other file. With BUNDLE it has its checksum, when and of which account it
                    was collected, where it tells that, and what explain tells of each text
 
-A walk has its reply coming back beside it; that of why is drawn as trace tells it. A report is a
+A walk has its reply coming back beside it; that of why is drawn as trace tells it. What leads to a
+network that isn't described has a mark of its own, or a dashed edge, with a legend. A report is a
 plane of the two sides of its box that its rows cut into most pieces. A matrix is folded into
 classes of interfaces that reach and are reached alike, and so are the ends of reach and of diff;
 where that is more than is seen at once, by groups, else by subnets, else by VPCs, with how many
@@ -52,7 +53,8 @@ OWN_WORDS = (
     "proto src dst sport port ports icmp tcp udp ping all other but protocol protocols request "
     "reply rewritten row rows range ranges source destination address addresses in no several one "
     "place part not told known any more is isn't drawn and of by pieces class classes group groups "
-    "subnet subnets VPC VPCs interface interfaces pair pairs open blocked opened closed moved "
+    "subnet subnets VPC VPCs interface interfaces network networks that described pair pairs open "
+    "blocked opened closed moved "
     "reachable reached before now from to packet hop box next cells What Who reaches whom Nothing "
     "gets get through opens closes moves or +"
 ).split()

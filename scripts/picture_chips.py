@@ -6,9 +6,10 @@ from __future__ import annotations
 import collections
 import contextlib
 import functools
-from collections.abc import Iterable, Iterator, Mapping, Sequence
+from collections.abc import Iterable, Iterator, Sequence
 from typing import NamedTuple, Optional
 
+from scripts.bundles import Names
 from scripts.headers import ECHO_REQUEST, LAST, Box, Range, block_of, dotted
 from scripts.picture_canvas import grouped, width_of
 from scripts.words import PROTOCOLS, counted
@@ -239,11 +240,10 @@ class Region(NamedTuple):
 
 
 class Teller:
-    """Chips of rows, each set of rows told once, and the regions that they have. `prefixes` are
-    those that are delegated to interfaces."""
+    """Chips of rows, each set of rows told once, and the regions that they have."""
 
-    def __init__(self, query: str, prefixes: Optional[Mapping[str, Sequence[str]]] = None) -> None:
-        self.asked, self.prefixes = asked_of(query), prefixes or {}
+    def __init__(self, query: str, names: Optional[Names] = None) -> None:
+        self.asked, self.names = asked_of(query), names or Names()
         self.delegated: dict[str, set[Range]] = {}
         self.known: dict[frozenset[Part], tuple[Chip, ...]] = {}
         # (of each region rows that have it, to be looked at where it is drawn)
@@ -258,10 +258,12 @@ class Teller:
     def is_own(self, end: str, ends: Range) -> bool:
         """Whether a range is one address of an interface, or a prefix of it, or several prefixes
         that touch."""
-        if end == "internet" or ends[0] == ends[1]:
-            return end != "internet"
+        if end == "internet" or self.names.is_outside(end):
+            return False
+        if ends[0] == ends[1]:
+            return True
         if end not in self.delegated:
-            ranges = list(ranges_of(self.prefixes.get(end, ())))
+            ranges = list(ranges_of(self.names.prefixes.get(end, ())))
             self.delegated[end] = {*ranges, *merged(ranges)}
         return ends in self.delegated[end]
 

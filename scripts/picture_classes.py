@@ -215,6 +215,7 @@ class Label:
 
     def __init__(self, name: Optional[str], count: str, ids: Sequence[str], width: float) -> None:
         self.name, self.count, self.words = name, count, list(ids)
+        self.is_outside = False
         self.is_one = not name and not count
         self.runs: list[list[Run]] = [
             [Run(it, 12.5, "ink", False, True)] for it in wrapped(name, width, 12.5)
@@ -246,12 +247,21 @@ class Label:
         return self.name or (self.words[0] if self.is_one else self.count)
 
 
+def counted_ends(names: Names, ids: Sequence[str]) -> str:
+    """How many interfaces, and how many networks that aren't described."""
+    outside = sum(map(names.is_outside, ids))
+    both = [counted(len(ids) - outside, "interface"), counted(outside, "network")]
+    return " and ".join(it for it in both if not it.startswith("0 ")) or both[0]
+
+
 def label_of_ids(namer: Namer, ids: Sequence[str], width: float, most: int = MOST_IDS) -> Label:
     """A class by what it has in common, with its first ids."""
-    name, count = namer.name(ids), counted(len(ids), "interface") * (len(ids) > 1)
+    name, count = namer.name(ids), counted_ends(namer.names, ids) * (len(ids) > 1)
     most = most if name else max(most, 1)
     shown = [*ids] if len(ids) <= most + 1 else [*ids[:most], f"and {len(ids) - most:,} more"]
-    return Label(name, count, shown if most or len(ids) == 1 else [], width)
+    label = Label(name, count, shown if most or len(ids) == 1 else [], width)
+    label.is_outside = all(map(namer.names.is_outside, ids))
+    return label
 
 
 def names_of_units(units: Sequence[Unit], among: Sequence[Unit]) -> dict[str, int]:
@@ -268,16 +278,22 @@ def names_of_units(units: Sequence[Unit], among: Sequence[Unit]) -> dict[str, in
 
 
 def label_of_units(
-    by: str, units: Sequence[Unit], among: Sequence[Unit], width: float
+    names: Names, by: str, units: Sequence[Unit], among: Sequence[Unit], width: float
 ) -> Label:
     """Some of the parts of a network by their names, with how many there are."""
     if units[0].name == "internet":
         return Label(None, "", ["internet"], width)
-    interfaces = counted(sum(len(it.ids) for it in units), "interface")
-    if len(units) == 1:
-        return Label(units[0].name, interfaces, [], width)
-    names = names_of_units(units, among)
-    shown = [*names][: 3 if len(names) == 3 else 2]
-    left = len(units) - sum(names[it] for it in shown)
-    name = listed(shown, len(shown) + left)
-    return Label(name, f"{counted(len(units), *KINDS[by])}, {interfaces}", [], width)
+    ids = [it for unit in units for it in unit.ids]
+    count, is_outside = counted_ends(names, ids), all(map(names.is_outside, ids))
+    if len(units) > 1:
+        found = names_of_units(units, among)
+        shown = [*found][: 3 if len(found) == 3 else 2]
+        name = listed(shown, len(shown) + len(units) - sum(found[it] for it in shown))
+        parts = "" if is_outside else f"{counted(len(units), *KINDS[by])}, "
+        label = Label(name, parts + count, [], width)
+    elif is_outside:
+        label = Label(names.of(ids[0]), "", ids, width)
+    else:
+        label = Label(units[0].name, count, [], width)
+    label.is_outside = is_outside
+    return label

@@ -132,7 +132,7 @@ def labels_of(folded: Folded, by: str, units: list[Unit], namer: Namer) -> list[
         numbered = {it.number for it in folded.classes}
         others = [it for number, it in enumerate(units, 1) if number not in numbered]
         shown = [[units[it.number - 1]] if it.number else others for it in folded.classes]
-        return [label_of_units(by, it, units, LABEL) for it in shown]
+        return [label_of_units(namer.names, by, it, units, LABEL) for it in shown]
     count = len(folded.classes)
     most = 6 if count <= 6 else 2 if count <= 10 else 0
     ordered = [sorted(it.ids, key=namer.order) for it in folded.classes]

@@ -23,6 +23,8 @@ ICONS = {
     "nat": "M3 6h11l-3-3M15 12H4l3 3",
     "peer": "M6.5 4.5a4.5 4.5 0 1 0 .01 0zM11.5 4.5a4.5 4.5 0 1 0 .01 0z",
     "transit": "M9 6.5a2.5 2.5 0 1 0 .01 0zM9 6.5V2.5M9 11.5v4M6.5 9h-4M11.5 9h4",
+    "outside": "M5.2 14a3.2 3.2 0 0 1-.2-6.4a4.2 4.2 0 0 1 8-.6a3.6 3.6 0 0 1 0 7z",
+    "wall": "M2.5 3.5h13v11h-13zM2.5 7.2h13M2.5 10.8h13M7 3.5v3.7M11.5 7.2v3.6M7 10.8v3.7",
 }
 # What a place is drawn as, and in which color.
 KINDS = {
@@ -38,7 +40,11 @@ KINDS = {
     "peer": ("peer", "purple"),
     "tgw": ("transit", "purple"),
     "tgw-leave": ("transit", "purple"),
+    "far-out": ("outside", "purple"),
+    "far-in": ("outside", "purple"),
+    "inspect": ("wall", "orange"),
 }
+OUTSIDE_WORDS = "network that isn't described"
 QUESTION = "a4 4 0 1 1 6 3.4c-1.4.8-2 1.6-2 3.2m0 3.8v.1"
 LANE = 424
 STEP = 18
@@ -304,12 +310,22 @@ def draw_turn(drawing: Drawing, x: float, turn: float, top: float) -> None:
 
 
 def draw_walk_legend(drawing: Drawing, *walks: Walk) -> None:
+    """What marks mean that stand in the walks."""
     neighbours = (pair for it in walks for pair in zip(it.hops, it.hops[1:]))
+    kinds = {KINDS[hop.place][0] for it in walks for hop in it.hops}
+    x, top = float(MARGIN), drawing.bottom + 14
     if any(one.header != other.header for one, other in neighbours):
-        top = drawing.bottom + 14
         for style in ("orange-tint", "orange-line"):
-            drawing.rect(MARGIN, top, 26, 14, style, 3)
-        drawing.text(MARGIN + 34, top + 11.5, "rewritten", 11.5, "soft")
+            drawing.rect(x, top, 26, 14, style, 3)
+        drawing.text(x + 34, top + 11.5, "rewritten", 11.5, "soft")
+        x += 34 + width_of("rewritten", 11.5) + 22
+    if "outside" in kinds:
+        drawing.rect(x, top - 2, 26, 18, KINDS["far-out"][1], 4)
+        at = f' transform="translate({number(x + 4)} {number(top - 2)})" stroke-width="1.3"'
+        drawing.path(ICONS["outside"], "mark", f"{at}{ROUND}")
+        drawing.text(x + 34, top + 11.5, OUTSIDE_WORDS, 11.5, "soft")
+        x += 34
+    if x > MARGIN:
         drawing.bottom = top + 14
 
 

@@ -15,9 +15,10 @@ from scripts.picture_chips import (
     ALL_PORTS, SEPARATOR, Chip, Part, Teller, address_words, chip_order, mark, merged,
 )
 from scripts.picture_classes import (
-    BY, KINDS, Label, Namer, Unit, fold, label_of_ids, label_of_units, natural, units_of,
+    BY, KINDS, Label, Namer, Unit, counted_ends, fold, label_of_ids, label_of_units, natural,
+    units_of,
 )
-from scripts.picture_walks import is_unknown
+from scripts.picture_walks import OUTSIDE_WORDS, is_unknown
 from scripts.texts import Diff, DiffRow, Reach, ReachRow
 from scripts.words import SIDES, counted
 
@@ -32,6 +33,8 @@ WAYS = {
 MOST_PATHS = 60
 MOST_CHIPS = 9
 WIDTH, NODE = 1120, 288
+# The dashes of the edge of a network that isn't described.
+NOT_DESCRIBED = "5 3"
 # How high a picture is that is seen at once.
 SCREEN = 1040
 BETWEEN, APART = 8, 10
@@ -96,7 +99,7 @@ class Pairs:
     """What rows tell of each start and end, by their words."""
 
     def __init__(self, found: Union[Reach, Diff], names: Names) -> None:
-        self.teller, self.is_cut = Teller(found.query, names.prefixes), bool(found.next)
+        self.teller, self.is_cut = Teller(found.query, names), bool(found.next)
         self.rows: dict[tuple[str, str, str], list[Union[ReachRow, DiffRow]]] = {}
         for it in found.rows:
             self.rows.setdefault((word_of(it), it.start, it.end), []).append(it)
@@ -371,8 +374,9 @@ def box_height(label: Label) -> float:
 
 
 def draw_node(drawing: Drawing, label: Label, x: float, top: float, height: float) -> None:
+    """An end, or several; the edge of those that aren't described is dashed."""
     drawing.rect(x, top, NODE, height, "panel", 8)
-    drawing.rect(x, top, NODE, height, "edge", 8)
+    drawing.rect(x, top, NODE, height, "edge", 8, dashed(NOT_DESCRIBED * label.is_outside))
     label.draw(drawing, x + 14, top + (box_height(label) - label.height) / 2)
 
 
@@ -392,7 +396,7 @@ class Ways:
 
     def label(self, units: list[Unit]) -> Label:
         if self.by != "host":
-            return label_of_units(self.by, units, self.units, NODE - 28)
+            return label_of_units(self.namer.names, self.by, units, self.units, NODE - 28)
         ids = sorted((it for of in units for it in of.ids), key=self.namer.order)
         return label_of_ids(self.namer, ids, NODE - 28, 2)
 
@@ -414,8 +418,22 @@ class Ways:
             ]
             draw_start(drawing, ways, self.labels[id(paths[0].starts)], self.middle)
         if self.left_out:
-            lines = wrapped(more_words(self.left_out), WIDTH - 2 * MARGIN, 13)
+            lines = wrapped(self.more_words(), WIDTH - 2 * MARGIN, 13)
             drawing.bottom = drawing.lines(MARGIN, drawing.bottom, lines, 13, "ink") + 18
+        ends = [units for it in self.paths for units in (it.starts, it.ends)]
+        if any(self.labels[id(it)].is_outside for it in ends):
+            top = drawing.bottom - APART + 14
+            drawing.rect(MARGIN, top, 26, 14, "edge", 3, dashed(NOT_DESCRIBED))
+            drawing.text(MARGIN + 34, top + 11.5, OUTSIDE_WORDS, 11.5, "soft")
+            drawing.bottom = top + 14 + APART
+
+    def more_words(self) -> str:
+        """What isn't drawn."""
+        rows = counted(sum(it.rows for it in self.left_out), "row")
+        units = [unit for path in self.left_out for unit in path.starts + path.ends]
+        ids = list({it for unit in units for it in unit.ids})
+        ends = counted_ends(self.namer.names, ids)
+        return f"and {grouped(len(self.left_out))} more, not drawn: {rows} of {ends}"
 
     def words(self) -> list[str]:
         """What is drawn, in words."""
@@ -423,7 +441,7 @@ class Ways:
             f"{it.word} from {self.labels[id(it.starts)].told()} to "
             f"{self.labels[id(it.ends)].told()}: {', '.join([*self.chips(it), *it.notes])}"
             for it in self.paths
-        ] + [more_words(self.left_out)] * bool(self.left_out)
+        ] + ([self.more_words()] if self.left_out else [])
 
     def chips(self, path: Path) -> list[str]:
         return [self.teller.words(*it, 9999) for it in path.chips[:MOST_CHIPS]]
@@ -452,13 +470,6 @@ def draw_start(drawing: Drawing, ways: list[Way], label: Label, middle: float) -
     drawing.bottom = max(top + height, end) + APART
 
 
-def more_words(paths: Sequence[Path]) -> str:
-    rows = counted(sum(it.rows for it in paths), "row")
-    ids = {it for path in paths for unit in path.starts + path.ends for it in unit.ids}
-    interfaces = counted(len(ids), "interface")
-    return f"and {grouped(len(paths))} more, not drawn: {rows} of {interfaces}"
-
-
 # ---- pictures
 
 
@@ -482,19 +493,21 @@ def title_of(found: Union[Reach, Diff]) -> str:
     return title + ", in part" * bool(found.next)
 
 
-def summary_of(found: Union[Reach, Diff], folded: Folded) -> str:
-    """How many interfaces there are, what they are folded by, and of reach the rows."""
+def summary_of(found: Union[Reach, Diff], folded: Folded, names: Names) -> str:
+    """How many ends there are, what they are folded by, and of reach the rows."""
     units = [it for it in folded.units if it.name != "internet"]
-    told = counted(sum(len(it.ids) for it in units), "interface")
+    told = counted_ends(names, [it for unit in units for it in unit.ids])
     if folded.by != "host":
         told += f" by {KINDS[folded.by][0]}"
     return told + f", {counted(len(found.rows), 'row')}" * isinstance(found, Reach)
 
 
-def draw_head(drawing: Drawing, found: Union[Reach, Diff], folded: Folded) -> None:
+def draw_head(
+    drawing: Drawing, found: Union[Reach, Diff], folded: Folded, names: Names
+) -> None:
     """The title, the words of the ways, and the query."""
     title = [Run(title_of(found), 18, "ink", False, True)]
-    title += [Run(summary_of(found, folded), 13, "soft")] * bool(found.rows)
+    title += [Run(summary_of(found, folded, names), 13, "soft")] * bool(found.rows)
     drawing.runs(MARGIN, drawing.bottom + 16, title)
     drawing.bottom += 34
     if isinstance(found, Diff) and found.rows:
@@ -527,7 +540,7 @@ def draw_folded(
 ) -> tuple[Drawing, str, str]:
     """A picture of ways, folded in one way."""
     drawing, ways = Drawing(WIDTH, drawing_name), Ways(folded, names)
-    draw_head(drawing, found, folded)
+    draw_head(drawing, found, folded, names)
     ways.draw(drawing)
     drawing.bottom -= APART
     title = title_of(found)

@@ -5,7 +5,7 @@ from __future__ import annotations
 from collections.abc import Callable, Iterable
 from typing import Any
 
-from scripts.bundles import Row, harmless
+from scripts.bundles import LISTS, Row, harmless
 from scripts.plan_changes import UNKNOWN, Change, Plan, Untold, shown
 from scripts.plan_rows import Bundle, inner
 from scripts.plan_rules import Rules
@@ -59,6 +59,24 @@ class Applying:
         """The row of the bundle that a resource is."""
         is_new = change.does("create")
         return self.bundle.row(kind, self.plan.own_id(change) if is_new else change.after.get("id"))
+
+    def home(self) -> Row:
+        """The object of an account to which new VPCs belong, and gateways of none: the one whose
+        rows the plan is about."""
+        if len(self.bundle.objects) == 1:
+            return self.bundle.objects[0]
+        known = {it.id_before() for it in self.plan.changes}
+        found = [
+            part
+            for part in self.bundle.objects
+            if any(
+                row.get(key) in known for name, key in LISTS.items() for row in part.get(name) or []
+                if isinstance(row.get(key), str)
+            )
+        ]
+        if len(found) != 1:
+            raise Untold("which of the bundle's accounts it is made in isn't told")
+        return found[0]
 
     def vpc_of(self, change: Change) -> Any:
         """The id of a resource's VPC: the default one where none is told."""

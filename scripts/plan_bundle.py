@@ -11,16 +11,20 @@ has no id yet gets its address as its id:
 
 It applies VPCs, subnets, security groups, their rules and the VPCs that they are associated with,
 network ACLs and their rows, route tables, their routes and associations, network interfaces with
-their groups, addresses and prefixes, and the interfaces of instances; of transit gateways and their
-attachments to VPCs whether rules may name groups over them. What it can't apply, or not without a
-guess, is told on standard error, one line each, and at last how many changes that is about:
+their groups, addresses and prefixes, and the interfaces of instances; virtual private gateways,
+what they are attached to, and which tables take their routes; endpoints of VPCs, with their routes
+or interfaces; of transit gateways and their attachments to VPCs whether rules may name groups over
+them. What it can't apply, or not without a guess, is told on standard error, one line each, and at
+last how many changes that is about:
 
     not applied: aws_lb.a: it makes, changes or takes away interfaces that a plan doesn't tell
     not applied: aws_instance.a: private_ip isn't known before the apply: 10.0.1.4 is taken for it
     2 changes not applied
 
-Of the resources of AWS it passes over those alone that are known to touch no network, as buckets,
-roles and DNS records.
+So it is with VPN connections, Direct Connect, peerings and attachments of transit gateways. Which
+routes a gateway propagates a plan doesn't tell: they are those that other tables have of it, and
+where none has, that is told. Of the resources of AWS it passes over those alone that are known to
+touch no network, as buckets, roles and DNS records.
 
 Where the plan doesn't know a value yet, it is looked for by the references of its expression. Of a
 list that is not known yet, literals beside references are in no plan's JSON:
@@ -42,14 +46,14 @@ from collections.abc import Callable, Sequence
 from scripts.bundles import harmless
 from scripts.commands import ODD, Refused
 from scripts.plan_changes import Change, Plan, has_true, shown
-from scripts.plan_interfaces import InstanceChanges
+from scripts.plan_endpoints import EndpointChanges
 from scripts.plan_naming import NAMING, NAMING_LISTS
 from scripts.plan_rows import Bundle
 from scripts.plan_types import PLACED, SILENT, UNAPPLIED, is_quiet, placing
 from scripts.plan_vpcs import VpcChanges
 
 
-class Apply(VpcChanges, InstanceChanges):
+class Apply(VpcChanges, EndpointChanges):
     """Applies a plan to a bundle, and keeps the lines about what isn't applied."""
 
     def run(self) -> list[str]:
@@ -129,6 +133,13 @@ TAKEN: Acts = {
     "aws_network_interface_sg_attachment": Apply.take_group_attachment,
     "aws_network_interface_attachment": Apply.take_attachment,
     "aws_vpc_security_group_vpc_association": Apply.take_association,
+    "aws_vpn_gateway_route_propagation": Apply.take_propagation,
+    "aws_vpn_gateway_attachment": Apply.take_gateway_attachment,
+    "aws_vpn_gateway": Apply.take_gateway,
+    "aws_vpc_endpoint_route_table_association": Apply.take_endpoint_table,
+    "aws_vpc_endpoint_subnet_association": Apply.take_endpoint_subnet,
+    "aws_vpc_endpoint_security_group_association": Apply.take_endpoint_group,
+    "aws_vpc_endpoint": Apply.take_endpoint,
 }
 MADE: Acts = {
     "aws_vpc": Apply.make_vpc,
@@ -137,6 +148,8 @@ MADE: Acts = {
     "aws_vpc_security_group_vpc_association": Apply.make_association,
     "aws_network_acl": Apply.make_acl,
     "aws_route_table": Apply.make_table,
+    "aws_vpn_gateway": Apply.make_gateway,
+    "aws_vpc_endpoint": Apply.make_endpoint,
     # (after the groups, whose rows it names)
     "aws_network_interface": Apply.make_interface,
     "aws_instance": Apply.make_instance,
@@ -156,12 +169,21 @@ FILLED: Acts = {
     "aws_network_interface": Apply.fill_interface,
     "aws_network_interface_sg_attachment": Apply.fill_group_attachment,
     "aws_network_interface_attachment": Apply.fill_attachment,
+    # (a table may take the routes of a gateway that is attached)
+    "aws_vpn_gateway": Apply.fill_gateway,
+    "aws_vpn_gateway_attachment": Apply.fill_gateway_attachment,
     "aws_default_route_table": Apply.fill_table,
     "aws_route_table": Apply.fill_table,
+    "aws_vpn_gateway_route_propagation": Apply.fill_propagation,
     "aws_route": Apply.fill_route,
     "aws_route_table_association": Apply.fill_table_association,
     "aws_main_route_table_association": Apply.fill_main_table,
     "aws_instance": Apply.fill_instance,
+    # (after all that have their addresses told)
+    "aws_vpc_endpoint": Apply.fill_endpoint,
+    "aws_vpc_endpoint_route_table_association": Apply.fill_endpoint_table,
+    "aws_vpc_endpoint_security_group_association": Apply.fill_endpoint_group,
+    "aws_vpc_endpoint_subnet_association": Apply.fill_endpoint_subnet,
 }
 # (of what else they change is told)
 PARTLY_FILLED: Acts = {it: Apply.fill_naming for it in NAMING_LISTS}

@@ -22,6 +22,8 @@ KINDS = {
     "aws_default_network_acl": "NetworkAclId",
     "aws_security_group": "GroupId",
     "aws_default_security_group": "GroupId",
+    "aws_vpn_gateway": "VpnGatewayId",
+    "aws_vpc_endpoint": "VpcEndpointId",
 }
 # What comes with a VPC, by the attributes that name it.
 OF_VPC = {
@@ -316,6 +318,8 @@ class Plan:
         """The private addresses and prefixes that the plan gives to somebody."""
         names = "private_ip private_ips private_ip_list secondary_private_ips ipv4_prefixes".split()
         values = [it.after.get(name) for it in self.changes for name in names]
+        placed = (row for it in self.changes for row in rows(it.after, "subnet_configuration"))
+        values += [it.get("ipv4") for it in placed]
         return {it for it in flat(values) if isinstance(it, str)}
 
     # -- expressions

@@ -17,6 +17,7 @@ LIST_OF = {
     LISTS[name]: name
     for name in (
         "Vpcs", "Subnets", "NetworkInterfaces", "RouteTables", "NetworkAcls", "SecurityGroups",
+        "VpnGateways", "VpcEndpoints",
     )
 }
 # Protocols as Terraform may name them in rows of ACLs.
@@ -100,6 +101,12 @@ class Bundle:
 
     def is_subnet(self, value: Any) -> bool:
         return self.find("Subnets", value) is not None
+
+    def is_table(self, value: Any) -> bool:
+        return self.find("RouteTables", value) is not None
+
+    def is_gateway(self, value: Any) -> bool:
+        return self.find("VpnGateways", value) is not None
 
     def has_prefix_list(self, found: Any) -> bool:
         listed = member(self.find("PrefixLists", found), "Cidrs")

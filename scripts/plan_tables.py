@@ -5,9 +5,9 @@ from __future__ import annotations
 from typing import Any, Optional
 
 from scripts.bundles import Row, member, rows
-from scripts.plan_applying import Applying
-from scripts.plan_changes import KINDS, UNKNOWN, Change, NewId, Untold, has_true, id_text, shown
-from scripts.plan_rows import (LIST_OF, block_if, block_of, inner, is_main, owner, room, tags_of)
+from scripts.plan_changes import UNKNOWN, Change, NewId, Untold, has_true, id_text, shown
+from scripts.plan_gateways import GATEWAYS, Destination, GatewayChanges, number_of
+from scripts.plan_rows import LIST_OF, block_of, inner, is_main, owner, room, tags_of
 
 # The attributes that may name a route's target, and EC2's members.
 TARGETS = {
@@ -35,9 +35,14 @@ DESCRIBED = {
 }
 ASSOCIATED = {"State": "associated"}
 LOCAL = {"GatewayId": "local", "Origin": "CreateRouteTable", "State": "active"}
-# A destination, and a target: the member, and what it is.
-Destination = tuple[str, Any]
+# A target: the member, and what it is.
 Target = tuple[str, Any]
+# Of what kind a target is that isn't known yet, where a block may name it.
+TO_COME = {
+    "network_interface_id": "NetworkInterfaceId",
+    "gateway_id": "VpnGatewayId",
+    "vpc_endpoint_id": "VpcEndpointId",
+}
 
 
 def targets(row: Row) -> Row:
@@ -66,13 +71,14 @@ def destination_if(row: Row) -> Optional[Destination]:
         return None
 
 
-def number_of(routes: list[Row], key: Destination) -> Optional[int]:
-    """Where a route to a destination stands; None where there is none."""
-    found = (k for k, it in enumerate(routes) if block_if(it.get(key[0])) == key[1])
-    return next(found, None)
+def is_of_service(route: Row) -> bool:
+    """Whether a route is one to a service, which comes and goes with its endpoint."""
+    to = route.get("GatewayId")
+    is_to_endpoint = isinstance(to, str) and to.startswith("vpce-")
+    return is_to_endpoint and "DestinationPrefixListId" in route
 
 
-class TableChanges(Applying):
+class TableChanges(GatewayChanges):
     def add_table(self, part: Row, table: Any, vpc: Any, tags: list[Row], whose: Row) -> Row:
         row = {
             "Associations": [],
@@ -104,10 +110,13 @@ class TableChanges(Applying):
         table, is_new = self.own(change, "RouteTableId"), change.does("create")
         if change.type == "aws_default_route_table" and is_new:
             # (Terraform takes all routes away when it begins to manage it)
-            routes = inner(table, "Routes")
-            table["Routes"] = [it for it in routes if it.get("GatewayId") == "local"]
-        if change.after.get("propagating_vgws") and change.differs("propagating_vgws"):
-            self.tell(change.address, "the routes of propagating_vgws aren't known")
+            for it in [it.get("GatewayId") for it in inner(table, "PropagatingVgws")]:
+                self.stop_propagating(table, it)
+            table["Routes"] = [
+                it for it in inner(table, "Routes")
+                if it.get("GatewayId") == "local" or is_of_service(it)
+            ]
+        self.attempt(change, lambda: self.fill_propagating(change, table))
         if change.unknown.get("route") is True:
             if self.plan.is_told(change, "route") or not is_new:
                 raise Untold(f"route {UNKNOWN}")
@@ -162,12 +171,19 @@ class TableChanges(Applying):
         return found[0]
 
     def target_to_come(self, change: Change, name: str, block: Optional[str]) -> Any:
-        kind = KINDS["aws_network_interface"] if name == "network_interface_id" else None
+        kind = TO_COME.get(name)
         if not block:
-            return self.plan.one(change, name, kind)
+            is_interface = name == "network_interface_id"
+            return self.plan.one(change, name, kind if is_interface else None)
         if kind is None:
             raise Untold(f"{name} {UNKNOWN}")
-        return self.plan.one_among(change, block, kind, lambda it: False)
+        found = self.plan.one_among(change, block, kind, lambda it: False)
+        others = self.plan.looked_up(change, block, UNKNOWN) if name == "gateway_id" else []
+        for it in others:
+            # (which of them an attribute names that both may be in)
+            if isinstance(it, NewId) and it.kind == "aws_internet_gateway":
+                raise Untold(f"{name} {UNKNOWN}, and may be of {found}, {it}")
+        return found
 
     def put_route(self, table: Row, key: Destination, target: Target, is_known: bool) -> None:
         """Puts a route in, or has one go elsewhere."""
@@ -190,6 +206,8 @@ class TableChanges(Applying):
         is_internet = member_name == "GatewayId" and str(value).startswith("igw-")
         name = "InternetGateways" if is_internet else DESCRIBED.get(member_name)
         is_new = isinstance(value, NewId) and value.kind not in LIST_OF
+        if isinstance(value, NewId) and value.kind in LIST_OF:
+            name = LIST_OF[value.kind]
         if name and self.bundle.find(name, value) is None or is_new:
             raise Untold(f"the bundle has no {shown(value)}")
 
@@ -226,6 +244,8 @@ class TableChanges(Applying):
         gateway = self.plan.one(change, "gateway_id", None)
         if not gateway:
             raise Untold("it names neither a subnet nor a gateway")
+        if not any(self.bundle.find(it, gateway) for it in ("InternetGateways", GATEWAYS)):
+            raise Untold(f"the bundle has no {shown(gateway)}")
         return "GatewayId", gateway
 
     def fill_table_association(self, change: Change) -> None:

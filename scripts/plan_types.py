@@ -53,7 +53,7 @@ QUIET = types(
     cloudfront_* cloudtrail* cloudwatch_* codeartifact_* codebuild_report_group
     codebuild_resource_policy codebuild_source_credential codebuild_webhook codecommit_*
     codedeploy_* codeguru* codepipeline* codestar* cognito_* comprehend_* config_* cur_*
-    customerprofiles_* dataexchange_* db_cluster_snapshot db_event_subscription
+    customer_gateway customerprofiles_* dataexchange_* db_cluster_snapshot db_event_subscription
     db_instance_automated_backups_replication db_instance_role_association db_option_group
     db_parameter_group db_proxy_default_target_group db_proxy_target db_snapshot db_snapshot_copy
     default_vpc_dhcp_options detective_* devopsguru_* dlm_* dx_lag dynamodb_* ebs_*

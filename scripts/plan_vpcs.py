@@ -7,6 +7,7 @@ from typing import Any
 from scripts.bundles import LISTS, Row, rows
 from scripts.plan_acls import AclChanges
 from scripts.plan_changes import UNKNOWN, Change, NewId, Untold, of_vpc
+from scripts.plan_gateways import vpc_attached
 from scripts.plan_groups import GroupChanges
 from scripts.plan_rows import (
     USED_BY_VPC, block_of, came_with_vpc, every_row, owner, room, tags_of,
@@ -16,24 +17,6 @@ from scripts.plan_tables import ASSOCIATED, TableChanges
 
 
 class VpcChanges(GroupChanges, AclChanges, TableChanges):
-    def home(self) -> Row:
-        """The object of an account to which new VPCs belong: the one whose rows the plan is
-        about."""
-        if len(self.bundle.objects) == 1:
-            return self.bundle.objects[0]
-        known = {it.id_before() for it in self.plan.changes}
-        found = [
-            part
-            for part in self.bundle.objects
-            if any(
-                row.get(key) in known for name, key in LISTS.items() for row in part.get(name) or []
-                if isinstance(row.get(key), str)
-            )
-        ]
-        if len(found) != 1:
-            raise Untold("which of the bundle's accounts it is made in isn't told")
-        return found[0]
-
     def block_of_new(self, change: Change) -> str:
         block = change.after.get("cidr_block")
         if not block:
@@ -87,6 +70,10 @@ class VpcChanges(GroupChanges, AclChanges, TableChanges):
         for it in self.bundle.rows("InternetGateways"):
             if any(to.get("VpcId") == vpc for to in rows(it, "Attachments")):
                 used.append(it.get("InternetGatewayId"))
+        gateways = self.bundle.rows("VpnGateways")
+        used += [it["VpnGatewayId"] for it in gateways if vpc_attached(it) == vpc]
+        endpoints = self.bundle.rows("VpcEndpoints")
+        used += [it["VpcEndpointId"] for it in endpoints if it.get("VpcId") == vpc]
         self.refuse_used(used)
         for name in USED_BY_VPC:
             for it in [it for it in self.bundle.rows(name) if it.get("VpcId") == vpc]:

@@ -1,12 +1,16 @@
-"""Tells what a bundle has that vpc doesn't follow: survey [--all] BUNDLE
+"""Tells what a bundle has that vpc doesn't follow, and what leads outside: survey [--all] BUNDLE
 
 Each kind of finding is one line on standard output: what it is, and what it means for answers.
 Where there are several of a kind the line counts them, and names the first; --all tells each with
 its ids.
 
-    not followed: route rtb-1 10.9.0.0/16 to vgw-1: packets stop there as Unmodelled
+    not followed: route rtb-1 10.9.0.0/16 to lgw-1: packets stop there as Unmodelled
     not followed: 12 route tables with routes of IPv6, as rtb-2: every answer is about IPv4 alone
     not told: block public access of subnet-1
+    outside: pcx-1 of vpc-1, VPC vpc-9, which isn't described: packets come in from there
+
+A line of `outside` is of an end that no bundle describes: what stands behind it, and whether
+packets come in from there, or why not. It may be asked about by its id, as an interface may.
 
 Block public access that isn't told, as older command lines don't, counts as off, and so does what
 lets rules name groups over a transit gateway. docs/LIMITS.md says more of each, and what AWS does
@@ -28,6 +32,7 @@ from scripts.bundles import (
     LISTS, TARGETS, NoBundle, Row, harmless, harmless_ids, has_lists, json_in, member, objects_of,
     rows,
 )
+from scripts.outside import BEHIND, Far, Outside
 from scripts.words import ATTACHED, USABLE
 
 FOLLOWED = ("NatGatewayId", "TransitGatewayId", "VpcPeeringConnectionId", "NetworkInterfaceId")
@@ -38,8 +43,8 @@ EMPTY = (
 
 UNMODELLED = "packets stop there as Unmodelled"
 IPV4_ALONE = "every answer is about IPv4 alone"
-BEHIND = "packets from behind it can't be asked about"
-BEHIND_THEM = "packets from behind them can't be asked about"
+NOT_ASKED = "packets from behind it can't be asked about"
+NONE_ASKED = "packets from behind them can't be asked about"
 NOT_PUBLIC = "packets from it stop as NoPublic, and none to it comes to the interface"
 NONE_PUBLIC = "packets from them stop as NoPublic, and none to them comes to the interfaces"
 
@@ -91,6 +96,12 @@ class Bundle(dict[str, list[Row]]):
         self.peerings = {
             it: row for it, row in peerings.items() if member(row, "Status", "Code") == "active"
         }
+        pairs = {it: vpcs_of(row) for it, row in self.peerings.items()}
+        self.outside = Outside(self, self.vpcs, pairs)
+        self.inspected = {
+            harmless(it["VpcEndpointId"]) for it in self["Appliances"]
+            if it.get("NetworkInterfaceId") is None and it.get("VpcEndpointId") is not None
+        }
         # (of VPCs)
         attached = self["TransitGatewayVpcAttachments"]
         usable = [it for it in attached if it.get("State") in USABLE]
@@ -107,6 +118,13 @@ class Bundle(dict[str, list[Row]]):
         listed = self["SecurityGroupRules"]
         self.ruled_apart = {harmless(it.get("GroupId")) for it in listed}
         self.listed = {harmless(it.get("GroupId")) for it in listed if is_of_ipv4(it)}
+
+
+def vpcs_of(peering: Row) -> tuple[str, str]:
+    """The two VPCs of a peering, the requester's first."""
+    names = ("RequesterVpcInfo", "AccepterVpcInfo")
+    one, other = (harmless(member(peering, it, "VpcId")) for it in names)
+    return one, other
 
 
 def is_of_ipv4(rule: Row) -> bool:
@@ -131,16 +149,14 @@ def bundle_of(path: str) -> Bundle:
 # ---- routes
 
 LOST_ROUTES = Kind("routes that lead beyond what is followed", UNMODELLED)
-GATEWAYS = Kind("gateways to other networks", BEHIND_THEM)
+GATEWAYS = Kind("gateways to other networks", NONE_ASKED)
 FILTERED = Kind("filtered routes", "AWS doesn't use them, and answers do")
 ADVERTISED = Kind(
     "routes of route servers",
     "of routes as long as they are, answers may go by others than AWS does",
 )
-EDGE_TABLES = Kind(
-    "route tables of internet gateways", "packets that come in go straight to their hosts"
-)
-OTHER_TABLES = Kind("route tables of gateways to other networks", BEHIND_THEM)
+EDGE_ROUTES = Kind("routes of gateways' tables that lead beyond what is followed", UNMODELLED)
+OTHER_TABLES = Kind("route tables of gateways to other networks", NONE_ASKED)
 
 
 def destination(route: Row) -> Optional[str]:
@@ -170,23 +186,38 @@ def route_words(table: Row, route: Row) -> str:
 
 def other_vpc(peering: Row, vpc: str) -> str:
     """The VPC at the other side of a peering."""
-    names = ("RequesterVpcInfo", "AccepterVpcInfo")
-    sides = [harmless(member(peering, it, "VpcId")) for it in names]
+    sides = vpcs_of(peering)
     return sides[1] if sides[0] == vpc else sides[0]
+
+
+def is_followed_out(bundle: Bundle, it: str, vpc: str) -> bool:
+    """Whether a route of a VPC leads to a far end, or is told not to; or to the endpoint of a
+    firewall, of which another line tells if nothing stands behind it."""
+    far = bundle.outside.fars.get(it)
+    if far and far.kind in ("gateway", "endpoint"):
+        return far.kind == "gateway" or bundle.outside.beside(far) == vpc
+    return not far and leads_to_firewall(bundle, it, vpc)
+
+
+def leads_to_firewall(bundle: Bundle, it: str, vpc: str) -> bool:
+    found = bundle.outside.firewalls.get(it)
+    return bool(found and found.vpc == vpc and vpc in bundle.vpcs)
 
 
 def why_not_followed(bundle: Bundle, table: Row, route: Row) -> Optional[str]:
     """Why a route's target isn't followed, as words behind it; None where it is."""
     name, it = target(route)
-    if name == "GatewayId":
-        return None if it == "local" or it.startswith("igw-") else ""
+    vpc = harmless(table.get("VpcId"))
+    if name == "GatewayId" and (it == "local" or it.startswith("igw-")):
+        return None
     gateway = bundle.nats.get(it, {}) if name == "NatGatewayId" else {}
     if gateway.get("State") == "available" and gateway.get("SubnetId") is None:
         return ", which has no subnet"
     if name == "VpcPeeringConnectionId" and it in bundle.peerings:
-        other = other_vpc(bundle.peerings[it], harmless(table.get("VpcId")))
-        return None if other in bundle.vpcs else f", whose other VPC {other} isn't described"
-    return None if name in FOLLOWED else ""
+        other = other_vpc(bundle.peerings[it], vpc)
+        is_known = other in bundle.vpcs or bundle.outside.end(it)
+        return None if is_known else f", whose other VPC {other} isn't described"
+    return None if name in FOLLOWED or is_followed_out(bundle, it, vpc) else ""
 
 
 def unmodelled_routes(bundle: Bundle) -> Findings:
@@ -197,12 +228,41 @@ def unmodelled_routes(bundle: Bundle) -> Findings:
             yield Finding(LOST_ROUTES, f"route {name}{why}", name, UNMODELLED)
 
 
+def edge_tables(bundle: Bundle) -> Iterator[tuple[Row, str]]:
+    """The tables that gateways have, each with its gateway: of those with one gateway the first
+    counts."""
+    seen: set[str] = set()
+    for table in bundle["RouteTables"]:
+        for it in rows(table, "Associations"):
+            gateway = harmless(it.get("GatewayId"))
+            if it.get("GatewayId") is not None and gateway not in seen:
+                seen.add(gateway)
+                yield table, gateway
+
+
+def edge_routes(bundle: Bundle) -> Findings:
+    """Routes by which what comes in by a gateway leaves what is followed."""
+    for table, gateway in edge_tables(bundle):
+        far = bundle.outside.fars.get(gateway)
+        for route in rows(table, "Routes"):
+            name, it = target(route)
+            is_inner = (name, it) == ("GatewayId", "local") or name == "NetworkInterfaceId"
+            is_inner |= leads_to_firewall(bundle, it, harmless(table.get("VpcId")))
+            is_passed = gateway.startswith("igw-") or (far and far.kind == "gateway")
+            if is_passed and destination(route) and not is_inner:
+                if route.get("State") != "blackhole":
+                    name = route_words(table, route)
+                    what = f"route {name}, of what comes in by {gateway}"
+                    yield Finding(EDGE_ROUTES, what, name, UNMODELLED)
+
+
 def networks_behind(bundle: Bundle) -> Findings:
     """Gateways to networks of which no bundle tells."""
     for _, route in asked_routes(bundle):
         name, it = target(route)
-        if it.startswith(("vgw-", "lgw-", "cagw-")) or name == "CoreNetworkArn":
-            yield Finding(GATEWAYS, it, it, BEHIND)
+        is_behind = it.startswith(("vgw-", "lgw-", "cagw-")) or name == "CoreNetworkArn"
+        if is_behind and it not in bundle.outside.fars:
+            yield Finding(GATEWAYS, it, it, NOT_ASKED)
 
 
 def route_states(bundle: Bundle) -> Findings:
@@ -217,17 +277,87 @@ def route_states(bundle: Bundle) -> Findings:
 
 
 def gateway_tables(bundle: Bundle) -> Findings:
-    for table in bundle["RouteTables"]:
-        for it in rows(table, "Associations"):
-            if it.get("GatewayId") is None:
-                continue
-            gateway, name = harmless(it["GatewayId"]), harmless(table.get("RouteTableId"))
+    for table, gateway in edge_tables(bundle):
+        if not gateway.startswith("igw-") and gateway not in bundle.outside.fars:
+            name = harmless(table.get("RouteTableId"))
             what = f"route table {name} of gateway {gateway}"
-            if gateway.startswith("igw-"):
-                comes_in = f"packets that come in by {gateway} go straight to their host"
-                yield Finding(EDGE_TABLES, what, name, comes_in)
-            else:
-                yield Finding(OTHER_TABLES, what, name, BEHIND)
+            yield Finding(OTHER_TABLES, what, name, NOT_ASKED)
+
+
+# ---- ends outside
+
+COMES_IN = "packets come in from there"
+COME_IN = "packets come in from behind them"
+NONE_COME_IN = "no packet comes in from behind them"
+OPENS = "it opens no connection; ask to it"
+FAR_KINDS = {
+    "gateway": "virtual private gateways",
+    "attachment": "attachments of transit gateways to {}",
+    "peering": "peerings with VPCs that aren't described",
+    "endpoint": "gateway endpoints",
+}
+UNTOLD_FIREWALLS = Kind(
+    "endpoints of firewalls (Appliances)", UNMODELLED, "not told: what stands behind "
+)
+
+
+def far_kind(far: Far, means: str) -> Kind:
+    """What several far ends are that are alike, and from which packets come in alike."""
+    kind = str(far.row.get("ResourceType"))
+    of = BEHIND[kind][1] if kind in BEHIND else "other networks"
+    mean = COME_IN if means == COMES_IN else NONE_COME_IN
+    opens_none = "they open no connection; ask to them"
+    mean = opens_none if far.kind == "endpoint" else mean
+    of = "VPCs that aren't described" if far.vpc else of
+    return Kind(FAR_KINDS[far.kind].format(of), mean, "outside: ")
+
+
+def led_in(bundle: Bundle, table: str) -> bool:
+    """Whether a route of a transit gateway's table leads to a VPC that is described."""
+    found = (it for it in bundle["TransitGatewayRoutes"] if table_name(it) == table)
+    routes = [it for row in itertools.islice(found, 1) for it in rows(row, "Routes")]
+    return any(it.get("State") != "blackhole" and is_led_in(bundle, it) for it in routes)
+
+
+def is_led_in(bundle: Bundle, route: Row) -> bool:
+    it = harmless(member(route, "TransitGatewayAttachments", 0, "TransitGatewayAttachmentId"))
+    return it in bundle.attachments and why_not_left(bundle, route) is None
+
+
+def table_name(table: Row) -> str:
+    return harmless(table.get("TransitGatewayRouteTableId"))
+
+
+def comes_in(bundle: Bundle, far: Far) -> str:
+    """Whether packets come in from a far end, or why none does."""
+    none = "no packet comes in from there"
+    if far.kind == "endpoint":
+        return OPENS
+    if far.kind == "gateway" and not bundle.outside.beside(far):
+        return f"{none}, since it is attached to no VPC that is described"
+    if far.kind != "attachment":
+        return COMES_IN
+    table = named_tables(bundle).get(far.id)
+    if table is None or table not in map(table_name, bundle["TransitGatewayRoutes"]):
+        return f"{none}, since it has no route table here"
+    return COMES_IN if led_in(bundle, table) else f"{none}, since {table} leads to no VPC here"
+
+
+def far_ends(bundle: Bundle) -> Findings:
+    outside = bundle.outside
+    for far in filter(outside.is_end, outside.fars.values()):
+        gateway = far.row.get("TransitGatewayId") if far.kind == "attachment" else None
+        of = outside.beside(far) if gateway is None else harmless(gateway)
+        means, name = comes_in(bundle, far), far.id + f" of {of}" * bool(of)
+        what = f"{name}, {outside.behind(far)}"
+        yield Finding(far_kind(far, means), what, far.id, means)
+
+
+def untold_firewalls(bundle: Bundle) -> Findings:
+    for it in bundle.outside.firewalls.values():
+        if it.id not in bundle.inspected and it.vpc in bundle.vpcs:
+            what = f"{it.id} of {it.vpc}, an endpoint of a firewall (Appliances)"
+            yield Finding(UNTOLD_FIREWALLS, what, it.id, UNMODELLED)
 
 
 # ---- IPv6
@@ -401,7 +531,7 @@ def untold_access(bundle: Bundle) -> Findings:
 
 # ---- transit gateways
 
-OTHER_ATTACHMENTS = Kind("attachments that lead to other networks than VPCs", BEHIND_THEM)
+OTHER_ATTACHMENTS = Kind("attachments that lead to other networks than VPCs", NONE_ASKED)
 LOST_TRANSIT = Kind("routes of transit gateways that lead to nothing that is described", UNMODELLED)
 NO_TABLES = Kind(
     "route tables of attachments whose routes the bundle doesn't have",
@@ -422,13 +552,17 @@ ZONES = Kind(
 )
 
 
+def far_of(bundle: Bundle, attachment: Row) -> Optional[Far]:
+    return bundle.outside.end(harmless(attachment.get("TransitGatewayAttachmentId")))
+
+
 def other_attachments(bundle: Bundle) -> Findings:
     for it in bundle["TransitGatewayAttachments"]:
-        kind = it.get("ResourceType")
-        if kind not in (None, "vpc") and it.get("State") in (None, *USABLE):
+        kind, is_far = it.get("ResourceType"), far_of(bundle, it)
+        if kind not in (None, "vpc") and it.get("State") in (None, *USABLE) and not is_far:
             name, gateway = it.get("TransitGatewayAttachmentId"), it.get("TransitGatewayId")
             what = f"{harmless(kind)} attachment {harmless(name)} of {harmless(gateway)}"
-            yield Finding(OTHER_ATTACHMENTS, what, harmless(name), BEHIND)
+            yield Finding(OTHER_ATTACHMENTS, what, harmless(name), NOT_ASKED)
 
 
 def why_not_left(bundle: Bundle, route: Row) -> Optional[str]:
@@ -438,6 +572,8 @@ def why_not_left(bundle: Bundle, route: Row) -> Optional[str]:
     if first is None:
         return " without an attachment"
     it, kind = harmless(first.get("TransitGatewayAttachmentId")), first.get("ResourceType")
+    if far_of(bundle, first):
+        return None
     if it not in bundle.attachments:
         is_vpc = kind in (None, "vpc")
         why = "which isn't described" if is_vpc else f"whose kind is {harmless(kind)}"
@@ -458,16 +594,20 @@ def transit_routes(bundle: Bundle) -> Findings:
                 yield Finding(LOST_TRANSIT, f"route {name}{why}", name, UNMODELLED)
 
 
+def named_tables(bundle: Bundle) -> dict[str, str]:
+    """The tables that attachments are associated with, by their attachments."""
+    named: dict[str, str] = {}
+    for it in bundle["TransitGatewayAttachments"]:
+        table = member(it, "Association", "TransitGatewayRouteTableId")
+        if table is not None:
+            named.setdefault(harmless(it.get("TransitGatewayAttachmentId")), harmless(table))
+    return named
+
+
 def missing_tables(bundle: Bundle) -> Findings:
     """Tables of attachments whose routes weren't collected: those that an account doesn't own, it
     doesn't see."""
-    name, tables = "TransitGatewayRouteTableId", bundle["TransitGatewayRoutes"]
-    described = {harmless(it.get(name)) for it in tables}
-    named: dict[str, str] = {}
-    for it in bundle["TransitGatewayAttachments"]:
-        table = member(it, "Association", name)
-        if table is not None:
-            named.setdefault(harmless(it.get("TransitGatewayAttachmentId")), harmless(table))
+    described, named = set(map(table_name, bundle["TransitGatewayRoutes"])), named_tables(bundle)
     missing: dict[str, list[str]] = {}
     for attachment in bundle.attachments:
         if attachment in named and named[attachment] not in described:
@@ -589,10 +729,10 @@ def zone_names(bundle: Bundle) -> Findings:
 
 
 FINDERS = (
-    unmodelled_routes, networks_behind, route_states, gateway_tables, unlisted_groups, ipv6_routes,
-    ipv6_rules, ipv6_acl_rows, ipv6_entries, public_addresses, load_balancers, secondary_addresses,
-    untold_access, other_attachments, missing_tables, transit_routes, attachment_options,
-    doubled_attachments, untold_naming, zone_names,
+    unmodelled_routes, edge_routes, networks_behind, route_states, gateway_tables, unlisted_groups,
+    ipv6_routes, ipv6_rules, ipv6_acl_rows, ipv6_entries, public_addresses, load_balancers,
+    secondary_addresses, untold_access, untold_firewalls, other_attachments, missing_tables,
+    transit_routes, attachment_options, doubled_attachments, untold_naming, zone_names, far_ends,
 )
 
 

@@ -9,7 +9,7 @@ from typing import NoReturn, Optional, Union
 
 from scripts.grammar import Members, forms_of, is_id
 from scripts.headers import Box, Header, Range, address, is_within, reply_of, with_side
-from scripts.words import CUT_SIDES, PROTOCOL_NUMBERS
+from scripts.words import CUT_SIDES, ENDS, PROTOCOL_NUMBERS, STARTS
 
 
 class NoText(Exception):
@@ -347,10 +347,10 @@ def ended_walk(text: Text, first: int, hops: list[Hop], **around: str) -> Walk:
     told = text.take("arrived", "stopped", **around)
     end: End = Arrived(told["id"]) if told["line"] == "arrived" else stop_of(told)
     text.must(hops, "it has a walk without hops")
-    text.agrees(len(hops) <= 64 and hops[0].place in ("out", "internet"))
+    text.agrees(len(hops) <= 64 and hops[0].place in STARTS)
     judged = [it for it in hops if it.place in ("out", "in")]
     if isinstance(end, Arrived):
-        text.agrees(hops[-1].place in ("in", "internet") and hops[-1].id == end.id)
+        text.agrees(hops[-1].place in ENDS and hops[-1].id == end.id)
     elif judged and judged[-1] is hops[-1]:
         judged.pop()
     text.agrees(all(it.by for it in judged))
@@ -358,18 +358,20 @@ def ended_walk(text: Text, first: int, hops: list[Hop], **around: str) -> Walk:
     return Walk(hops, end, first + 1, lines)
 
 
-# How the lines begin that tell what decided, and which of them may stand at a place, in order.
+# How the lines begin that tell what decided, and which of them may stand at a place, in order: a
+# gateway by which a packet enters may have a table.
 DECIDED = ("group", "route", "acl", "becomes")
-DECIDED_AT: dict[str, list[type]] = {
-    "out": [GroupRule],
-    "in": [GroupRule],
-    "router": [ChosenRoute, AclVerdict, AclVerdict],
-    "enter": [AclVerdict],
-    "tgw": [ChosenRoute],
-    "igw-out": [Rewritten],
-    "igw-in": [Rewritten],
-    "nat-out": [Rewritten],
-    "nat-in": [Rewritten],
+DECIDED_AT: dict[str, list[list[type]]] = {
+    "out": [[GroupRule]],
+    "in": [[GroupRule]],
+    "router": [[ChosenRoute, AclVerdict, AclVerdict]],
+    "enter": [[AclVerdict], [ChosenRoute, AclVerdict]],
+    "tgw": [[ChosenRoute]],
+    "far-in": [[ChosenRoute]],
+    "igw-out": [[Rewritten]],
+    "igw-in": [[Rewritten]],
+    "nat-out": [[Rewritten]],
+    "nat-in": [[Rewritten]],
 }
 
 
@@ -410,8 +412,11 @@ def refuses(last: list[Decision], walk: Walk) -> bool:
 
 def is_decided(hop: Hop, found: list[Decision], after: Optional[Header]) -> bool:
     """Whether this may be what decided at a hop, behind which the packet has this header."""
-    kinds = DECIDED_AT.get(hop.place, [])
-    if [type(it) for it in found] != kinds[: len(found)]:
+    kinds = [type(it) for it in found]
+    if kinds not in [it[: len(found)] for it in DECIDED_AT.get(hop.place, [[]])]:
+        return False
+    ways = [it.direction for it in found if isinstance(it, AclVerdict)]
+    if hop.place == "enter" and "out" in ways:
         return False
     rules = [str(it) for it in found if isinstance(it, GroupRule)]
     rewritten = [it.header for it in found if isinstance(it, Rewritten)]

@@ -6,16 +6,21 @@ STOPS = (
     "Detached SourceCheck DestCheck GroupsOut GroupsIn NotAHost ApplianceDrop NoRoute Blackhole "
     "AclOut AclIn NoHost NoGateway GatewayDetached NoPublic PrivateAddress BlockPublicAccess "
     "NatNotAvailable NatAnswer NatProtocol NatFull NatUnsolicited PeerNotActive PeerSource "
-    "PeerDestination TgwNoAttachment TgwNoZone TgwNoTable TgwNoRoute TgwBlackhole Unmodelled Loop "
-    "TooFar WrongPlace WrongReturn NoReply"
+    "PeerDestination TgwNoAttachment TgwNoZone TgwNoTable TgwNoRoute TgwBlackhole FarDetached "
+    "FarNoTable FarSource FarOpens InspectDrop Unmodelled Loop TooFar WrongPlace WrongReturn "
+    "NoReply"
 ).split()
-# Where a packet may be.
-PLACES = "out router enter in igw-out internet igw-in nat-out nat-in peer tgw tgw-leave".split()
+# Where a packet may be, where it starts, and where it arrives.
+PLACES = (
+    "out router enter in igw-out internet igw-in nat-out nat-in peer tgw tgw-leave far-out far-in "
+    "inspect"
+).split()
+STARTS, ENDS = ("out", "internet", "far-in"), ("in", "internet", "far-out")
 # The lists of a bundle that may have too many rows.
 COUNTED_LISTS = (
     "Vpcs Subnets NetworkInterfaces RouteTables PrefixLists NetworkAcls SecurityGroups "
     "InternetGateways NatGateways VpcPeeringConnections TransitGatewayVpcAttachments "
-    "TransitGatewayAttachments TransitGatewayRoutes Appliances"
+    "TransitGatewayAttachments TransitGatewayRoutes Appliances VpnGateways VpcEndpoints"
 ).split()
 # The protocols that have a name.
 PROTOCOLS = {1: "icmp", 6: "tcp", 17: "udp"}

@@ -11,15 +11,15 @@ OCTET = r"(?:25[0-5]|2[0-4][0-9]|1[0-9][0-9]|[1-9]?[0-9])"
 ADDRESS = rf"{OCTET}(?:\.{OCTET}){{3}}"
 HEADER = rf"(?:tcp|udp|icmp|{OCTET}) {ADDRESS} {ADDRESS} {NUMBER} {NUMBER}"
 BOX = rf"{OCTET}-{OCTET} {ADDRESS}-{ADDRESS} {ADDRESS}-{ADDRESS} {NUMBER}-{NUMBER} {NUMBER}-{NUMBER}"
-PLACE = "(?:out|router|enter|in|igw-out|internet|igw-in|nat-out|nat-in|peer|tgw|tgw-leave)"
+PLACE = "(?:out|router|enter|in|igw-out|internet|igw-in|nat-out|nat-in|peer|tgw|tgw-leave|far-out|far-in|inspect)"
 NAME = (
     "(?:Detached|SourceCheck|DestCheck|GroupsOut|GroupsIn|NotAHost|ApplianceDrop|NoRoute|Blackhole|AclOut|AclIn|NoHost|NoGateway|GatewayDetached|NoPublic"
     "|BlockPublicAccess|PrivateAddress|NatNotAvailable|NatAnswer|NatProtocol|NatFull|NatUnsolicited|PeerNotActive|PeerSource|PeerDestination|TgwNoAttachment|TgwNoZone|TgwNoTable"
-    "|TgwNoRoute|TgwBlackhole|Unmodelled|Loop|TooFar|WrongPlace|WrongReturn|NoReply)"
+    "|TgwNoRoute|TgwBlackhole|FarDetached|FarNoTable|FarSource|FarOpens|InspectDrop|Unmodelled|Loop|TooFar|WrongPlace|WrongReturn|NoReply)"
 )
 LIST = (
     "(?:Vpcs|Subnets|NetworkInterfaces|RouteTables|PrefixLists|NetworkAcls|SecurityGroups|InternetGateways|NatGateways|VpcPeeringConnections"
-    "|TransitGatewayVpcAttachments|TransitGatewayAttachments|TransitGatewayRoutes|Appliances)"
+    "|TransitGatewayVpcAttachments|TransitGatewayAttachments|TransitGatewayRoutes|Appliances|VpnGateways|VpcEndpoints)"
 )
 MEMBER = r"[A-Z][A-Za-z0-9]*(?:\[[0-9]+\])?"
 PATH = rf"(?:\$|{MEMBER}(?:\.{MEMBER})*)"
@@ -50,7 +50,7 @@ TEXTS = {
         **WITH_FILE,
         0: rf"reachable\npacket {HEADER}\nrequest\n{HOPS}arrived {ID}\nreply\n{HOPS}arrived {ID}\n",
         1: rf"(?:vpc-report 1\n{QUERY}|vpc-report 2\n{ASKED}{NODES})end {NUMBER}\n",
-        4: rf"refused query {WORD}|BothInternet|EmptyRange {COUNT}|MaxOutOfRange|NoAddress {ID})\n",
+        4: rf"refused query {WORD}|NotAStart {COUNT}|BothInternet|EmptyRange {COUNT}|MaxOutOfRange|NoAddress {ID})\n",
         5: rf"more boxes\n{QUERY}next {HEADER}\ncells {COUNT}\n",
     },
     "check": {

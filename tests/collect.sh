@@ -115,7 +115,7 @@ is 'collected: the region of the subnets' "$(told .Collected.Region)" eu-west-1
 collect "$collect" --region us-east-1
 is 'collected: the region that was named' "$(told .Collected.Region)" us-east-1
 is 'what is not followed' "$(sed -n '/^not followed: /,$p' "$room/err")" "$("$here/../survey" "$room/out")"
-is 'and there is something' "$(grep -c '^not followed: ' "$room/err")" 4
+is 'and there is something' "$(grep -c '^not followed: ' "$room/err") $(grep -c '^outside: ' "$room/err")" '2 3'
 if command -v script >/dev/null; then
     : >"$CALLS"
     script -qec "'$collect' >/dev/null" /dev/null >"$room/typed" </dev/null
@@ -136,6 +136,13 @@ is 'tools: entries' "$(told '.PrefixListEntries | map([.PrefixListId, .Entries[]
 is 'tools: no list that nothing names' "$(told .PrefixLists)" '[]'
 is 'tools: note' "$(said)" \
     'collect-bundle: note: no route table is seen of attachment tgw-attach-tools of tgw-hub: what goes there will look blocked. Add a profile of its owner'
+
+# So it is noted of what other attachments lead to.
+collect env VPN=1 "$collect"
+is 'a VPN: note' "$status $(told '[.TransitGatewayAttachments[].TransitGatewayAttachmentId] | join(" ")') $(said)" \
+    '0 tgw-attach-shop tgw-attach-tools tgw-attach-vpn collect-bundle: note: no route table is seen of attachment tgw-attach-vpn of tgw-hub: what comes from there will look blocked. Add a profile of its owner'
+collect env VPN=2 "$collect" --vpc vpc-shop
+is 'a VPN: with --vpc' "$status $(told '[.TransitGatewayAttachments[].TransitGatewayAttachmentId] | join(" ")') $(said)" '0 tgw-attach-shop tgw-attach-tools tgw-attach-vpn '
 
 # Routes that are filtered are left out.
 collect env FILTERED=1 "$collect"
@@ -352,7 +359,7 @@ collect "$room/alone"
 is 'copied alone' "$status $(told '.Vpcs | length') $(tail -n 1 "$room/err")" "0 1 $note"
 ln -s "$collect" "$room/link"
 collect "$room/link"
-is 'by a link' "$status $(grep -c '^not followed: ' "$room/err")" '0 4'
+is 'by a link' "$status $(grep -c '^not followed: ' "$room/err")" '0 2'
 # Where the output takes nothing, it says so.
 if [ -w /dev/full ]; then
     "$collect" >/dev/full 2>"$room/err"

@@ -136,6 +136,13 @@ for it in none bundles junk empty pipe /dev/zero /dev/tty vpc; do
     is "ends in $it" "$(behind "./vpc ask $it from ")" internet
 done
 
+# What leads outside, of each kind.
+printf '%s\n' '{"VpnGateways": [{"VpnGatewayId": "vgw-1"}], "VpcPeeringConnections": [{"VpcPeeringConnectionId":"pcx-1"}], "VpcEndpoints": [{"VpcEndpointId": "vpce-s3"}],
+    "TransitGatewayAttachments": [{"TransitGatewayAttachmentId": "tgw-attach-vpn"}], "NetworkInterfaces": [{"NetworkInterfaceId": "eni-a"}], "InternetGateways": [{"InternetGatewayId": "igw-1"}]}' >outside.json
+is 'ends outside' "$(behind './vpc reach outside.json from ')" 'internet|eni-a|pcx-1|tgw-attach-vpn|vgw-1|vpce-s3'
+is 'an end outside' "$(behind './vpc ask outside.json from eni-a to vp')" vpce-s3
+is 'of an example' "$(behind './vpc ask shop.json from eni-web to v')" vpce-s3
+
 # A large bundle, on one line, and one that is longer than any may be.
 awk 'BEGIN { printf "{\"NetworkInterfaces\":["; for (i = 0; i < 100000; i++) printf "%s{\"NetworkInterfaceId\":\"eni-%06d\",\"Description\":\"%0600d\"}", i ? "," : "", i, 0; printf "]}" }' >large.json
 began=$SECONDS

@@ -35,14 +35,14 @@ class Rule:
         proto = told.get("proto", "tcp")
         proto = model.NUMBERS[proto] if proto in model.NUMBERS else int(proto)
         p, q = (self.ports(proto, told.get(it)) for it in ("sport", "port"))
-        self.box = ((proto, proto), self.addresses(told.get("src"), self.start), self.addresses(told.get("dst"), self.goal, self.start is model.INTERNET), p, q)
+        self.box = ((proto, proto), self.addresses(told.get("src"), self.start), self.addresses(told.get("dst"), self.goal, self.start not in network.interfaces), p, q)
 
     def addresses(self, prefix, end, every=False):
         """A prefix, or the addresses that are meant at an end where none is told."""
         if prefix:
             told = model.block(prefix)
             return told.first, told.last
-        if every or end is model.INTERNET:
+        if every or end not in self.network.interfaces:
             return 0, model.LAST[1]
         return (self.network.interfaces[end].primary,) * 2
 
@@ -87,17 +87,21 @@ def due(network, text):
 
 
 def drawn_rule(rng, network, text):
-    """The words of a rule, whose ends have addresses."""
+    """The words of a rule, whose ends have addresses where they are interfaces."""
     hosts = [name for name, row in network.interfaces.items() if not row.gateway and row.primary is not None]
     start, goal = (model.INTERNET if rng.random() < 0.35 else rng.choice(hosts) for _ in range(2))
     if start is goal is model.INTERNET:
         goal = rng.choice(hosts)
+    fars = [row for name, row in network.fars.items() if network.is_far_end(row) and name not in network.interfaces]
+    if fars:
+        # (some about far ends)
+        start, goal = rng.choice(([start, goal], [rng.choice([it.id for it in fars if model.may_start(it)] or [start]), rng.choice(hosts)], [start, rng.choice(fars).id]))
     addresses = networks.Ends(text).addresses
     words = [rng.choice(WORDS), "from", model.name_of(start), "to", model.name_of(goal)]
     if rng.random() < 0.3:
         words += ["proto", rng.choice(("tcp", "udp", "icmp", "50"))]
     for name, end in (("src", start), ("dst", goal)):
-        if rng.random() < (0.95 if end is model.INTERNET or start is model.INTERNET else 0.2):
+        if rng.random() < (0.95 if {start, end} - network.interfaces.keys() else 0.2):
             words += [name, f"{rng.choice((rng.choice(addresses).decode(), '198.51.100.7', '172.16.3.9'))}/{rng.choice((0, 8, 16, 24, 31, 32, 32))}"]
     for name in ("sport", "port"):
         if "50" not in words and rng.random() < 0.6:

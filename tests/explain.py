@@ -1,7 +1,7 @@
 #!/usr/bin/env python3
 """Whether `explain` tells the truth: tests/explain.py PROGRAM [--cases N]
 
-Each of the 36 stops has a row in STOPS: a small network, a packet or a question, what the sentences have to say, and the change that
+Each of the 41 stops has a row in STOPS: a small network, a packet or a question, what the sentences have to say, and the change that
 they ask for. PROGRAM answers, `explain` tells of the answer, the change is made, and PROGRAM no longer stops there. In N networks made
 at random (as tests/fuzz.py has them) each sentence is tried likewise: where it says that a row of an ACL or a route let a packet pass,
 PROGRAM stops the packet there once that row denies, or the route is a blackhole; and what would have to change is changed. Answers that
@@ -191,6 +191,48 @@ def borrowed_address(bundle):
     permitted(bundle, "sg-b", False, "10.1.3.10/32", port=5432)
 
 
+def vpn(bundle, vpc):
+    bundle["VpnGateways"] = [{"VpnGatewayId": "vgw-1", "VpcAttachments": [{"VpcId": vpc, "State": "attached"}]}]
+
+
+def attached_vpn(bundle, table=None):
+    """A VPN at the transit gateway, with the table that it is associated with."""
+    association = {"Association": {"TransitGatewayRouteTableId": table}} if table else {}
+    bundle["TransitGatewayAttachments"].append({"TransitGatewayAttachmentId": "att-vpn", "TransitGatewayId": "tgw-1", "ResourceType": "vpn", "State": "available", **association})
+
+
+def endpoint(bundle, kind, name="vpce-s3", table="rtb-a", destination="52.216.0.0/15"):
+    """An endpoint of vpc-a in subnet-n, with a route to it."""
+    bundle["VpcEndpoints"] = [{"VpcEndpointId": name, "VpcEndpointType": kind, "VpcId": "vpc-a", "State": "available", "SubnetIds": ["subnet-n"]}]
+    routed(bundle, table, destination, GatewayId=name)
+
+
+def firewalled(bundle, **told):
+    """A firewall's endpoint on the way to 192.0.2.0/24, and what it passes."""
+    endpoint(bundle, "GatewayLoadBalancer", "vpce-fw", destination="192.0.2.0/24")
+    bundle["Appliances"] += [{"VpcEndpointId": "vpce-fw", **told}] if told else []
+
+
+def edge(bundle, gateway, *routes):
+    """The table of a gateway, of local routes but for these."""
+    local = {"DestinationCidrBlock": "10.1.0.0/16", "GatewayId": "local"}
+    bundle["RouteTables"].append({"RouteTableId": "rtb-edge", "VpcId": "vpc-a", "Associations": [{"GatewayId": gateway}], "Routes": [local, *({"DestinationCidrBlock": it, **target} for it, target in routes)]})
+
+
+def service_elsewhere(bundle):
+    """eni-b is led to an endpoint of the other VPC."""
+    endpoint(bundle, "Gateway")
+    permitted(bundle, "sg-b", True, ANYWHERE, "-1")
+    routed(bundle, "rtb-b", "52.216.0.0/15", TransitGatewayId="tgw-1")
+    row(bundle, "tgw-rtb")["Routes"].append({"DestinationCidrBlock": "52.216.0.0/15", "Type": "static", "State": "active", "TransitGatewayAttachments": [{"TransitGatewayAttachmentId": "att-a"}]})
+
+
+def half_peered(bundle):
+    """The peering's other VPC isn't described, and its blocks are told."""
+    updated(bundle, "pcx-1", RequesterVpcInfo={"VpcId": "vpc-a", "CidrBlock": "10.1.0.0/16"}, AccepterVpcInfo={"VpcId": "vpc-9", "CidrBlock": "10.2.8.0/22"})
+
+
+FROM_VGW, FROM_NET = "open from vgw-1 tcp 172.20.0.1 10.1.3.10 5000 443", "open from internet tcp 198.51.100.7 203.0.113.10 5000 443"
 TO_B, TO_NET = "open from eni-a tcp 10.1.1.10 10.2.1.10 5000 {}", "open from eni-a tcp 10.1.1.10 {} 5000 443"
 MANY = 55_000
 
@@ -314,6 +356,45 @@ STOPS = [
      lambda bundle: row(bundle, "tgw-rtb")["Routes"].append({"DestinationCidrBlock": "10.2.1.0/24", "Type": "static", "State": "active", "TransitGatewayAttachments": [{"TransitGatewayAttachmentId": "att-b"}]})),
     ("TgwBlackhole", lambda bundle: row(bundle, "tgw-rtb")["Routes"].append({"DestinationCidrBlock": "10.2.1.0/24", "Type": "static", "State": "blackhole"}), "trace", TO_B.format(5432), "stopped TgwBlackhole tgw-rtb 10.2.1.0/24",
      "the route 10.2.1.0/24 of tgw-rtb, which is chosen for 10.2.1.10, is a blackhole", "would have to lead to an attachment, or be deleted", lambda bundle: row(bundle, "tgw-rtb")["Routes"].pop()),
+    ("FarDetached", several(act(vpn, "vpc-b"), act(routed, "rtb-a", "192.0.2.0/24", GatewayId="vgw-1")), "trace", TO_NET.format("192.0.2.1"), "stopped FarDetached vgw-1 -",
+     "the route 192.0.2.0/24 to vgw-1 of rtb-a leads to virtual private gateway vgw-1, which isn't attached to VPC vpc-a (shop).", "vgw-1 would have to be attached to VPC vpc-a (shop)", act(vpn, "vpc-a")),
+    ("FarDetached, from there", act(vpn, "vpc-9"), "trace", FROM_VGW, "stopped FarDetached vgw-1 -", "virtual private gateway vgw-1 is attached to no VPC that is described, so nothing comes in by it.", "vgw-1 would have to be attached to a VPC that is described", act(vpn, "vpc-a")),
+    ("FarDetached, replayed", act(vpn, "vpc-9"), "replay", FROM_VGW, "event 1 stopped FarDetached vgw-1 -", "virtual private gateway vgw-1 isn't attached to the VPC.", "vgw-1 would have to be attached to the VPC whose packets it carries", act(vpn, "vpc-a")),
+    ("FarNoTable", attached_vpn, "trace", "open from att-vpn tcp 172.20.0.1 10.2.1.10 1 5432", "stopped FarNoTable att-vpn -", "attachment att-vpn is associated with no route table, so nothing comes in by it.", "att-vpn would have to be associated with a route table of the transit gateway",
+     lambda bundle: bundle["TransitGatewayAttachments"][-1].update(Association={"TransitGatewayRouteTableId": "tgw-rtb"})),
+    ("FarNoTable, of a table that isn't there", act(attached_vpn, "tgw-rtb-9"), "ask", "from att-vpn to eni-b src 10.1.1.10/32 dst 10.2.1.10/32 port 5432-5432", "request FarNoTable att-vpn -", "attachment att-vpn is associated with tgw-rtb-9, whose routes aren't described, so nothing comes in by it.",
+     "att-vpn would have to be associated with a route table of the transit gateway", lambda bundle: bundle["TransitGatewayAttachments"][-1].update(Association={"TransitGatewayRouteTableId": "tgw-rtb"})),
+    ("FarSource", service_elsewhere, "trace", "open from eni-b tcp 10.2.1.10 52.216.0.1 5000 443", "stopped FarSource vpce-s3 -", "10.2.1.10 lies in no block of vpc-a (shop) (10.1.0.0/16), and gateway endpoint vpce-s3 serves the hosts of its own VPC alone.",
+     "the packet would have to come from a block of that VPC, or the route to lead elsewhere, as to an interface endpoint.", "open from eni-a tcp 10.1.1.10 52.216.0.1 5000 443"),
+    ("FarOpens", act(endpoint, "Gateway"), "trace", "open from vpce-s3 tcp 52.216.0.1 10.1.3.10 443 5000", "stopped FarOpens vpce-s3 -", "the packet opens a connection, and what stands behind gateway endpoint vpce-s3 opens none: it only answers.",
+     "the connection would have to be opened from inside, to vpce-s3.", "answer from vpce-s3 tcp 52.216.0.1 10.1.3.10 443 5000"),
+    ("InspectDrop", act(firewalled, Kind="service", Ports="443-443"), "trace", "open from eni-a tcp 10.1.1.10 192.0.2.1 5000 80", "stopped InspectDrop vpce-fw -",
+     "the firewall behind endpoint vpce-fw passes tcp and udp to and from port 443 alone, and not tcp from 10.1.1.10 port 5000 to 192.0.2.1 port 80.", "what is told of it in Appliances would have to forward tcp from 10.1.1.10 port 5000",
+     lambda bundle: bundle["Appliances"][-1].update(Kind="all")),
+    ("InspectDrop, on the way in", several(act(firewalled, Kind="none"), act(edge, "igw-1", ("10.1.3.0/24", {"GatewayId": "vpce-fw"}))), "trace", FROM_NET, "stopped InspectDrop vpce-fw -", "the firewall behind endpoint vpce-fw passes no packet, and not tcp from 198.51.100.7",
+     "or a route to lead around it.", lambda bundle: row(bundle, "rtb-edge")["Routes"].pop()),
+    ("PeerSource, from outside", half_peered, "trace", "open from pcx-1 tcp 10.2.1.10 10.1.1.10 1 2", "stopped PeerSource pcx-1 -", "the source 10.2.1.10 lies in no block of vpc-9 (10.2.8.0/22), and a peering carries only what its VPCs' own blocks send.",
+     "the source would have to lie in a block of vpc-9", "open from pcx-1 tcp 10.2.8.10 10.1.1.10 1 2"),
+    ("PeerDestination, from outside", half_peered, "trace", "open from pcx-1 tcp 10.2.8.10 10.2.9.10 1 2", "stopped PeerDestination pcx-1 -", "the destination 10.2.9.10 lies in no block of vpc-a (shop) (10.1.0.0/16), the VPC at the other side", "the destination would have to lie in a block of vpc-a (shop)",
+     act(updated, "vpc-a", CidrBlockAssociationSet=[{"CidrBlock": "10.2.9.0/28"}])),
+    ("PeerDestination, to outside", half_peered, "trace", TO_NET.format("10.7.0.1"), "stopped PeerDestination pcx-1 -", "the destination 10.7.0.1 lies in no block of vpc-9 (10.2.8.0/22), the VPC at the other side", "the destination would have to lie in a block of vpc-9", TO_NET.format("10.2.9.1")),
+    ("PeerSource, to outside", several(half_peered, act(updated, "eni-a", SourceDestCheck=False)), "trace", "open from eni-a tcp 172.16.0.1 10.2.9.1 1 2", "stopped PeerSource pcx-1 -", "the source 172.16.0.1 lies in no block of vpc-a (shop) (10.1.0.0/16)", "the source would have to lie in a block of vpc-a (shop)",
+     act(updated, "vpc-a", CidrBlockAssociationSet=[{"CidrBlock": "172.16.0.0/24"}])),
+    ("TgwNoRoute, from outside", act(attached_vpn, "tgw-rtb"), "trace", "open from att-vpn tcp 172.20.0.1 10.9.1.10 1 2", "stopped TgwNoRoute tgw-rtb -", "tgw-rtb, the transit gateway's table of att-vpn, has no route for 10.9.1.10", "a route of tgw-rtb would have to hold 10.9.1.10",
+     "open from att-vpn tcp 172.20.0.1 10.2.1.10 1 5432"),
+    ("NoRoute, of a gateway's table", several(act(edge, "igw-1"), lambda bundle: row(bundle, "rtb-edge").update(Routes=[])), "trace", FROM_NET, "stopped NoRoute rtb-edge -", "rtb-edge, the table of igw-1, has no route for 10.1.3.10", "a route of rtb-edge would have to hold 10.1.3.10",
+     act(routed, "rtb-edge", "10.1.3.0/24", GatewayId="local")),
+    ("Blackhole, of a gateway's table", act(edge, "igw-1", ("10.1.3.0/24", {"GatewayId": "vpce-9", "State": "blackhole"})), "trace", FROM_NET, "stopped Blackhole rtb-edge 10.1.3.0/24", "rtb-edge: its route 10.1.3.0/24 to vpce-9, which is chosen for 10.1.3.10, is a blackhole",
+     "the route 10.1.3.0/24 of rtb-edge would have to lead to a target that is there, or be deleted", lambda bundle: row(bundle, "rtb-edge")["Routes"].pop()),
+    ("NotAHost, by a gateway's table", act(edge, "igw-1", ("10.1.3.0/24", {"NetworkInterfaceId": "eni-n"})), "trace", FROM_NET, "stopped NotAHost eni-n -", "eni-n is the interface of a gateway (its type is nat_gateway), and hosts nothing at 10.1.3.10",
+     "the route 10.1.3.0/24 to eni-n of rtb-edge would have to lead to a host's interface", lambda bundle: row(bundle, "rtb-edge")["Routes"][1].update(NetworkInterfaceId="eni-c")),
+    ("Unmodelled, by a gateway's table", several(act(vpn, "vpc-a"), act(edge, "vgw-1", ("10.1.3.0/24", {"NatGatewayId": "nat-1"}))), "trace", FROM_VGW, "stopped Unmodelled nat-1 -", "not known", "nothing that is known", lambda bundle: row(bundle, "rtb-edge")["Routes"].pop()),
+    ("Unmodelled, a firewall", firewalled, "trace", TO_NET.format("192.0.2.1"), "stopped Unmodelled vpce-fw -", "not known: Appliances doesn't tell what the firewall behind endpoint vpce-fw passes.", "nothing that is known", lambda bundle: bundle["Appliances"].append({"VpcEndpointId": "vpce-fw", "Kind": "all"})),
+    ("WrongPlace, for a network outside", several(act(vpn, "vpc-a"), act(permitted, "sg-b", False, "10.1.1.10/32", port=80)), "ask", "from eni-a to vgw-1 dst 10.2.1.10/32 port 80-80", "request WrongPlace eni-b -", "it arrived at eni-b as tcp from 10.1.1.10 port 0 to 10.2.1.10 port 80, and not at vgw-1",
+     "the packet would have to go to an address behind vgw-1, or routes to lead it there", act(routed, "rtb-a", "10.2.1.10/32", GatewayId="vgw-1")),
+    ("WrongReturn, of a network outside", several(act(attached_vpn, "tgw-rtb"), act(permitted, "sg-b", False, "10.1.0.0/16", port=5432)), "ask", "from att-vpn to eni-b src 10.1.3.10/32 dst 10.2.1.10/32 port 5432-5432", "reply WrongReturn eni-c -",
+     "the request arrived, but its reply arrived at eni-c, and not at att-vpn as tcp from 10.2.1.10 port 5432 to 10.1.3.10 port 0.", "the routes of the reply would have to lead it back to att-vpn the way that the request came",
+     lambda bundle: row(bundle, "tgw-rtb")["Routes"].append({"DestinationCidrBlock": "10.1.3.0/24", "Type": "static", "State": "active", "TransitGatewayAttachments": [{"TransitGatewayAttachmentId": "att-vpn"}]})),
     ("Unmodelled, a target", act(routed, "rtb-a", "192.0.2.0/24", GatewayId="vgw-1"), "trace", TO_NET.format("192.0.2.1"), "stopped Unmodelled vgw-1 -", "not known: vgw-1 leads beyond what vpc follows. The packet is neither let through nor refused here.", "nothing that is known", None),
     ("Unmodelled, a NAT gateway", act(updated, "nat-1", SubnetId=None), "trace", TO_NET.format("198.51.100.7"), "stopped Unmodelled nat-1 -", "not known: NAT gateway nat-1 has no subnet of its own", "nothing that is known", act(updated, "nat-1", SubnetId="subnet-n")),
     ("Unmodelled, a peering", act(updated, "pcx-1", AccepterVpcInfo={"VpcId": "vpc-9"}), "trace", TO_NET.format("10.2.9.1"), "stopped Unmodelled pcx-1 -", "not known: the VPC at the other side of peering pcx-1 isn't described", "nothing that is known", act(updated, "pcx-1", AccepterVpcInfo={"VpcId": "vpc-b"})),
@@ -472,7 +553,7 @@ def opened(bundle, group, outward, far, h):
 
 
 def by_id(bundle, name, member, wanted):
-    return next(it for it in bundle[name] if it[member] == wanted)
+    return next(it for it in bundle[name] if it.get(member) == wanted)
 
 
 def mended(bundle, stop):
@@ -517,8 +598,18 @@ def mended(bundle, stop):
         interface["PrivateIpAddresses"] = [*found, {"PrivateIpAddress": dotted(h.src), "Association": {"PublicIp": "192.0.2.99"}}]
     elif stop.name == "PeerNotActive":
         by_id(bundle, "VpcPeeringConnections", "VpcPeeringConnectionId", stop.id)["Status"]["Code"] = "active"
+    elif stop.name == "FarDetached" and "vpc" in facts:
+        by_id(bundle, "VpnGateways", "VpnGatewayId", stop.id)["VpcAttachments"] = [{"VpcId": facts["vpc"], "State": "attached"}]
+    elif stop.name == "InspectDrop":
+        by_id(bundle, "Appliances", "VpcEndpointId", stop.id)["Kind"] = "all"
     elif stop.name in ("PeerSource", "PeerDestination"):
         vpc, far = (facts["vpc"], h.src) if stop.name == "PeerSource" else (facts["other"], h.dst)
+        if not any(it["VpcId"] == vpc for it in bundle["Vpcs"]):
+            # (the blocks of its side tell it)
+            peering = by_id(bundle, "VpcPeeringConnections", "VpcPeeringConnectionId", stop.id)
+            side = next(peering[it] for it in ("RequesterVpcInfo", "AccepterVpcInfo") if peering[it]["VpcId"] == vpc)
+            side["CidrBlockSet"] = [{"CidrBlock": f"{dotted(far)}/32"}]
+            return True
         by_id(bundle, "Vpcs", "VpcId", vpc)["CidrBlockAssociationSet"] = [{"CidrBlock": f"{dotted(far)}/32"}]
     elif stop.name == "TgwNoZone":
         by_id(bundle, "TransitGatewayVpcAttachments", "TransitGatewayAttachmentId", stop.id)["SubnetIds"].append(facts["subnet"])
@@ -610,7 +701,7 @@ def run_random(results, asked, cases):
     results.add("stops that were met", len(told_of) >= 16 or cases < 100, True)
 
 
-GOES_ON = ("appliance", "public", "owner", "private", "translated", "restored", "carried", "left")
+GOES_ON = ("appliance", "inspected", "public", "owner", "private", "translated", "restored", "carried", "left")
 
 
 def try_trace(wrong, told_of, asked, bundle, words, answer, name, out):
@@ -657,7 +748,7 @@ def note_words(network, note):
         return f"{dotted(of[1])} is {Teller(network).own_words(*of)}"
     if kind == "transit":
         return f"its table {named(of[0])} sends it by its route {of[1].block} to {named(of[1].attachment)}"
-    return {"inside": "it stays in the subnet", "appliance": "its appliance forwards", "public": "becomes the public address", "owner": "is a public address of",
+    return {"inside": "it stays in the subnet", "appliance": "its appliance forwards", "inspected": "it passes", "public": "becomes the public address", "owner": "is a public address of",
             "private": "becomes the private address", "translated": "its source becomes the gateway's", "restored": "it answers what went out here before", "carried": "from a block of", "left": "into"}[kind]
 
 

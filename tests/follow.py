@@ -13,7 +13,8 @@ from scripts import explain_network
 from scripts.bundles import Row, json_in, objects_of
 from scripts.explain_network import Appliance, Interface, Route, RouteTable, Rule, TransitRoute, is_unroutable
 from scripts.explain_told import Stop
-from scripts.headers import Header, address, reply_of
+from scripts.headers import Header, address, block_of, reply_of
+from scripts.outside import Far
 from scripts.words import PROTOCOL_NUMBERS, PROTOCOLS
 
 MOST_PLACES, MOST_TRANSLATIONS, FIRST_PORT = 64, 55_000, 1024
@@ -97,7 +98,8 @@ class Walker:
 
     def walk(self, label: str, start: str, header: Header) -> tuple[list[Hop], Union[Stop, str]]:
         """The hops of a packet, and where it arrived or what stopped it."""
-        place: Place = ("internet", "internet") if start == "internet" else ("out", start)
+        kind = "internet" if start == "internet" else "out" if start in self.network.interfaces else "far-in"
+        place: Place = (kind, start)
         hops: list[Hop] = []
         seen: set[Place] = set()
         while True:
@@ -240,10 +242,11 @@ class Walker:
         peering, vpc = self.network.peerings[route.target], facts["vpc"]
         if not peering.pair:
             return Stop("PeerNotActive", peering.id, "-", facts)
-        if self.network.other_side(peering, vpc) not in self.network.vpcs:
+        is_described = self.network.other_side(peering, vpc) in self.network.vpcs
+        if not is_described and not self.network.outside.end(peering.id):
             return Stop("Unmodelled", peering.id, "-", facts)
         stop = self.judge(facts["subnet"], True, h, notes)
-        return self.after(stop, ("peer", peering.id, vpc), h)
+        return self.after(stop, ("peer", peering.id, vpc) if is_described else ("far-out", peering.id), h)
 
     def to_transit(self, facts: Row, route: Route, h: Header, notes: list[Note]) -> Then:
         found = self.network.attachments.values()
@@ -265,16 +268,55 @@ class Walker:
         return self.after(stop, ("in", interface.id), h)
 
     def to_other(self, facts: Row, route: Route, h: Header, notes: list[Note]) -> Then:
-        return Stop("Unmodelled", route.target, "-", facts)
+        network, vpc, it = self.network, facts["vpc"], route.target
+        far, subnet = network.fars.get(it), network.firewall_subnet(vpc, it)
+        if not far and subnet is not None:
+            return self.after(self.cross(facts["subnet"], subnet, h, notes), ("inspect", it), h)
+        if not far or far.kind not in ("gateway", "endpoint"):
+            return Stop("Unmodelled", it, "-", facts)
+        if network.outside.beside(far) != vpc:
+            return Stop("FarDetached" if far.kind == "gateway" else "Unmodelled", it, "-", facts)
+        return self.after(self.judge(facts["subnet"], True, h, notes), ("far-out", it), h)
 
     # -- gateways and other VPCs
 
     def at_enter(self, label: str, place: Place, h: Header, notes: list[Note]) -> Step:
-        host = self.network.host_of(place[1], h.dst)
-        if not host:
-            return None, Stop("NoHost", place[1], "-", {"header": h})
-        notes.append(("host", host, h.dst))
-        return None, self.judge(host.subnet, False, h, notes) or self.deliver(host, h)
+        network, vpc, by = self.network, place[1], place[2]
+        gateway = network.igw_of.get(vpc) if by == "gateway" else by[1] if by[0] == "gateway" else None
+        table = network.table_of_gateway.get(gateway or "")
+        facts: Row = {"header": h}
+        route = network.choose(table, h.dst) if table else None
+        if table:
+            facts.update(vpc=vpc, gateway=gateway)
+            if not route:
+                return None, Stop("NoRoute", table.id, "-", facts)
+            facts.update(table=table, route=route)
+            if route.blackhole:
+                return None, Stop("Blackhole", table.id, route.reach(), facts)
+            notes.append(("route", table, route))
+        if not route or route.kind == "local":
+            host = network.host_of(vpc, h.dst)
+            if not host:
+                return None, Stop("NoHost", vpc, "-", facts)
+            notes.append(("host", host, h.dst))
+            return None, self.judge(host.subnet, False, h, notes) or self.deliver(host, h)
+        if route.kind == "interface":
+            interface = network.interfaces[route.target]
+            stop = self.judge(interface.subnet, False, h, notes)
+            if not stop and interface.is_gateway:
+                return None, Stop("NotAHost", interface.id, "-", facts)
+            return None, self.after(stop, ("in", interface.id), h)
+        subnet = network.firewall_subnet(vpc, route.target) if route.kind == "other" else None
+        if subnet is None:
+            return None, Stop("Unmodelled", route.target, "-", facts)
+        return None, self.after(self.judge(subnet, False, h, notes), ("inspect", route.target), h)
+
+    def at_inspect(self, label: str, place: Place, h: Header, notes: list[Note]) -> Step:
+        appliance = self.network.inspecting[place[1]]
+        if not forwards(appliance, h):
+            return None, Stop("InspectDrop", place[1], "-", {"header": h})
+        notes.append(("inspected", appliance))
+        return None, Go(("router", self.network.firewalls[place[1]].subnet, ("firewall", place[1])), h)
 
     def at_igw_out(self, label: str, place: Place, h: Header, notes: list[Note]) -> Step:
         host = self.network.host_of(place[1], h.src)
@@ -349,13 +391,17 @@ class Walker:
         if not any(it.holds(h.dst) for it in network.vpcs[other].blocks):
             return None, Stop("PeerDestination", peering.id, "-", facts)
         notes.append(("carried", vpc, other))
-        return None, Go(("enter", other, peering.id), h)
+        return None, Go(("enter", other, ("peering", peering.id)), h)
 
     def at_tgw(self, label: str, place: Place, h: Header, notes: list[Note]) -> Step:
-        network, entered = self.network, place[2]
-        table = network.associations.get(place[1])
-        if table is None or table not in network.transit_tables:
+        table = self.network.associations.get(place[1])
+        if table is None or table not in self.network.transit_tables:
             return None, Stop("TgwNoTable", place[1], "-", {"header": h, "table": table})
+        return self.carried(place, table, place[2], h, notes)
+
+    def carried(self, place: Place, table: str, entered: Optional[str], h: Header, notes: list[Note]) -> Step:
+        """By the table of a transit gateway; entered is None of what came from outside."""
+        network = self.network
         route = network.choose_transit(table, h.dst)
         facts = {"header": h, "attachment": place[1], "route": route, "table": table}
         if not route:
@@ -364,10 +410,53 @@ class Walker:
             return None, Stop("TgwBlackhole", table, str(route.block), facts)
         if route.attachment is None:
             return None, Stop("Unmodelled", table, "-", facts)
-        if route.attachment not in network.attachments:
+        is_far = network.outside.end(route.attachment)
+        if not is_far and route.attachment not in network.attachments:
             return None, Stop("Unmodelled", route.attachment, "-", facts)
+        if not is_far and entered is None:
+            entered = next(iter(network.attachments[route.attachment].subnets), None)
+            if entered not in network.subnets:
+                return None, Stop("Unmodelled", route.attachment, "-", facts)
         notes.append(("transit", table, route))
-        return None, Go(("tgw-leave", route.attachment, entered), h)
+        return None, Go(("far-out", route.attachment) if is_far else ("tgw-leave", route.attachment, entered), h)
+
+    # -- networks outside
+
+    def at_far_out(self, label: str, place: Place, h: Header, notes: list[Note]) -> Step:
+        far = self.network.fars[place[1]]
+        return None, self.over(far, h, True) or far.id
+
+    def over(self, far: Far, h: Header, outward: bool) -> Optional[Stop]:
+        """What stops a packet on its way to what isn't described, or from there, by its addresses."""
+        network = self.network
+        beside, other = network.outside.beside(far), network.outside.other(far)
+        own = network.vpcs[beside].blocks if beside else []
+        if far.kind == "endpoint" and outward and not any(it.holds(h.src) for it in own):
+            return Stop("FarSource", far.id, "-", {"header": h})
+        if far.kind != "peering":
+            return None
+        theirs = [block_of(it) for it in network.outside.blocks_beyond(far)]
+        sides, vpcs = ((own, theirs), (beside, other)) if outward else ((theirs, own), (other, beside))
+        facts = {"header": h, "vpc": vpcs[0], "other": vpcs[1]}
+        for blocks, number, name in zip(sides, (h.src, h.dst), ("PeerSource", "PeerDestination")):
+            if not any(it.holds(number) for it in blocks):
+                return Stop(name, far.id, "-", facts)
+        return None
+
+    def at_far_in(self, label: str, place: Place, h: Header, notes: list[Note]) -> Step:
+        network, far = self.network, self.network.fars[place[1]]
+        if far.kind == "attachment":
+            table = network.associations.get(far.id)
+            if table is None or table not in network.transit_tables:
+                return None, Stop("FarNoTable", far.id, "-", {"header": h, "table": table})
+            return self.carried(place, table, None, h, notes)
+        beside = network.outside.beside(far)
+        if far.kind == "endpoint" and label == "open":
+            return None, Stop("FarOpens", far.id, "-", {"header": h})
+        if beside is None:
+            return None, Stop("FarDetached", far.id, "-", {"header": h})
+        stop = self.over(far, h, False)
+        return None, self.after(stop, ("enter", beside, (far.kind, far.id)), h)
 
     def at_tgw_leave(self, label: str, place: Place, h: Header, notes: list[Note]) -> Step:
         network, attachment = self.network, self.network.attachments[place[1]]
@@ -486,7 +575,7 @@ def refused(hop: Hop, end: Stop) -> list[str]:
         return [f"acl {end.id} {end.name[3:].lower()} {end.rule} deny"]
     if end.name == "Blackhole" and route:
         return [f"route {end.id} {route.reach()} {route.target}"]
-    if hop.kind == "tgw" and route:
+    if hop.kind in ("tgw", "far-in") and route:
         return [f"route {end.facts['table']} {route.block} {route.attachment or '-'}"]
     return []
 

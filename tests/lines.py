@@ -43,6 +43,26 @@ hop 1 out eni-b 50 10.0.2.20 10.0.1.10 0 0
 stopped GroupsOut eni-b -
 {"text":"trace","line":"stopped","name":"GroupsOut","id":"eni-b","rule":null}
 
+hop 1 far-in att-vpn tcp 172.20.0.1 172.30.0.1 5 443
+{"text":"trace","line":"hop","n":1,"place":"far-in","id":"att-vpn","proto":"tcp","src":"172.20.0.1","dst":"172.30.0.1","p":5,"q":443}
+hop 2 far-out att-dx tcp 172.20.0.1 172.30.0.1 5 443
+{"text":"trace","line":"hop","n":2,"place":"far-out","id":"att-dx","proto":"tcp","src":"172.20.0.1","dst":"172.30.0.1","p":5,"q":443}
+arrived att-dx
+{"text":"trace","line":"arrived","id":"att-dx"}
+
+hop 1 far-in vgw-1 tcp 172.20.0.1 10.0.1.10 5000 443
+{"text":"why","line":"hop","n":1,"place":"far-in","id":"vgw-1","proto":"tcp","src":"172.20.0.1","dst":"10.0.1.10","p":5000,"q":443}
+hop 2 enter vpc-1 tcp 172.20.0.1 10.0.1.10 5000 443
+{"text":"why","line":"hop","n":2,"place":"enter","id":"vpc-1","proto":"tcp","src":"172.20.0.1","dst":"10.0.1.10","p":5000,"q":443}
+route rtb-edge 10.0.1.0/24 vpce-fw
+{"text":"why","line":"route","table":"rtb-edge","reach":"10.0.1.0/24","target":"vpce-fw"}
+acl acl-1 in 100 allow
+{"text":"why","line":"acl","id":"acl-1","direction":"in","number":100,"verdict":"allow"}
+hop 3 inspect vpce-fw tcp 172.20.0.1 10.0.1.10 5000 443
+{"text":"why","line":"hop","n":3,"place":"inspect","id":"vpce-fw","proto":"tcp","src":"172.20.0.1","dst":"10.0.1.10","p":5000,"q":443}
+stopped InspectDrop vpce-fw -
+{"text":"why","line":"stopped","name":"InspectDrop","id":"vpce-fw","rule":null}
+
 hop 1 internet internet udp 198.51.100.7 203.0.113.5 53 5000
 {"text":"trace","line":"hop","n":1,"place":"internet","id":"internet","proto":"udp","src":"198.51.100.7","dst":"203.0.113.5","p":53,"q":5000}
 stopped AclIn acl-1 32767
@@ -360,6 +380,15 @@ refused query BadWord 3
 refused query BothInternet
 {"text":"refusal","line":"refused","of":"query","why":"BothInternet"}
 
+refused query NotAStart 4
+{"text":"refusal","line":"refused","of":"query","why":"NotAStart","n":4}
+
+refused query NotAnEnd att-b
+{"text":"refusal","line":"refused","of":"query","why":"NotAnEnd","id":"att-b"}
+
+refused description TooManyRows VpcEndpoints
+{"text":"refusal","line":"refused","of":"description","why":"TooManyRows","list":"VpcEndpoints"}
+
 refused query EmptyRange 8
 {"text":"refusal","line":"refused","of":"query","why":"EmptyRange","n":8}
 
@@ -413,6 +442,30 @@ hop 6 tgw att-b tcp 10.1.1.10 172.20.0.1 1 2
 hop 7 tgw-leave att-a tcp 10.1.1.10 172.20.0.1 1 2
 hop 8 router subnet-ta tcp 10.1.1.10 172.20.0.1 1 2
 stopped Loop att-a -
+
+reachable
+packet tcp 172.20.0.0 10.0.2.20 0 22
+request
+hop 1 far-in vgw-1 tcp 172.20.0.0 10.0.2.20 0 22
+hop 2 enter vpc-1 tcp 172.20.0.0 10.0.2.20 0 22
+hop 3 in eni-b tcp 172.20.0.0 10.0.2.20 0 22 by sg-b in 2
+arrived eni-b
+reply
+hop 1 out eni-b tcp 10.0.2.20 172.20.0.0 22 0 by tracked
+hop 2 router subnet-b tcp 10.0.2.20 172.20.0.0 22 0
+hop 3 far-out vgw-1 tcp 10.0.2.20 172.20.0.0 22 0
+arrived vgw-1
+
+hop 1 far-in att-vpn tcp 172.20.0.1 10.2.1.10 1 2
+route tgw-rtb-a 10.2.0.0/16 att-b
+hop 2 tgw-leave att-b tcp 172.20.0.1 10.2.1.10 1 2
+hop 3 router subnet-tb tcp 172.20.0.1 10.2.1.10 1 2
+stopped NoRoute rtb-b -
+
+vpc-reach 1
+query from vgw-1 to eni-b port 22-22
+row 1 vgw-1 eni-b 6-6 172.20.0.0-172.20.255.255 10.0.2.20-10.0.2.20 0-65535 22-22
+end 1
 
 hop 1 out eni-a tcp 10.1.1.10 10.3.1.10 5000 443 by sg-a out 1
 hop 2 router subnet-a tcp 10.1.1.10 10.3.1.10 5000 443
@@ -596,6 +649,11 @@ TgwNoZone att-a -
 TgwNoTable att-a -
 TgwNoRoute tgw-rtb-a -
 TgwBlackhole tgw-rtb-a 10.2.9.0/24
+FarDetached vgw-1 -
+FarNoTable att-vpn -
+FarSource vpce-s3 -
+FarOpens vpce-s3 -
+InspectDrop vpce-fw -
 Unmodelled vpce-s3 -
 Loop att-a -
 TooFar subnet-64 -
@@ -628,6 +686,10 @@ route rtb-n 10.0.0.0/16 local
 acl acl-2 out 80 deny
 stopped AclOut acl-2 80
 """
+FAR = """hop 1 far-in att-vpn tcp 172.20.0.1 172.30.0.1 5 443
+hop 2 far-out att-dx tcp 172.20.0.1 172.30.0.1 5 443
+arrived att-dx
+"""
 REPORT = f"vpc-report 1\nquery from eni-a to eni-b\nbox {BOX}\n"
 TREE, LEAF = REPORT.replace("1", "2", 1), "leaf request GroupsIn eni-b -\n"
 
@@ -657,6 +719,12 @@ NONE = [
     WHY.replace("100 allow", "100 deny"), WHY.replace("80 deny", "80 allow"), WHY.replace("out 80", "in 80"), WHY.replace("AclOut acl-2 80", "AclOut acl-2 81"), WHY.replace("AclOut acl-2 80", "NoHost vpc-1 -"),
     WHY.replace("acl acl-2 out 80 deny\n", ""), WHY.replace("out 80 deny", "out 080 deny"), WHY.replace("stopped AclOut acl-2 80\n", ""), WHY.replace("100 allow", "100 passes"), WHY.replace("acl-1 out 100", "acl-1 up 100"),
     WHY + "acl acl-2 out 80 deny\n", WHY.replace("hop 4 router subnet-n", "hop 4 enter vpc-1"), WHY.replace("becomes tcp 10.0.3.5 10.0.2.20 1025 2\n", "becomes tcp 10.0.3.5 10.0.2.20 1025 2\n" * 2),
+    # networks outside
+    FAR.replace("far-in", "far-out"), FAR.replace("far-out", "far-in"), FAR.replace("far-in", "inspect"), FAR.replace("arrived att-dx", "arrived att-vpn"), FAR.replace("hop 1 far-in att-vpn", "hop 1 far-in att-vpn by none"),
+    FAR + "arrived att-dx\n", FAR.replace("hop 2", "acl acl-1 in 100 allow\nhop 2"), FAR.replace("hop 2", "route tgw-rtb-a 172.30.0.0/16 att-dx\nroute tgw-rtb-a 172.30.0.0/16 att-dx\nhop 2"),
+    "hop 1 far-in vgw-1 tcp 172.20.0.1 10.0.1.10 1 2\nhop 2 enter vpc-1 tcp 172.20.0.1 10.0.1.10 1 2\nroute rtb-edge 10.0.0.0/16 local\nacl acl-1 out 90 deny\nstopped AclOut acl-1 90\n",
+    "hop 1 far-in vgw-1 tcp 172.20.0.1 10.0.1.10 1 2\nhop 2 enter vpc-1 tcp 172.20.0.1 10.0.1.10 1 2\nacl acl-1 in 90 deny\nroute rtb-edge 10.0.0.0/16 local\nstopped AclIn acl-1 90\n",
+    "refused packet NotAStart 5\n", "refused query NotAStart vpce-s3\n",
     # reports
     REPORT, REPORT + "end 1\n", REPORT + f"row 2 request GroupsIn eni-b - {BOX}\nend 1\n", REPORT + f"row 1 request GroupsIn eni-b - {BOX}\nend 2\n",
     REPORT + f"row 1 request GroupsIn eni-b - {BOX.replace('80-80', '80-81')}\nend 1\n", REPORT + f"row 1 request GroupsIn eni-b - {BOX.replace('80-80', '80-79')}\nend 1\n",

@@ -6,7 +6,7 @@ function a place of the walk, one walk a header. It reads bundles that are accep
 `Network(bundle)` reads. `verdict(network, start, goal, header)` is that of `ask` about one header, `journey` that of `reach`, where the
 goal may be left out, `change` the words of `diff` about two such, `without` the network without one rule, for `unused`. `cuts(network)`
 are the numbers at which something may change, `pieces` the lowest numbers that they leave of a range: so all headers of a box may be
-asked by the low corners of its cells. An end is the id of an interface, or INTERNET.
+asked by the low corners of its cells. An end is the id of an interface or of what leads to a network that isn't described, or INTERNET.
 """
 
 import copy
@@ -121,6 +121,14 @@ class Live(NamedTuple):
     subnet: str
     interface: str
     address: int
+
+
+class Far(NamedTuple):
+    """What leads to a network that isn't described, a far end."""
+    id: str
+    kind: str  # gateway, attachment, peering or endpoint
+    vpc: Optional[str] = None  # to which the gateway is attached, of which the attachment is, in which the endpoint lies
+    blocks: tuple = ()  # of the two sides of a peering
 
 
 class Attachment(NamedTuple):
@@ -244,6 +252,27 @@ def read_appliance(row):
     return [every] if row["Kind"] == "all" else []
 
 
+def read_vpn_gateway(row):
+    vpcs = [it["VpcId"] for it in items(row, "VpcAttachments") if member(it, "State") == "attached"]
+    return Far(row["VpnGatewayId"], "gateway", vpcs[0] if vpcs else None)
+
+
+def read_far_attachment(row):
+    """None of one that carries nothing, or of which it isn't told what it is of."""
+    kind, resource = member(row, "ResourceType"), member(row, "ResourceId")
+    told = kind is not None and member(row, "TransitGatewayId") is not None and (kind != "vpc" or resource is not None)
+    return Far(row["TransitGatewayAttachmentId"], "attachment", resource if kind == "vpc" else None) if told and member(row, "State") in ("available", "modifying") else None
+
+
+def read_far_peering(row):
+    """None of one that isn't active, or that doesn't tell the blocks of both sides."""
+    sides = []
+    for side in ("RequesterVpcInfo", "AccepterVpcInfo") if row["Status"]["Code"] == "active" else ():
+        told = [member(row, side, "CidrBlock"), *(it["CidrBlock"] for it in items(row[side], "CidrBlockSet"))]
+        sides.append([block(it) for it in told if it is not None])
+    return Far(row["VpcPeeringConnectionId"], "peering", blocks=tuple(sides)) if sides and all(sides) else None
+
+
 class Network:
     """The rows of a bundle, by their ids in the order of the bundle."""
 
@@ -263,7 +292,9 @@ class Network:
         self.nats = {row["NatGatewayId"]: read_nat(row) for row in self.rows("NatGateways")}
         self.peerings = {row["VpcPeeringConnectionId"]: self.read_pair(row) for row in once(self.rows("VpcPeeringConnections"), "VpcPeeringConnectionId")}
         self.read_transit()
-        self.appliances = {row["NetworkInterfaceId"]: read_appliance(row) for row in self.rows("Appliances")}
+        self.appliances = {row["NetworkInterfaceId"]: read_appliance(row) for row in self.rows("Appliances") if member(row, "NetworkInterfaceId") is not None}
+        self.inspected = {row["VpcEndpointId"]: read_appliance(row) for row in self.rows("Appliances") if member(row, "NetworkInterfaceId") is None}
+        self.read_outside()
 
     def rows(self, name):
         return [row for part in self.parts for row in items(part, name)]
@@ -279,7 +310,7 @@ class Network:
         return (row["RequesterVpcInfo"]["VpcId"], row["AccepterVpcInfo"]["VpcId"]) if row["Status"]["Code"] == "active" else None
 
     def read_tables(self):
-        self.tables, self.main, self.table_of = {}, {}, {}
+        self.tables, self.main, self.table_of, self.edge_tables = {}, {}, {}, {}
         for row in self.rows("RouteTables"):
             name = row["RouteTableId"]
             self.tables[name] = [it for it in map(read_route, items(row, "Routes")) if it]
@@ -288,6 +319,8 @@ class Network:
                     self.main[row["VpcId"]] = name
                 if member(it, "SubnetId"):
                     self.table_of[it["SubnetId"]] = name
+                if member(it, "GatewayId"):
+                    self.edge_tables.setdefault(it["GatewayId"], name)
 
     def read_lists(self):
         rows = [{"id": row["PrefixListId"], "entries": row["Cidrs"]} for row in self.rows("PrefixLists") if member(row, "Cidrs") is not None]
@@ -334,6 +367,20 @@ class Network:
         told = items(row, "TransitGatewayAttachments")
         return TransitRoute(block(row["DestinationCidrBlock"]), row["State"] == "blackhole", row["Type"] == "propagated", member(told[0], "TransitGatewayAttachmentId") if told else None)
 
+    def read_outside(self):
+        """Far ends, and the endpoints behind which firewalls stand: each with its VPC and its subnet."""
+        endpoints = [row for row in self.rows("VpcEndpoints") if (member(row, "State") or "").lower() == "available"]
+        endpoints = list(once(endpoints, "VpcEndpointId"))
+        told = [read_vpn_gateway(row) for row in self.rows("VpnGateways")]
+        told += [read_far_attachment(row) for row in self.rows("TransitGatewayAttachments")]
+        told += [read_far_peering(row) for row in self.rows("VpcPeeringConnections")]
+        told += [Far(row["VpcEndpointId"], "endpoint", row["VpcId"]) for row in endpoints if member(row, "VpcEndpointType") == "Gateway"]
+        self.fars = {}
+        for it in filter(None, told):
+            self.fars.setdefault(it.id, it)
+        firewalls = [row for row in endpoints if member(row, "VpcEndpointType") == "GatewayLoadBalancer" and items(row, "SubnetIds")]
+        self.firewalls = {row["VpcEndpointId"]: (row["VpcId"], row["SubnetIds"][0]) for row in firewalls}
+
     # -- what the walk looks up
 
     def vpc_of(self, subnet):
@@ -359,8 +406,34 @@ class Network:
         by_gateway = any(life and life.interface == interface for life in self.nats.values())
         return (subnet, mode) if mode == "block-bidirectional" or (mode == "block-ingress" and not by_gateway) else None
 
-    def is_end(self, end):
-        return end is INTERNET or (end in self.interfaces and not self.interfaces[end].gateway)
+    def vpc_beside(self, far):
+        """The described VPC that what leads there is attached to, lies in, or peers with; None where there is none."""
+        vpcs = self.peerings.get(far.id) or () if far.kind == "peering" else () if far.kind == "attachment" else (far.vpc,)
+        return next((it for it in vpcs if it in self.vpcs), None)
+
+    def is_far_end(self, far):
+        """Whether packets start and arrive there. Where a described VPC is at the other side they don't: there lacks a row of a list."""
+        if far.kind == "peering":
+            return len([it for it in self.peerings.get(far.id) or () if it in self.vpcs]) == 1
+        return {"gateway": True, "attachment": far.vpc not in self.vpcs, "endpoint": far.vpc in self.vpcs}[far.kind]
+
+    def far_end(self, name):
+        """The far end of that id, or None."""
+        return self.fars[name] if name in self.fars and self.is_far_end(self.fars[name]) else None
+
+    def firewall(self, vpc, name):
+        """Whether it is an endpoint of the VPC of which it is told what stands behind it."""
+        return name in self.firewalls and self.firewalls[name][0] == vpc and name in self.inspected
+
+    def is_end(self, name):
+        """Whether it names an end: an interface that no gateway has, or, where no interface has the name, a far end."""
+        if name is INTERNET:
+            return True
+        return not self.interfaces[name].gateway if name in self.interfaces else self.far_end(name) is not None
+
+    def end(self, name):
+        """The end that it names: a far end by its row. An end itself stays what it is."""
+        return name if name is INTERNET or isinstance(name, Far) or name in self.interfaces else self.fars[name]
 
 
 # ---- choices
@@ -444,6 +517,10 @@ def need(holds, name, component, rule="-", beneath=None):
         raise Stop(name, component, rule, beneath)
 
 
+def is_in_some(header, boxes):
+    return any(all(low <= it <= high for it, (low, high) in zip(header, box)) for box in boxes)
+
+
 class Walk:
     """A packet on its way, with what the network remembers."""
 
@@ -521,14 +598,19 @@ class Walk:
         self.pass_groups(interface, "out", header)
         return ("router", row.subnet, ("host", interface)), header
 
-    def router(self, header, subnet, _came):
-        table = self.network.table_of.get(subnet) or self.network.main[self.network.vpc_of(subnet)]
+    def choose(self, table, header):
+        """The route that a table chooses, whose target is there, and its place."""
         place = chosen_route(self.network, table, header.dst)
         self.chosen.append((table, place))
         need(place is not None, "NoRoute", table)
         route = self.network.tables[table][place]
         self.reasons[-1].append(f"route {table} {route.block or route.list} {route.target}")
         need(not route.blackhole, "Blackhole", table, route.block or route.list, place)
+        return route, place
+
+    def router(self, header, subnet, _came):
+        table = self.network.table_of.get(subnet) or self.network.main[self.network.vpc_of(subnet)]
+        route, place = self.choose(table, header)
         return getattr(self, f"to_{route.kind}")(header, subnet, route.target, (table, place)), header
 
     def to_local(self, header, subnet, _target, _route):
@@ -553,9 +635,10 @@ class Walk:
 
     def to_peering(self, header, subnet, target, _route):
         need(self.network.peerings[target], "PeerNotActive", target)
-        need(self.other_side(target, self.network.vpc_of(subnet)) in self.network.vpcs, "Unmodelled", target, beneath=("peering", target))
+        is_described = self.other_side(target, self.network.vpc_of(subnet)) in self.network.vpcs
+        need(is_described or self.network.far_end(target), "Unmodelled", target, beneath=("peering", target))
         self.judge(subnet, "out", header)
-        return ("peer", target, self.network.vpc_of(subnet))
+        return ("peer", target, self.network.vpc_of(subnet)) if is_described else ("far_out", target)
 
     def other_side(self, peering, vpc):
         one, other = self.network.peerings[peering]
@@ -576,14 +659,48 @@ class Walk:
         need(not self.network.interfaces[target].gateway, "NotAHost", target)
         return ("into", target)
 
-    def to_other(self, _header, _subnet, target, route):
-        raise Stop("Unmodelled", target, beneath=("target", route))
+    def to_other(self, header, subnet, target, route):
+        vpc, far = self.network.vpc_of(subnet), self.network.fars.get(target)
+        if not far and self.network.firewall(vpc, target):
+            self.cross(subnet, self.network.firewalls[target][1], header)
+            return ("inspect", target)
+        need(far and far.kind in ("gateway", "endpoint"), "Unmodelled", target, beneath=("target", route))
+        is_beside = self.network.vpc_beside(far) == vpc
+        need(is_beside or far.kind != "gateway", "FarDetached", target)
+        need(is_beside, "Unmodelled", target, beneath=("target", route))
+        self.judge(subnet, "out", header)
+        return ("far_out", target)
 
-    def enter(self, header, vpc, _by):
+    def enter(self, header, vpc, by):
+        table = self.network.edge_tables.get(self.entrance(vpc, by))
+        if table is None:
+            return self.enter_local(header, vpc), header
+        route, place = self.choose(table, header)
+        if route.kind == "local":
+            return self.enter_local(header, vpc), header
+        if route.kind == "interface":
+            self.judge(self.network.interfaces[route.target].subnet, "in", header)
+            need(not self.network.interfaces[route.target].gateway, "NotAHost", route.target)
+            return ("into", route.target), header
+        need(route.kind == "other" and self.network.firewall(vpc, route.target), "Unmodelled", route.target, beneath=("target", (table, place)))
+        self.judge(self.network.firewalls[route.target][1], "in", header)
+        return ("inspect", route.target), header
+
+    def entrance(self, vpc, by):
+        """The gateway by which a packet enters, where it may have a table."""
+        if by == "gateway":
+            return self.network.internet_gateways.get(vpc)
+        return by[1] if by[0] == "far" and self.network.fars[by[1]].kind == "gateway" else None
+
+    def enter_local(self, header, vpc):
         interface = self.network.host(vpc, header.dst)
         need(interface is not None, "NoHost", vpc)
         self.judge(self.network.interfaces[interface].subnet, "in", header)
-        return self.delivered(interface), header
+        return self.delivered(interface)
+
+    def inspect(self, header, endpoint):
+        need(is_in_some(header, self.network.inspected[endpoint]), "InspectDrop", endpoint)
+        return ("router", self.network.firewalls[endpoint][1], ("firewall", endpoint)), header
 
     def into(self, header, interface):
         row = self.network.interfaces[interface]
@@ -592,8 +709,7 @@ class Walk:
         self.pass_groups(interface, "in", header)
         if interface not in self.network.appliances or row.has(header.dst):
             raise Arrival(interface)
-        forwards = any(all(low <= it <= high for it, (low, high) in zip(header, box)) for box in self.network.appliances[interface])
-        need(forwards, "ApplianceDrop", interface)
+        need(is_in_some(header, self.network.appliances[interface]), "ApplianceDrop", interface)
         return ("out_of", interface), header
 
     def igw_out(self, header, vpc):
@@ -647,11 +763,15 @@ class Walk:
         other = self.other_side(peering, vpc)
         need(any(it.holds(header.src) for it in self.network.vpcs[vpc]), "PeerSource", peering)
         need(any(it.holds(header.dst) for it in self.network.vpcs[other]), "PeerDestination", peering)
-        return ("enter", other, peering), header
+        return ("enter", other, ("peering", peering)), header
 
     def tgw(self, header, attachment, subnet):
         table = self.network.associations.get(attachment)
         need(table in self.network.transit_tables, "TgwNoTable", attachment)
+        return self.carried(header, table, subnet)
+
+    def carried(self, header, table, entered):
+        """By a transit gateway's table; entered is the subnet by which the packet came, None of one that came from a far end."""
         place = chosen_transit_route(self.network, table, header.dst)
         self.chosen.append((table, place))
         need(place is not None, "TgwNoRoute", table)
@@ -659,8 +779,13 @@ class Walk:
         self.reasons[-1].append(f"route {table} {route.block} {route.attachment or '-'}")
         need(not route.blackhole, "TgwBlackhole", table, route.block, place)
         need(route.attachment is not None, "Unmodelled", table, beneath=("table", table))
+        if self.network.far_end(route.attachment):
+            return ("far_out", route.attachment), header
         need(route.attachment in self.network.attachments, "Unmodelled", route.attachment, beneath=("far", table, place))
-        return ("tgw_leave", route.attachment, subnet), header
+        if entered is None:
+            entered = next(iter(self.network.attachments[route.attachment].subnets), None)
+            need(entered in self.network.subnets, "Unmodelled", route.attachment, beneath=("attachment", route.attachment))
+        return ("tgw_leave", route.attachment, entered), header
 
     def tgw_leave(self, header, attachment, entered):
         row = self.network.attachments[attachment]
@@ -669,15 +794,53 @@ class Walk:
         out = next((it for it in row.subnets if self.network.subnets[it][1] == zone), row.subnets[0])
         return ("router", out, ("transit", attachment)), header
 
+    # -- into a network that isn't described, and from there
+
+    def far_out(self, header, name):
+        far = self.network.fars[name]
+        vpc = self.network.vpc_beside(far)
+        if far.kind == "peering":
+            need(any(it.holds(header.src) for it in self.network.vpcs[vpc]), "PeerSource", name)
+            need(any(it.holds(header.dst) for it in self.blocks_beyond(far)), "PeerDestination", name)
+        if far.kind == "endpoint":
+            need(any(it.holds(header.src) for it in self.network.vpcs[vpc]), "FarSource", name)
+        raise Arrival(far)
+
+    def blocks_beyond(self, far):
+        """The blocks of a peering's side that isn't described."""
+        requester, accepter = far.blocks
+        return accepter if self.network.peerings[far.id][0] in self.network.vpcs else requester
+
+    def far_in(self, header, name):
+        far = self.network.fars[name]
+        vpc = self.network.vpc_beside(far)
+        if far.kind == "attachment":
+            table = self.network.associations.get(name)
+            need(table in self.network.transit_tables, "FarNoTable", name)
+            return self.carried(header, table, None)
+        if far.kind == "peering":
+            need(any(it.holds(header.src) for it in self.blocks_beyond(far)), "PeerSource", name)
+            need(any(it.holds(header.dst) for it in self.network.vpcs[vpc]), "PeerDestination", name)
+            return ("enter", vpc, ("peering", name)), header
+        need(far.kind == "gateway" or self.label == "answer", "FarOpens", name)
+        need(vpc is not None, "FarDetached", name)
+        return ("enter", vpc, ("far", name)), header
+
 
 # ---- what is asked
 
 def first_place(end):
-    return ("internet",) if end is INTERNET else ("out_of", end)
+    """Where a packet of an end starts."""
+    return ("internet",) if end is INTERNET else ("far_in", end.id) if isinstance(end, Far) else ("out_of", end)
 
 
 def name_of(end):
-    return "internet" if end is INTERNET else end
+    return "internet" if end is INTERNET else end.id if isinstance(end, Far) else end
+
+
+def may_start(end):
+    """Whether an end may be asked about as a start: the service behind an endpoint opens nothing."""
+    return not isinstance(end, Far) or end.kind != "endpoint"
 
 
 class Answer(NamedTuple):
@@ -695,9 +858,10 @@ class Answer(NamedTuple):
 
 
 def journey(network, start, goal, header):
-    """The header from the start, with a goal or with ANY."""
+    """The header from the start, with a goal or with ANY; the start and the goal by their names."""
     if not network.is_end(start):
         return Answer(None, "request", Stop("Absent", start), [])
+    start, goal = network.end(start), goal if goal is ANY else network.end(goal)
     request = Walk(network, "open", [], [])
     end, arrived = request.follow(first_place(start), header)
     if isinstance(end, Stop):
@@ -766,7 +930,8 @@ def cuts(network):
     blocks = [*NON_ROUTABLE, *itertools.chain(*network.vpcs.values(), *network.lists.values()), *(it for row in rows for it in row.blocks)]
     blocks += [it for row in network.interfaces.values() for it in row.blocks]
     blocks += [it.block for table in network.tables.values() for it in table if it.block] + [it.block for table in network.transit_tables.values() for it in table]
-    boxes = [box for told in network.appliances.values() for box in told]
+    blocks += [it for far in network.fars.values() for side in far.blocks for it in side]
+    boxes = [box for told in [*network.appliances.values(), *network.inspected.values()] for box in told]
     own = [it for row in network.interfaces.values() for pair in row.addresses for it in pair if it is not None]
     ends = [(it.first, it.last) for it in blocks] + [(it, it) for it in own] + [box[side] for box in boxes for side in (1, 2)]
     edges = {it for low, high in [row.ports for row in rows] + [box[side] for box in boxes for side in (3, 4)] for it in (low, high + 1)}
@@ -793,7 +958,7 @@ def low_corner(box):
 
 # ---- texts
 
-WORDS = {"out_of": "out", "into": "in", "igw_out": "igw-out", "igw_in": "igw-in", "nat_out": "nat-out", "nat_in": "nat-in", "tgw_leave": "tgw-leave"}
+WORDS = {"out_of": "out", "into": "in", "igw_out": "igw-out", "igw_in": "igw-in", "nat_out": "nat-out", "nat_in": "nat-in", "tgw_leave": "tgw-leave", "far_out": "far-out", "far_in": "far-in"}
 
 
 def told_walk(walk):
@@ -803,14 +968,14 @@ def told_walk(walk):
 
 def traced(network, label, start, header):
     walk = Walk(network, label, [], [])
-    end, _ = walk.follow(first_place(start), header)
+    end, _ = walk.follow(first_place(network.end(start)), header)
     return told_walk(walk) + [f"stopped {end}" if isinstance(end, Stop) else f"arrived {name_of(end)}"]
 
 
 def explained(network, label, start, header):
     """The lines of `why`: those of `trace`, and after each hop what decided there, and what the header then is, if the next hop has another."""
     walk = Walk(network, label, [], [])
-    end, _ = walk.follow(first_place(start), header)
+    end, _ = walk.follow(first_place(network.end(start)), header)
     lines, headers = [], [it for _, it, _ in walk.hops]
     for told, reasons, here, there in zip(told_walk(walk), walk.reasons, headers, [*headers[1:], headers[-1]]):
         lines += [told, *reasons, *([f"becomes {there}"] if there != here else [])]

@@ -1,12 +1,14 @@
 """Small networks, made at random: bundles of every kind of row, changed copies of them, and the ends and addresses that occur in them.
 
-Some have modes of Block Public Access, some instances that don't run, some delegated prefixes, and some groups that are named over transit
-gateways or belong to several VPCs. NETWORKS_MORE in the environment names kinds of rows that all have besides, with commas between: access,
-instances, prefixes, references."""
+Some have modes of Block Public Access, some instances that don't run, some delegated prefixes, some groups that are named over transit
+gateways or belong to several VPCs, and some lead to networks that aren't described and have firewall endpoints. NETWORKS_MORE in the
+environment names kinds of rows that all have besides, with commas between: access, instances, prefixes, references, outside; and
+NETWORKS_LESS kinds that none has: outside."""
 
 import ipaddress
 import json
 import os
+import random
 import re
 
 ANYWHERE = "0.0.0.0/0"
@@ -220,12 +222,113 @@ def add_references(rng, whole):
             there["Groups"] = [it for it in there["Groups"] if it["GroupId"] != row["GroupId"]] + [{"GroupId": row["GroupId"]}]
 
 
+def add_gateways(rng, whole, vpcs):
+    """Virtual private gateways, of which one may be attached to nothing."""
+    for name in ["vgw-1", "vgw-2"][: rng.choice((1, 1, 2))]:
+        attached = [{"VpcId": f"vpc-{rng.randrange(vpcs)}", "State": rng.choice(("attached", "attached", "attached", "detached"))} for _ in range(rng.choice((0, 1, 1, 1, 2)))]
+        whole["VpnGateways"].append({"VpnGatewayId": name, "State": "available", "VpcAttachments": attached})
+    for table in whole["RouteTables"]:
+        if rng.random() < 0.6:
+            add_route(rng, table, {"GatewayId": rng.choice([it["VpnGatewayId"] for it in whole["VpnGateways"]])})
+
+
+def add_route(rng, table, target, chances=("172.20.0.0/16", "172.20.0.0/16", "172.16.0.0/12", "52.216.0.0/15", "198.51.100.0/24")):
+    """A route to a network outside, with another destination than those that are there; propagated ones may have the same."""
+    destination, propagated = rng.choice(chances), "GatewayId" in target and target["GatewayId"].startswith("vgw") and rng.random() < 0.3
+    if propagated or destination not in [it.get("DestinationCidrBlock") for it in table["Routes"]]:
+        table["Routes"].append({"DestinationCidrBlock": destination, "State": "active", **target, **({"Origin": "EnableVgwRoutePropagation"} if propagated else {})})
+
+
+def add_attachments(rng, whole):
+    """Attachments of a transit gateway to a VPN, to Direct Connect and to a VPC that isn't described, with routes to them."""
+    for name, kind in rng.sample((("att-vpn", "vpn"), ("att-dx", "direct-connect-gateway"), ("att-far", "vpc"), ("att-pair", "peering")), rng.choice((1, 2, 3))):
+        row = {"TransitGatewayAttachmentId": name, "TransitGatewayId": "tgw-1", "ResourceType": kind, "ResourceId": f"of-{name}", "State": rng.choice(("available", "available", "available", "deleting"))}
+        if rng.random() < 0.9:
+            row["Association"] = {"TransitGatewayRouteTableId": f"tgw-rtb-{rng.randrange(2)}", "State": "associated"}
+        whole["TransitGatewayAttachments"].append(row)
+        if kind == "vpc" and rng.random() < 0.5:
+            # (the gateway's owner sees the attachments of other accounts)
+            whole["TransitGatewayVpcAttachments"].append({"TransitGatewayAttachmentId": name, "TransitGatewayId": "tgw-1", "VpcId": f"of-{name}", "SubnetIds": ["subnet-far"], "State": "available"})
+        for table in whole["TransitGatewayRoutes"]:
+            told = [it["DestinationCidrBlock"] for it in table["Routes"]]
+            destination = rng.choice(("172.20.0.0/16", "172.20.0.0/16", "172.16.0.0/12", "198.51.100.0/24"))
+            if rng.random() < 0.7 and destination not in told:
+                table["Routes"].append({"DestinationCidrBlock": destination, "Type": rng.choice(("static", "propagated")), "State": "active", "TransitGatewayAttachments": [{"TransitGatewayAttachmentId": name}]})
+    for table in whole["RouteTables"]:
+        if rng.random() < 0.6:
+            add_route(rng, table, {"TransitGatewayId": "tgw-1"})
+
+
+def add_half_peering(rng, whole, vpcs):
+    """A peering with a VPC that isn't described, whose blocks may be told."""
+    v, blocks = rng.randrange(vpcs), rng.choice((["10.9.0.0/16"], ["10.9.0.0/16", "172.20.0.0/17"], []))
+    sides = [{"VpcId": f"vpc-{v}", "CidrBlock": f"10.{v}.0.0/16"}, {"VpcId": "vpc-9", "CidrBlockSet": [{"CidrBlock": it} for it in blocks]}]
+    if rng.random() < 0.5:
+        sides.reverse()
+    status = {"Code": "active" if rng.random() < 0.9 else "pending-acceptance"}
+    whole["VpcPeeringConnections"].append({"VpcPeeringConnectionId": "pcx-far", "Status": status, "RequesterVpcInfo": sides[0], "AccepterVpcInfo": sides[1]})
+    for table in whole["RouteTables"]:
+        if table["VpcId"] == f"vpc-{v}" and rng.random() < 0.8:
+            add_route(rng, table, {"VpcPeeringConnectionId": "pcx-far"}, ("10.9.0.0/16", "10.9.0.0/16", "172.20.0.0/16", "10.0.0.0/8"))
+
+
+def add_endpoints(rng, whole, vpcs):
+    """Endpoints of each kind in some VPCs; routes to vpce-0, vpce-1 and so on may be there before."""
+    for v in range(vpcs):
+        kind = rng.choice(("Gateway", "Gateway", "GatewayLoadBalancer", "GatewayLoadBalancer", "Interface", None))
+        subnets = [it["SubnetId"] for it in whole["Subnets"] if it["VpcId"] == f"vpc-{v}"]
+        row = {"VpcEndpointId": f"vpce-{v}", "VpcEndpointType": kind, "VpcId": f"vpc-{v}", "State": rng.choice(("available", "available", "Available", "deleting"))}
+        if kind != "Gateway":
+            row["SubnetIds"] = rng.sample(subnets, rng.choice((0, 1, 1, min(2, len(subnets)))) if kind == "Interface" else 1)
+        whole["VpcEndpoints"].append({name: told for name, told in row.items() if told is not None})
+        if kind == "GatewayLoadBalancer" and rng.random() < 0.85:
+            told = rng.choice([{"Kind": "all"}, {"Kind": "all"}, {"Kind": "none"}, {"Kind": "service", "Ports": "80-443"}, {"Kind": "peer", "Prefix": block(rng, vpcs)}])
+            whole["Appliances"].append({"VpcEndpointId": f"vpce-{v}", **told})
+        for table in whole["RouteTables"]:
+            if table["VpcId"] == f"vpc-{v}" and rng.random() < 0.6:
+                add_route(rng, table, {"GatewayId": f"vpce-{v}"}, ("52.216.0.0/15", "52.216.0.0/15", ANYWHERE, "198.51.100.0/24", f"10.{v}.1.0/24"))
+
+
+def add_edge_tables(rng, whole, vpcs):
+    """Tables that are associated with gateways, which lead to an endpoint or an interface."""
+    gateways = {it["InternetGatewayId"]: row["VpcId"] for it in whole["InternetGateways"] for row in it["Attachments"]}
+    gateways.update({it["VpnGatewayId"]: row["VpcId"] for it in whole["VpnGateways"] for row in it["VpcAttachments"]})
+    for number, (gateway, vpc) in enumerate(gateways.items()):
+        if rng.random() < 0.6:
+            v = vpc.split("-")[1]
+            rows = [{"DestinationCidrBlock": f"10.{v}.0.0/16", "GatewayId": "local", "State": "active"}]
+            for destination in rng.sample((f"10.{v}.0.0/24", f"10.{v}.1.0/24", f"10.{v}.0.0/25", "10.0.0.0/8"), rng.randrange(3)):
+                target = rng.choice([{"GatewayId": f"vpce-{v}"}, {"GatewayId": f"vpce-{v}"}, {"NetworkInterfaceId": f"eni-{v}-0-0"}, {"GatewayId": "local"}, {"GatewayId": f"igw-{v}"}])
+                if target != {"GatewayId": f"igw-{v}"} or f"igw-{v}" in gateways:
+                    rows.append({"DestinationCidrBlock": destination, "State": "blackhole" if rng.random() < 0.1 else "active", **target})
+            rows = rows[rng.random() < 0.05:]
+            whole["RouteTables"].append({"RouteTableId": f"rtb-edge-{number}", "VpcId": vpc, "Associations": [{"Main": False, "GatewayId": gateway}], "Routes": rows})
+
+
+def add_outside(rng, whole):
+    """What leads to networks that aren't described, firewall endpoints, and the tables of gateways."""
+    vpcs = len(whole["Vpcs"])
+    if rng.random() < 0.7:
+        add_gateways(rng, whole, vpcs)
+    if whole["TransitGatewayRoutes"] and rng.random() < 0.9:
+        add_attachments(rng, whole)
+    if rng.random() < 0.5:
+        add_half_peering(rng, whole, vpcs)
+    if rng.random() < 0.7:
+        add_endpoints(rng, whole, vpcs)
+    add_edge_tables(rng, whole, vpcs)
+    for it in whole["SecurityGroups"]:
+        if rng.random() < 0.3:
+            # (what comes from there is let in somewhere)
+            it["IpPermissions"].append({"IpProtocol": "tcp", "FromPort": 22, "ToPort": 443, "IpRanges": [{"CidrIp": rng.choice(("172.20.0.0/16", "172.16.0.0/12", "10.9.0.0/16", "198.51.100.0/24"))}]})
+
+
 # Kinds of rows that a network has where they are asked for, or by chance.
-MORE = {"access": add_access, "instances": add_instances, "prefixes": add_prefixes, "references": add_references}
+MORE = {"access": add_access, "instances": add_instances, "prefixes": add_prefixes, "references": add_references, "outside": add_outside}
 
 
 LISTS = ("Vpcs", "Subnets", "NetworkInterfaces", "RouteTables", "NetworkAcls", "SecurityGroups", "SecurityGroupRules", "InternetGateways", "NatGateways", "VpcPeeringConnections",
-         "TransitGatewayVpcAttachments", "TransitGatewayAttachments", "TransitGatewayRoutes", "PrefixLists", "Appliances", "TransitGateways", "SecurityGroupVpcAssociations")
+         "TransitGatewayVpcAttachments", "TransitGatewayAttachments", "TransitGatewayRoutes", "PrefixLists", "Appliances", "TransitGateways", "SecurityGroupVpcAssociations", "VpnGateways", "VpcEndpoints")
 
 
 def network(rng):
@@ -248,16 +351,35 @@ def network(rng):
         kind = rng.choice([{"Kind": "all"}, {"Kind": "none"}, {"Kind": "service", "Ports": "80-443"}, {"Kind": "peer", "Prefix": block(rng, vpcs)}])
         whole["Appliances"].append({"NetworkInterfaceId": "eni-0-0-0", **kind})
         whole["NetworkInterfaces"][0]["SourceDestCheck"] = False
-    wanted = [*filter(None, os.environ.get("NETWORKS_MORE", "").split(","))]
+    return json.dumps({name: rows for name, rows in more(rng, whole).items() if rows}, separators=(",", ":")).encode()
+
+
+def more(rng, whole):
+    """The bundle with rows of further kinds."""
+    wanted, without = ([*filter(None, os.environ.get(f"NETWORKS_{name}", "").split(","))] for name in ("MORE", "LESS"))
+    is_outside = "outside" in wanted
+    wanted = [it for it in wanted if it != "outside"]
     for name, chance in (("access", 0.3), ("instances", 0.2), ("references", 0.3), ("prefixes", 0.3)):
         if rng.random() < chance and name not in wanted:
             wanted.insert(0, name)
     for name in wanted:
         MORE[name](rng, whole)
-    return json.dumps({name: rows for name, rows in whole.items() if rows}, separators=(",", ":")).encode()
+    # (by numbers of its own: what has no such rows, and what is asked of it, is by each seed what it was without them)
+    own = random.Random(json.dumps(whole))
+    if "outside" not in without and (own.random() < 0.3 or is_outside):
+        add_outside(own, whole)
+    return whole
 
 
 # ---- changed copies
+
+# The lists of which rows tell of networks outside, of endpoints and of tables of gateways, and which rows do.
+OUTSIDE = (
+    ("VpnGateways", lambda row: True), ("VpcEndpoints", lambda row: True), ("Appliances", lambda row: "VpcEndpointId" in row),
+    ("VpcPeeringConnections", lambda row: row["VpcPeeringConnectionId"] == "pcx-far"),
+    ("TransitGatewayAttachments", lambda row: row["TransitGatewayAttachmentId"].startswith("att-")),
+    ("RouteTables", lambda row: row["RouteTableId"].startswith("rtb-edge")))
+
 
 class Change:
     """Changes of a bundle that `network` made, each drawn from those that it can take. It is accepted afterwards where it was before."""
@@ -274,9 +396,29 @@ class Change:
     equal_ways = ("order", "split_ports", "split_blocks", "members", "renumbered", "repeated")  # nothing opens or closes by these
 
     def made(self, ways):
-        """The bundle after a change of one of these kinds."""
-        getattr(self, self.rng.choice(ways))()
+        """The bundle after a change of one of these kinds, or of one to rows of networks outside where there are some."""
+        outside = [it for name, rows in OUTSIDE for it in self.whole.get(name, []) if rows(it)]
+        getattr(self, self.rng.choice(ways if not outside or ways is Change.equal_ways else (*ways, *["outside"] * 6)))()
         return self.whole
+
+    def outside(self):
+        """A row about a network outside, or an endpoint, that is gone, or told otherwise."""
+        name, it = self.some([(name, it) for name, rows in OUTSIDE for it in self.whole.get(name, []) if rows(it)])
+        how = self.rng.choice(("gone", "told", "told"))
+        if how == "gone" and name != "VpcPeeringConnections":
+            self.whole[name].remove(it)
+        elif name == "VpnGateways":
+            it["VpcAttachments"] = [{"VpcId": f"vpc-{self.rng.randrange(self.vpcs)}", "State": "attached"}] * self.rng.randrange(2)
+        elif name == "VpcEndpoints":
+            it["State"] = "deleting" if it["State"].lower() == "available" else "available"
+        elif name == "VpcPeeringConnections":
+            it["Status"]["Code"] = "active" if it["Status"]["Code"] != "active" else "deleted"
+        elif name == "Appliances":
+            it["Kind"] = "none" if it["Kind"] == "all" else "all"
+        elif name == "TransitGatewayAttachments":
+            it["Association"] = {"TransitGatewayRouteTableId": f"tgw-rtb-{self.rng.randrange(2)}", "State": "associated"}
+        else:
+            self.whole[name].remove(it)
 
     def new_id(self):
         return f"eni-{self.rng.randrange(10**6)}"
@@ -357,7 +499,7 @@ class Change:
     def host(self):
         """An interface that is told otherwise."""
         it = self.some(self.hosts)
-        if self.rng.random() < 0.4 and it["NetworkInterfaceId"] not in [row["NetworkInterfaceId"] for row in self.whole.get("Appliances", [])]:
+        if self.rng.random() < 0.4 and it["NetworkInterfaceId"] not in [row.get("NetworkInterfaceId") for row in self.whole.get("Appliances", [])]:
             it["SourceDestCheck"] = not it["SourceDestCheck"]
         elif self.rng.random() < 0.3:
             it["Status"] = "in-use" if it["Status"] == "available" else "available"
@@ -392,7 +534,7 @@ class Change:
             return
         name = self.some(self.hosts)["NetworkInterfaceId"]
         self.whole["NetworkInterfaces"] = [it for it in self.whole["NetworkInterfaces"] if it["NetworkInterfaceId"] != name]
-        self.whole["Appliances"] = [it for it in self.whole.get("Appliances", []) if it["NetworkInterfaceId"] != name]
+        self.whole["Appliances"] = [it for it in self.whole.get("Appliances", []) if it.get("NetworkInterfaceId") != name]
         for table in self.whole["RouteTables"]:
             table["Routes"] = [it for it in table["Routes"] if it.get("NetworkInterfaceId") != name]
 
@@ -436,7 +578,7 @@ class Change:
                         told["NetworkInterfaceId"] = gateway["NetworkInterfaceId"]
             for table in self.whole["RouteTables"]:
                 table["Routes"] = [it for it in table["Routes"] if it.get("NetworkInterfaceId") != gateway["NetworkInterfaceId"]]
-            self.whole["Appliances"] = [it for it in self.whole.get("Appliances", []) if it["NetworkInterfaceId"] != gateway["NetworkInterfaceId"]]
+            self.whole["Appliances"] = [it for it in self.whole.get("Appliances", []) if it.get("NetworkInterfaceId") != gateway["NetworkInterfaceId"]]
 
     # -- what opens and closes nothing
 
@@ -508,9 +650,12 @@ class Ends:
         self.own = dict(re.findall(rb'"NetworkInterfaceId": ?"([^"]+)"[^{}]*?"PrivateIpAddress": ?"([0-9.]+)"', text))
         self.addresses = sorted(set(re.findall(rb'(?:Ip(?:Address)?|Ipv4Prefix)": ?"([0-9.]+)["/]', text))) or [b"10.0.0.4"]
         self.blocks = sorted(set(re.findall(rb'"([0-9.]+/[0-9]+)"', text))) or [b"0.0.0.0/0"]
+        self.fars = sorted(set(re.findall(rb'"(?:VpnGateway|VpcEndpoint)Id": ?"([!-~]{1,256}?)"', text) + re.findall(rb'"(att-[a-z]+|pcx-far)"', text)))
 
     def end(self, rng):
-        """The internet, or an interface, which may be a gateway's."""
+        """The internet, or an interface, which may be a gateway's; where there is what leads outside, that too."""
+        if self.fars and rng.random() < 0.25:
+            return rng.choice(self.fars)
         return b"internet" if rng.random() < 0.2 else rng.choice(self.hosts if rng.random() < 0.97 else self.ids)
 
     def address(self, rng):

@@ -72,6 +72,32 @@ route rtb-n 0.0.0.0/0 igw-1
 acl acl-1 out 90 deny
 stopped AclOut acl-1 90
 """
+# Through a firewall to a network that isn't described, and back.
+FAR = """reachable
+packet tcp 10.0.1.10 172.20.0.0 0 443
+request
+hop 1 out eni-a tcp 10.0.1.10 172.20.0.0 0 443 by sg-a out 1
+hop 2 router subnet-a tcp 10.0.1.10 172.20.0.0 0 443
+hop 3 inspect vpce-fw tcp 10.0.1.10 172.20.0.0 0 443
+hop 4 router subnet-f tcp 10.0.1.10 172.20.0.0 0 443
+hop 5 far-out vgw-1 tcp 10.0.1.10 172.20.0.0 0 443
+arrived vgw-1
+reply
+hop 1 far-in vgw-1 tcp 172.20.0.0 10.0.1.10 443 0
+hop 2 enter vpc-1 tcp 172.20.0.0 10.0.1.10 443 0
+hop 3 in eni-a tcp 172.20.0.0 10.0.1.10 443 0 by tracked
+arrived eni-a
+"""
+FAR_STOPPED = """hop 1 far-in vpce-s3 tcp 52.216.0.1 10.0.1.10 443 5000
+stopped FarOpens vpce-s3 -
+"""
+FAR_WHY = """hop 1 far-in vgw-1 tcp 172.20.0.1 10.0.1.10 5000 443
+hop 2 enter vpc-1 tcp 172.20.0.1 10.0.1.10 5000 443
+route rtb-edge 10.0.1.0/24 vpce-fw
+acl acl-1 in 100 allow
+hop 3 inspect vpce-fw tcp 172.20.0.1 10.0.1.10 5000 443
+stopped InspectDrop vpce-fw -
+"""
 REPORT = """vpc-report 1
 query from eni-a to eni-b
 box 6-6 10.0.1.10-10.0.1.10 10.0.2.20-10.0.2.20 0-32767 443-443
@@ -129,7 +155,16 @@ row 4 internet opened eni-c request WrongPlace internet - 6-6 198.51.100.0-198.5
 row 5 eni-d closed eni-b request Absent eni-d - 6-6 10.0.1.12-10.0.1.12 10.0.2.20-10.0.2.20 0-65535 443-443
 end 5
 """
+FAR_REACH = """vpc-reach 1
+query port 22-443
+row 1 eni-a vgw-1 6-6 10.0.1.10-10.0.1.10 172.20.0.0-172.20.255.255 0-65535 443-443
+row 2 vgw-1 eni-a 6-6 172.20.0.0-172.20.255.255 10.0.1.10-10.0.1.10 0-65535 22-22
+row 3 vgw-2 eni-a 6-6 172.20.0.0-172.20.255.255 10.0.1.10-10.0.1.10 0-65535 22-22
+end 3
+"""
 TEXTS = [
+    ("to a network outside and back", FAR), ("from there, stopped", FAR_STOPPED), ("reach of networks outside", FAR_REACH),
+    ("a change of networks outside", "vpc-diff 1\nquery\nrow 1 eni-a opened vgw-1 request Unmodelled vgw-1 - 6-6 10.0.1.10-10.0.1.10 172.20.0.0-172.20.255.255 0-65535 443-443\nend 1\n"),
     ("a walk and its reply", NAT), ("a walk that is stopped", STOPPED), ("a report", REPORT), ("a tree", TREE), ("more boxes", MORE), ("a matrix", MATRIX),
     ("an empty matrix", "matrix\n"), ("reach", REACH), ("more reach", MORE_REACH), ("nothing reached", "vpc-reach 1\nquery\nend 0\n"), ("a change", DIFF),
     ("no change", "vpc-diff 1\nquery from eni-a\nend 0\n"),
@@ -322,11 +357,12 @@ def run_trees(results):
 
 
 def run_why(results, path):
-    alone = "".join(f"{it}\n" for it in WHY.splitlines() if it.split(" ")[0] in ("hop", "stopped"))
-    for more in ([], ["--names", path]):
-        results.add(f"what decided {more}", picture(WHY, *more), picture(alone, *more))
+    for text, more in itertools.product((WHY, FAR_WHY), ([], ["--names", path])):
+        alone = "".join(f"{it}\n" for it in text.splitlines() if it.split(" ")[0] in ("hop", "stopped"))
+        results.add(f"what decided {more}", picture(text, *more)[:2], picture(alone, *more)[:2])
     for name, old, new in (("another rule", "group sg-a out 1", "group sg-a out 2"), ("another header", "becomes tcp 10.0.3.5", "becomes tcp 10.0.3.6"), ("no route", "route rtb-a 0.0.0.0/0 nat-1\n", ""),
                            ("another row", "90 deny", "91 deny"), ("a row that allows", "90 deny", "90 allow"), ("another place", "hop 4 router", "hop 4 enter")):
+        assert old in WHY
         status, out, err = picture(WHY.replace(old, new))
         results.add(f"what decided: {name}", (status, out, err.count("\n")), (2, "", 1))
 
@@ -439,7 +475,7 @@ def run_facts(results, folder):
     told = subprocess.run([os.path.join(TOP, "explain"), SHOP], input=UNSENT.encode(), capture_output=True, check=True).stdout.decode()
     results.add("its sentences", re.findall('<pre class="told">(.*?)</pre>', out, re.S), [html.escape(told.rstrip("\n"))])
     status, out, err = picture(UNSENT.replace("eni-web", "eni-none"), "--html", "--names", SHOP)
-    results.add("no sentences of another bundle's text", (status, "No sentences: the text can't be told of: eni-none is no interface of the bundle." in html.unescape(out)), (0, True))
+    results.add("no sentences of another bundle's text", (status, "No sentences: the text can't be told of: eni-none is no end of the bundle." in html.unescape(out)), (0, True))
     status, out, err = picture(UNSENT, "--html")
     results.add("no sentences without a bundle", (status, 'class="told"' in out or "No sentences" in out), (0, False))
 
@@ -753,9 +789,38 @@ def run_told(results, folder):
     told = " ".join(words_of(svg))
     results.add("what closes and isn't known", ([it for it in chips_in(svg, "grey-tint")], "now reply Unmodelled vpce-1 not known" in told, "before request Unmodelled vpce-2 not known" in told), (["tcp 443 \u00b7 sport 0-32767"], True, True))
     run_names(results, folder)
+    run_outside(results, folder)
     run_prefixes(results, folder)
     run_parts(results)
     run_title(results, folder)
+
+
+def run_outside(results, folder):
+    """Networks that aren't described have a mark or a dashed edge, and a legend; they are no interfaces."""
+    legend, path = "network that isn't described", os.path.join(folder, "outside.json")
+    bundle = {"NetworkInterfaces": [{"NetworkInterfaceId": "eni-a", "SubnetId": "subnet-1", "VpcId": "vpc-1"}], "VpnGateways": [{"VpnGatewayId": it, "Tags": [{"Key": "Name", "Value": name}]} for it, name in (("vgw-1", "office"), ("vgw-2", "plant"))],
+              "TransitGatewayAttachments": [{"TransitGatewayAttachmentId": "odd-1"}]}
+    with open(path, "w", encoding="utf-8") as file:
+        json.dump(bundle, file)
+    for name, text, is_there in (("there and back", FAR, True), ("stopped", FAR_STOPPED, True), ("none", NAT, False), ("reach", FAR_REACH, True), ("reach of none", REACH, False)):
+        told = [it.text for it in check_picture(results, f"outside, {name}", text).iter(SVG + "text")]
+        results.add(f"outside, {name}: the legend", told.count(legend), int(is_there))
+    for more, names in ((["--names", path], json.dumps(bundle)), (["--names", path, "--by", "subnet"], json.dumps(bundle)), ([], "")):
+        svg = check_picture(results, f"reach outside {more[2:]}", FAR_REACH, *more, names=names)
+        runs, told = [it.text for it in svg.iter(SVG + "tspan")], svg.find(SVG + "desc").text
+        results.add(f"reach outside {more}: counts", ("1 interface and 2 networks" in " ".join(runs), "2 networks" in told, "3 interfaces" in " ".join(runs)), (True, True, False))
+        edges = [it for it in svg.iter(SVG + "rect") if it.get("class") == "edge"]
+        results.add(f"reach outside {more}: edges", (any(it.get("stroke-dasharray") for it in edges), all(it.get("stroke-dasharray") for it in edges)), (True, False))
+        results.add(f"reach outside {more}: names", all(it in told for it in ("office", "plant")), bool(more))
+    # (by the bundle, whatever the id is; and an interface stays one)
+    odd = FAR_REACH.replace("vgw-1", "odd-1").replace("vgw-2", "eni-b")
+    for more, is_there in ((["--names", path], True), ([], False)):
+        told = [it.text for it in check_picture(results, f"an odd id {more}", odd, *more, names=json.dumps(bundle)).iter(SVG + "text")]
+        results.add(f"an odd id {more}", legend in told, is_there)
+    with open(path, "w", encoding="utf-8") as file:
+        json.dump({**bundle, "NetworkInterfaces": [{"NetworkInterfaceId": it} for it in ("eni-a", "vgw-1", "vgw-2")]}, file)
+    told = [it.text for it in check_picture(results, "interfaces by such ids", FAR_REACH, "--names", path, names=json.dumps(bundle)).iter(SVG + "text")]
+    results.add("interfaces by such ids", legend in told, False)
 
 
 def named_bundle(names, **more):
@@ -827,7 +892,7 @@ def run_parts(results):
         ("prod-data-a prod-data-b prod-web-a prod-web-b prod-web-c", "prod-data and prod-web", "5 subnets, 5 interfaces"), ("prod-data-a prod-web-a tools-1 web", "prod-data-a, prod-web-a and 2 more", "4 subnets, 4 interfaces"),
         ("prod-data-a prod-data-b prod-web-a prod-web-b", "prod-data, prod-web-a and prod-web-b", "4 subnets, 4 interfaces"), ("prod-data-a prod-data-b web", "prod-data and web", "3 subnets, 3 interfaces"),
     ):
-        label = picture_classes.label_of_units("subnet", [it for it in among if it.name in chosen.split()], among, 200)
+        label = picture_classes.label_of_units(Names(), "subnet", [it for it in among if it.name in chosen.split()], among, 200)
         results.add(f"the name of {chosen}", (label.name, label.count), (name, count))
 
 

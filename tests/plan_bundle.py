@@ -3,9 +3,9 @@
 
 Each row of ROWS is one plan over BASE, written after the documentation of Terraform's JSON output and of the AWS provider: what it says
 is not applied, what becomes of the bundle, all else staying exactly as it is, and packets. Where PROGRAM is given, it traces the packets
-in the planned bundle, and it has to take each planned bundle. `tests/plans/` has two plans that Terraform 1.11.4 made with version 5.100.0
-of the AWS provider (`first.tf` and `second.tf` are their configurations), over an account that moto 5.2.1 played, and that account's bundles
-before each apply and after it: the planned bundle is compared with the second. Damaged plans and bundles end with a status of 0, 1 or 2.
+in the planned bundle, and it has to take each planned bundle. `tests/plans/` has three plans that Terraform 1.11.4 made with version 5.100.0
+of the AWS provider (`first.tf`, `second.tf` and `third.tf` are their configurations), over accounts that moto 5.2.1 played, and the account's
+bundles before each apply and after it: the planned bundle is compared with the second. Damaged plans and bundles end with a status of 0, 1 or 2.
 The rows call plan-bundle within this process, and a few more run it as one of its own. The last line is 'N passed, M failed'.
 """
 
@@ -569,9 +569,9 @@ ROWS += [
      {"NetworkInterfaces eni-db Attachment": {"DeviceIndex": 1, "InstanceId": "i-1", "Status": "attached"}, "NetworkInterfaces eni-web Status": "available"}, [(TO_DB, "stopped Detached eni-web -")]),
 
     # what isn't applied, and what says nothing of packets
-    ("other resources of the network", plan([change(f"{it}.a", "create", None, {}, {"id": True}) for it in ("aws_internet_gateway", "aws_nat_gateway", "aws_vpc_peering_connection", "aws_ec2_transit_gateway", "aws_ec2_transit_gateway_route", "aws_vpc_endpoint", "aws_vpc_ipv4_cidr_block_association", "aws_ec2_managed_prefix_list", "aws_eip", "aws_default_vpc", "awscc_ec2_subnet")]
+    ("other resources of the network", plan([change(f"{it}.a", "create", None, {}, {"id": True}) for it in ("aws_internet_gateway", "aws_nat_gateway", "aws_vpc_peering_connection", "aws_ec2_transit_gateway", "aws_ec2_transit_gateway_route", "aws_vpc_endpoint_service", "aws_vpc_ipv4_cidr_block_association", "aws_ec2_managed_prefix_list", "aws_eip", "aws_default_vpc", "awscc_ec2_subnet")]
                                             + [change("aws_internet_gateway.b", "delete", {"id": "igw-1"}, None), change("aws_nat_gateway.b", "update", {"id": "nat-1", "subnet_id": "a"}, {"id": "nat-1", "subnet_id": "b"})]),
-     [f"{it}: {DOESNT}" for it in ("aws_internet_gateway.a", "aws_nat_gateway.a", "aws_vpc_peering_connection.a", "aws_ec2_transit_gateway.a", "aws_ec2_transit_gateway_route.a", "aws_vpc_endpoint.a", "aws_vpc_ipv4_cidr_block_association.a", "aws_ec2_managed_prefix_list.a", "aws_eip.a", "aws_default_vpc.a", "awscc_ec2_subnet.a", "aws_internet_gateway.b", "aws_nat_gateway.b")], {}, []),
+     [f"{it}: {DOESNT}" for it in ("aws_internet_gateway.a", "aws_nat_gateway.a", "aws_vpc_peering_connection.a", "aws_ec2_transit_gateway.a", "aws_ec2_transit_gateway_route.a", "aws_vpc_endpoint_service.a", "aws_vpc_ipv4_cidr_block_association.a", "aws_ec2_managed_prefix_list.a", "aws_eip.a", "aws_default_vpc.a", "awscc_ec2_subnet.a", "aws_internet_gateway.b", "aws_nat_gateway.b")], {}, []),
     ("public access that is blocked", plan([change("aws_vpc_block_public_access_options.a", "create", None, {"internet_gateway_block_mode": "block-bidirectional", "timeouts": None}, {"id": True, "aws_account_id": True, "aws_region": True}),
                                             change("aws_vpc_block_public_access_exclusion.a", "update", {"id": "vpcbpa-exclude-1", "vpc_id": "vpc-1", "internet_gateway_exclusion_mode": "allow-egress"}, {"id": "vpcbpa-exclude-1", "vpc_id": "vpc-1", "internet_gateway_exclusion_mode": "allow-bidirectional"}),
                                             change("aws_vpc_block_public_access_exclusion.b", "delete", {"id": "vpcbpa-exclude-2", "subnet_id": "subnet-web", "internet_gateway_exclusion_mode": "allow-egress"}, None),
@@ -767,6 +767,7 @@ NODE_ROWS = [
 TERRAFORM = {
     "first": ([f"aws_security_group.web: ingress tcp {it}-{it}: security_groups {LATER}, and may be of aws_security_group.bastion, sg-cbae759a6429ecf8a" for it in (80, 22)], ["sg-fe6343d9545d01576"], 65),
     "second": ([], ["sg-f201565ddeeb561bd"], 100),
+    "third": ([], ["sg-1e2c4e5b97c83731c", "sg-ad18d136e34868728"], 42),
 }
 
 # BASE with vpc-2, behind a transit gateway over which no rule names groups: eni-far lets in what sg-web sends to port 443. sg-far belongs to vpc-1 as well.
@@ -830,8 +831,205 @@ FAR_ROWS = [
      {"-SecurityGroups": ["sg-far"], "-NetworkInterfaces": ["eni-far"], "-SecurityGroupVpcAssociations": ["sg-far"]}, []),
 ]
 
+# BASE with a virtual private gateway, whose routes rtb-web takes, with one that is attached to nothing, and with an endpoint of each kind: of S3, of other services, and one behind which a firewall lets all pass.
+AWAY = copy.deepcopy(BASE)
+OF_S3, BY_BGP = "com.amazonaws.us-east-1.s3", "EnableVgwRoutePropagation"
+ENI_SSM = {"NetworkInterfaceId": "eni-ssm", "SubnetId": "subnet-db", "VpcId": "vpc-1", "PrivateIpAddress": "10.1.2.40", "Status": "in-use", "InterfaceType": "vpc_endpoint", "Groups": [{"GroupId": "sg-db", "GroupName": "db"}], "PrivateIpAddresses": [{"Primary": True, "PrivateIpAddress": "10.1.2.40"}]}
+AWAY["NetworkInterfaces"].append(ENI_SSM)
+AWAY["VpnGateways"] = [{"VpnGatewayId": "vgw-1", "State": "available", "Type": "ipsec.1", "VpcAttachments": [{"State": "attached", "VpcId": "vpc-1"}]}, {"VpnGatewayId": "vgw-2", "State": "available", "Type": "ipsec.1", "VpcAttachments": [{"State": "detached", "VpcId": "vpc-1"}]}]
+AWAY["PrefixLists"].append({"PrefixListId": "pl-s3", "PrefixListName": OF_S3, "Cidrs": ["52.216.0.0/15"]})
+
+
+def endpoint(name, kind, tables=(), subnets=(), interfaces=(), groups=(), **more):
+    return {"VpcEndpointId": name, "VpcEndpointType": kind, "VpcId": "vpc-1", "ServiceName": OF_S3, "State": "available", "RouteTableIds": list(tables), "SubnetIds": list(subnets),
+            "Groups": list(groups), "NetworkInterfaceIds": list(interfaces), "Tags": [], "OwnerId": "111122223333", **more}
+
+
+def propagated(cidr, gateway="vgw-1"):
+    return {**to(cidr, GatewayId=gateway), "Origin": BY_BGP}
+
+
+def to_s3(endpoint_):
+    return {"DestinationPrefixListId": "pl-s3", "GatewayId": endpoint_, "Origin": "CreateRoute", "State": "active"}
+
+
+def gone(*routes):
+    return [{**it, "State": "blackhole"} for it in routes]
+
+
+TO_OFFICE, TO_FW = to("172.20.0.0/16", GatewayId="vgw-1"), to("10.7.0.0/16", GatewayId="vpce-fw")
+MAIN, ROUTES_WEB = [LOCAL, TO_OFFICE, TO_FW], [LOCAL, to("0.0.0.0/0", GatewayId="igw-1"), propagated("172.30.0.0/16"), to_s3("vpce-s3")]
+row_of(AWAY, "RouteTables", "rtb-main")["Routes"] = copy.deepcopy(MAIN)
+row_of(AWAY, "RouteTables", "rtb-web").update(Routes=copy.deepcopy(ROUTES_WEB), PropagatingVgws=[{"GatewayId": "vgw-1"}])
+AWAY["VpcEndpoints"] = [endpoint("vpce-s3", "Gateway", tables=["rtb-web"]), endpoint("vpce-ssm", "Interface", subnets=["subnet-db"], interfaces=["eni-ssm"], groups=[DB]), endpoint("vpce-fw", "GatewayLoadBalancer", subnets=["subnet-web"])]
+AWAY["Appliances"] = [{"NetworkInterfaceId": "eni-db", "Kind": "none"}, {"VpcEndpointId": "vpce-fw", "Kind": "all"}]
+KEYS.update(VpnGateways="VpnGatewayId", VpcEndpoints="VpcEndpointId", Appliances="VpcEndpointId")
+OFFICE_WEB, WEB_OFFICE = "open from vgw-1 tcp 172.30.0.7 10.1.1.10 5000 443", "open from eni-web tcp 10.1.1.10 172.30.0.7 5000 443"
+WEB_S3, DB_S3 = "open from eni-web tcp 10.1.1.10 52.216.0.7 5000 443", "open from eni-db tcp 10.1.2.10 52.216.0.7 5432 1024"
+VGW, ATTACHMENT, PROPAGATION, EDGE = "aws_vpn_gateway.a", "aws_vpn_gateway_attachment.a", "aws_vpn_gateway_route_propagation.a", "aws_route_table_association.a"
+ENDPOINT, OF_TABLE, OF_SUBNET, OF_GROUP = (f"aws_vpc_endpoint{it}.a" for it in ("", "_route_table_association", "_subnet_association", "_security_group_association"))
+NOT_TOLD_ROUTES = "the routes that {} propagates aren't known"
+
+
+def new_gateway(name, *vpcs):
+    return {"State": "available", "Type": "ipsec.1", "VpcAttachments": [{"State": "attached", "VpcId": it} for it in vpcs], "VpnGatewayId": name, "Tags": []}
+
+
+def attached(gateway, vpc="vpc-1"):
+    return {"vpn_gateway_id": gateway, "vpc_id": vpc}
+
+
+def taking(table, gateway):
+    return {"route_table_id": table, "vpn_gateway_id": gateway}
+
+
+def of_service(tables=None, **more):
+    """An aws_vpc_endpoint of a service that has routes."""
+    return {"service_name": OF_S3, "vpc_endpoint_type": "Gateway", "vpc_id": "vpc-1", **({"route_table_ids": tables} if tables is not None else {}), **more}
+
+
+def of_interfaces(subnets, groups=None, **more):
+    return {"service_name": OF_S3, "vpc_endpoint_type": "Interface", "vpc_id": "vpc-1", "subnet_configuration": [], **({"subnet_ids": subnets} if subnets is not None else {}), **({"security_group_ids": groups} if groups is not None else {}), **more}
+
+
+def in_endpoint(endpoint_, number, subnet_, zone, at, groups):
+    """The interface of an endpoint in a subnet."""
+    return new_eni(f"{endpoint_}.network_interface_ids[{number}]", subnet_, zone, [at], groups, Description=f"VPC Endpoint Interface {endpoint_}", InterfaceType="vpc_endpoint",
+                   Attachment={"InstanceOwnerId": "amazon-aws", "Status": "attached"}, RequesterManaged=True, Status="in-use")
+
+
+def without_office():
+    """What becomes of tables where vgw-1 is attached to nothing any more."""
+    return {"RouteTables rtb-main Routes": [LOCAL, *gone(TO_OFFICE), TO_FW], "RouteTables rtb-web Routes": [ROUTES_WEB[0], ROUTES_WEB[1], ROUTES_WEB[3]], "RouteTables rtb-web PropagatingVgws": []}
+
+
+NEW_ENDPOINT = {"id": True, "network_interface_ids": True, "prefix_list_id": True, "state": True, "route_table_ids": True, "subnet_ids": True, "security_group_ids": True}
+
+
+def open_in(*known_):
+    return {it: value for it, value in NEW_ENDPOINT.items() if it not in known_}
+
+
+# As ROWS, over AWAY.
+AWAY_ROWS = [
+    ("an office by a gateway, and S3", plan([]), [], {}, [(OFFICE_WEB, "arrived eni-web"), (WEB_OFFICE, "arrived vgw-1"), (WEB_S3, "arrived vpce-s3"), (DB_S3, "stopped GroupsOut eni-db -"), ("open from vgw-2 tcp 172.30.0.7 10.1.1.10 5000 443", "stopped FarDetached vgw-2 -")]),
+
+    # virtual private gateways
+    ("a new gateway", plan([change(VGW, "create", None, {"vpc_id": "vpc-1", "tags_all": {"Name": "office"}}, {"id": True, "arn": True})]), [], {"+VpnGateways": [{**new_gateway(VGW, "vpc-1"), "Tags": [{"Key": "Name", "Value": "office"}]}]}, [(f"open from {VGW} tcp 172.30.0.7 10.1.1.10 5000 443", "arrived eni-web")]),
+    ("one of a new VPC", plan([change(A_VPC, "create", None, {"cidr_block": "10.5.0.0/16"}, NEW_VPC), change(VGW, "create", None, {}, {"id": True, "vpc_id": True})], {VGW: {"vpc_id": refer("aws_vpc.a.id")}}), [], {**vpc_rows("10.5.0.0/16"), "+VpnGateways": [new_gateway(VGW, A_VPC)]}, []),
+    ("one that an attachment of its own attaches, with a route", plan([change(VGW, "create", None, {}, {"id": True, "vpc_id": True}), change(ATTACHMENT, "create", None, {"vpc_id": "vpc-1"}, {"id": True, "vpn_gateway_id": True}),
+                                                                       change("aws_route.a", "create", None, {it: value for it, value in route("rtb-web", destination_cidr_block="10.6.0.0/16").items() if it not in ("gateway_id", "network_interface_id")}, {"gateway_id": True, "network_interface_id": True}),
+                                                                       change("aws_route_table.main", "update", {"id": "rtb-main", "route": [route_block("172.20.0.0/16", gateway_id="vgw-1")]}, {"id": "rtb-main", "route": [{it: value for it, value in route_block("172.20.0.0/16").items() if it != "gateway_id"}]}, {"route": [{"gateway_id": True}]})],
+                                                                      {VGW: {}, ATTACHMENT: {"vpn_gateway_id": refer("aws_vpn_gateway.a.id")}, "aws_route.a": {"gateway_id": refer("aws_vpn_gateway_attachment.a.vpn_gateway_id")}, "aws_route_table.main": {"route": refer("aws_vpn_gateway.a.id")}}), [],
+     {"+VpnGateways": [new_gateway(VGW, "vpc-1")], "RouteTables rtb-web Routes": [*ROUTES_WEB, to("10.6.0.0/16", GatewayId=VGW)], "RouteTables rtb-main Routes": [LOCAL, to("172.20.0.0/16", GatewayId=VGW), TO_FW]}, [("open from eni-web tcp 10.1.1.10 10.6.0.7 5000 443", f"arrived {VGW}")]),
+    ("a block that may name a new gateway or another", plan([change(VGW, "create", None, {"vpc_id": "vpc-1"}, {"id": True}), change("aws_internet_gateway.a", "create", None, {}, {"id": True}),
+                                                             change("aws_route_table.main", "update", {"id": "rtb-main", "route": []}, {"id": "rtb-main", "route": [{it: value for it, value in route_block("10.6.0.0/16").items() if it != "gateway_id"}]}, {"route": [{"gateway_id": True}]})],
+                                                            {"aws_route_table.main": {"route": refer("aws_vpn_gateway.a.id", "aws_internet_gateway.a.id")}}),
+     [f"aws_route_table.main: route 10.6.0.0/16: gateway_id {LATER}, and may be of {VGW}, aws_internet_gateway.a", f"aws_internet_gateway.a: {DOESNT}"], {"+VpnGateways": [new_gateway(VGW, "vpc-1")]}, []),
+    ("a gateway of a VPC that the bundle doesn't have, and a route to it", plan([change(VGW, "create", None, {"vpc_id": "vpc-9"}, {"id": True}), change("aws_route.a", "create", None, {it: value for it, value in route("rtb-web", destination_cidr_block="10.6.0.0/16").items() if it not in ("gateway_id", "network_interface_id")}, {"gateway_id": True, "network_interface_id": True})],
+                                                                                {"aws_route.a": {"gateway_id": refer("aws_vpn_gateway.a.id")}}), [f"{VGW}: the bundle has no vpc-9", f"aws_route.a: the bundle has no {VGW}"], {}, []),
+    ("a gateway goes", plan([change(VGW, "delete", {"id": "vgw-1", "vpc_id": "vpc-1"}, None)]), [], {"-VpnGateways": ["vgw-1"], **without_office()}, [(WEB_OFFICE, "stopped PrivateAddress internet -"), ("open from eni-ssm tcp 10.1.2.40 172.20.0.7 5000 443", "stopped GroupsOut eni-ssm -")]),
+    ("a gateway that isn't there goes", plan([change(VGW, "delete", {"id": "vgw-9"}, None)]), [f"{VGW}: the bundle has no vgw-9"], {}, []),
+    ("a gateway is replaced", plan([change(VGW, "delete create", {"id": "vgw-1", "vpc_id": "vpc-1"}, {"vpc_id": "vpc-1"}, {"id": True}), change("aws_route.a", "update", route("rtb-main", destination_cidr_block="172.20.0.0/16", gateway_id="vgw-1"), {it: value for it, value in route("rtb-main", destination_cidr_block="172.20.0.0/16").items() if it != "gateway_id"}, {"gateway_id": True})],
+                                   {"aws_route.a": {"gateway_id": refer("aws_vpn_gateway.a.id")}}), [], {"-VpnGateways": ["vgw-1"], "+VpnGateways": [new_gateway(VGW, "vpc-1")], **without_office(), "RouteTables rtb-main Routes": [LOCAL, to("172.20.0.0/16", GatewayId=VGW), TO_FW]}, []),
+    ("tags alone, and a gateway in its place", plan([change(VGW, "update", {"id": "vgw-1", "vpc_id": "vpc-1", "tags": {}}, {"id": "vgw-1", "vpc_id": "vpc-1", "tags": {"a": "b"}}), no_op("aws_vpn_gateway.b", {"id": "vgw-2"})]), [], {}, []),
+    ("a gateway is attached", plan([change(ATTACHMENT, "create", None, attached("vgw-2"), {"id": True})]), [], {"VpnGateways vgw-2 VpcAttachments": [{"State": "attached", "VpcId": "vpc-1"}]}, [("open from vgw-2 tcp 172.30.0.7 10.1.1.10 5000 443", "arrived eni-web")]),
+    ("by its own resource, and another by it no more", plan([change(VGW, "update", {"id": "vgw-2", "vpc_id": ""}, {"id": "vgw-2", "vpc_id": "vpc-1"}), change("aws_vpn_gateway.b", "update", {"id": "vgw-1", "vpc_id": "vpc-1"}, {"id": "vgw-1", "vpc_id": None})]), [],
+     {"VpnGateways vgw-2 VpcAttachments": [{"State": "attached", "VpcId": "vpc-1"}], "VpnGateways vgw-1 VpcAttachments": [], **without_office()}, [(OFFICE_WEB, "stopped FarDetached vgw-1 -")]),
+    ("what it is attached to isn't known, or is told elsewhere", plan([change(VGW, "update", {"id": "vgw-1", "vpc_id": "vpc-1"}, {"id": "vgw-1"}, {"vpc_id": True}), change("aws_vpn_gateway.b", "update", {"id": "vgw-1", "vpc_id": "vpc-1"}, {"id": "vgw-1"}, {"vpc_id": True})], {VGW: {"vpc_id": refer("var.vpc")}, "aws_vpn_gateway.b": {}}), [f"{VGW}: vpc_id {LATER}: a plan doesn't tell var.vpc"], {}, []),
+    ("a gateway that is attached already", plan([change(ATTACHMENT, "create", None, attached("vgw-1")), change("aws_vpn_gateway_attachment.b", "create", None, attached("vgw-9"))]), ["aws_vpn_gateway_attachment.b: the bundle has no vgw-9"], {}, []),
+    ("an attachment goes", plan([change(ATTACHMENT, "delete", attached("vgw-1"), None)]), [], {"VpnGateways vgw-1 VpcAttachments": [], **without_office()}, [(OFFICE_WEB, "stopped FarDetached vgw-1 -")]),
+    ("and comes again", plan([change(ATTACHMENT, "delete", attached("vgw-1"), None), change("aws_vpn_gateway_attachment.b", "create", None, attached("vgw-1")), change(PROPAGATION, "create", None, taking("rtb-web", "vgw-1"))]), [],
+     {"RouteTables rtb-web Routes": [ROUTES_WEB[0], ROUTES_WEB[1], ROUTES_WEB[3], ROUTES_WEB[2]]}, [(WEB_OFFICE, "arrived vgw-1")]),
+    ("attachments that aren't there go", plan([change(ATTACHMENT, "delete", attached("vgw-2"), None), change("aws_vpn_gateway_attachment.b", "delete", attached("vgw-1", "vpc-2"), None)]), [f"{ATTACHMENT}: the bundle has no attachment of vgw-2 to vpc-1 to take away", "aws_vpn_gateway_attachment.b: the bundle has no attachment of vgw-1 to vpc-2 to take away"], {}, []),
+    ("a gateway at two VPCs", plan([change(A_VPC, "create", None, {"cidr_block": "10.5.0.0/16"}, NEW_VPC), change(ATTACHMENT, "create", None, {"vpn_gateway_id": "vgw-1"}, {"vpc_id": True})], {ATTACHMENT: {"vpc_id": refer("aws_vpc.a.id")}}), [f"{ATTACHMENT}: vgw-1 is attached to vpc-1"], vpc_rows("10.5.0.0/16"), []),
+    ("a VPC goes that has a gateway and endpoints", plan([change("aws_vpc.old", "delete", {"id": "vpc-1"}, None)]), ["aws_vpc.old: subnet-web, subnet-db, sg-web and others would still need it"], {}, []),
+
+    ("a table takes a gateway's routes, as another one does", plan([change(PROPAGATION, "create", None, taking("rtb-main", "vgw-1"), {"id": True})]), [], {"RouteTables rtb-main Routes": [*MAIN, propagated("172.30.0.0/16")], "RouteTables rtb-main PropagatingVgws": [{"GatewayId": "vgw-1"}]}, []),
+    ("but for those that it has of its own", plan([change("aws_route.a", "create", None, route("rtb-main", destination_cidr_block="172.30.0.0/16", gateway_id="igw-1")), change(PROPAGATION, "create", None, taking("rtb-main", "vgw-1"))]), [f"aws_route.a: rtb-main has a route to 172.30.0.0/16 already"],
+     {"RouteTables rtb-main Routes": [*MAIN, propagated("172.30.0.0/16")], "RouteTables rtb-main PropagatingVgws": [{"GatewayId": "vgw-1"}]}, []),
+    ("routes that no table tells", plan([change(PROPAGATION, "create", None, taking("rtb-main", "vgw-2"))]), [f"{PROPAGATION}: {NOT_TOLD_ROUTES.format('vgw-2')}"], {"RouteTables rtb-main PropagatingVgws": [{"GatewayId": "vgw-2"}]}, []),
+    ("a table takes them no more", plan([change(PROPAGATION, "delete", taking("rtb-web", "vgw-1"), None)]), [], {"RouteTables rtb-web Routes": [ROUTES_WEB[0], ROUTES_WEB[1], ROUTES_WEB[3]], "RouteTables rtb-web PropagatingVgws": []}, [(WEB_OFFICE, "stopped PrivateAddress internet -"), (OFFICE_WEB, "arrived eni-web")]),
+    ("another one does in its place", plan([change(PROPAGATION, "delete create", taking("rtb-web", "vgw-1"), taking("rtb-main", "vgw-1"))]), [],
+     {"RouteTables rtb-web Routes": [ROUTES_WEB[0], ROUTES_WEB[1], ROUTES_WEB[3]], "RouteTables rtb-web PropagatingVgws": [], "RouteTables rtb-main Routes": [*MAIN, propagated("172.30.0.0/16")], "RouteTables rtb-main PropagatingVgws": [{"GatewayId": "vgw-1"}]}, []),
+    ("a table that doesn't take them, a gateway that isn't there", plan([change(PROPAGATION, "delete", taking("rtb-main", "vgw-1"), None), change("aws_vpn_gateway_route_propagation.b", "create", None, taking("rtb-main", "vgw-9"))]), [f"{PROPAGATION}: the bundle has no routes of rtb-main that vgw-1 propagates", "aws_vpn_gateway_route_propagation.b: the bundle has no vgw-9"], {}, []),
+    ("tables name the gateways whose routes they take", plan([change("aws_route_table.main", "update", {"id": "rtb-main", "propagating_vgws": [], "route": []}, {"id": "rtb-main", "propagating_vgws": ["vgw-1", "vgw-9"], "route": []}), change("aws_route_table.web", "update", {"id": "rtb-web", "propagating_vgws": ["vgw-1"], "route": []}, {"id": "rtb-web", "propagating_vgws": [], "route": []})]),
+     ["aws_route_table.main: the bundle has no vgw-9"], {"RouteTables rtb-web Routes": [ROUTES_WEB[0], ROUTES_WEB[1], ROUTES_WEB[3]], "RouteTables rtb-web PropagatingVgws": [], "RouteTables rtb-main Routes": [*MAIN, propagated("172.30.0.0/16")], "RouteTables rtb-main PropagatingVgws": [{"GatewayId": "vgw-1"}]}, []),
+    ("a new table names a new gateway, another doesn't say", plan([change(VGW, "create", None, {"vpc_id": "vpc-1"}, {"id": True}), *(change(f"aws_route_table.{it}", "create", None, {"vpc_id": "vpc-1"}, {"id": True, "propagating_vgws": True, "route": True}) for it in "ab")],
+                                                                  {"aws_route_table.a": {"propagating_vgws": refer("aws_vpn_gateway.a.id")}, "aws_route_table.b": {}}),
+     [f"aws_route_table.a: {NOT_TOLD_ROUTES.format(VGW)}"], {"+VpnGateways": [new_gateway(VGW, "vpc-1")], "+RouteTables": [{"Associations": [], "RouteTableId": "aws_route_table.a", "Routes": [LOCAL], "Tags": [], "VpcId": "vpc-1", "OwnerId": "111122223333", "PropagatingVgws": [{"GatewayId": VGW}]}, {"Associations": [], "RouteTableId": "aws_route_table.b", "Routes": [LOCAL], "Tags": [], "VpcId": "vpc-1", "OwnerId": "111122223333"}]}, []),
+
+    # tables of gateways
+    ("a table of a virtual private gateway", plan([change(EDGE, "create", None, {"route_table_id": "rtb-main", "gateway_id": "vgw-1", "subnet_id": None}, {"id": True})]), [], {"RouteTables rtb-main Associations": [*AWAY["RouteTables"][0]["Associations"], {**routed("rtb-main", EDGE, GatewayId="vgw-1"), **TIED}]},
+     [(OFFICE_WEB, "arrived eni-web"), ("open from vgw-1 tcp 172.30.0.7 10.2.0.7 5000 443", "stopped NoRoute rtb-main -")]),
+    ("a new table of the internet gateway, by a firewall", plan([change("aws_route_table.edge", "create", None, {"vpc_id": "vpc-1", "route": [route_block("10.1.1.0/24", vpc_endpoint_id="vpce-fw")]}, {"id": True, "propagating_vgws": True, "route": [{}]}), change(EDGE, "create", None, {"gateway_id": "igw-1"}, {"id": True, "route_table_id": True})], {"aws_route_table.edge": {}, EDGE: {"route_table_id": refer("aws_route_table.edge.id")}}), [],
+     {"+RouteTables": [{"Associations": [{**routed("aws_route_table.edge", EDGE, GatewayId="igw-1"), **TIED}], "RouteTableId": "aws_route_table.edge", "Routes": [LOCAL, to("10.1.1.0/24", GatewayId="vpce-fw")], "Tags": [], "VpcId": "vpc-1", "OwnerId": "111122223333"}]}, [(TO_WEB, "arrived eni-web")]),
+    ("tables of gateways that the bundle doesn't have", plan([change("aws_internet_gateway.a", "create", None, {}, {"id": True}), change(EDGE, "create", None, {"route_table_id": "rtb-main"}, {"gateway_id": True}), change("aws_route_table_association.b", "create", None, {"route_table_id": "rtb-main", "gateway_id": "vgw-9"})], {EDGE: {"gateway_id": refer("aws_internet_gateway.a.id")}}),
+     [f"{EDGE}: the bundle has no aws_internet_gateway.a", "aws_route_table_association.b: the bundle has no vgw-9", f"aws_internet_gateway.a: {DOESNT}"], {}, []),
+
+    # endpoints of services that have routes
+    ("an endpoint of a service", plan([change(ENDPOINT, "create", None, of_service(["rtb-main"]), open_in("route_table_ids"))]), [], {"+VpcEndpoints": [endpoint(ENDPOINT, "Gateway", tables=["rtb-main"])], "RouteTables rtb-main Routes": [*MAIN, to_s3(ENDPOINT)]}, [(DB_S3, "stopped GroupsOut eni-db -")]),
+    ("one whose kind isn't told, at a new table and by an association", plan([change("aws_route_table.new", "create", None, {"vpc_id": "vpc-1"}, {"id": True, "propagating_vgws": True, "route": True}), change("aws_vpc_endpoint.b", "create", None, {"service_name": OF_S3, "vpc_id": "vpc-1"}, {**NEW_ENDPOINT}),
+                                                                              change(OF_TABLE, "create", None, {}, {"id": True, "route_table_id": True, "vpc_endpoint_id": True})],
+                                                                             {"aws_vpc_endpoint.b": {}, OF_TABLE: {"route_table_id": refer("aws_route_table.new.id"), "vpc_endpoint_id": refer("aws_vpc_endpoint.b.id")}}), [],
+     {"+VpcEndpoints": [endpoint("aws_vpc_endpoint.b", "Gateway", tables=["aws_route_table.new"])], "+RouteTables": [{"Associations": [], "RouteTableId": "aws_route_table.new", "Routes": [LOCAL, to_s3("aws_vpc_endpoint.b")], "Tags": [], "VpcId": "vpc-1", "OwnerId": "111122223333"}]}, []),
+    ("at tables that aren't known before", plan([change("aws_route_table.new", "create", None, {"vpc_id": "vpc-1"}, {"id": True, "propagating_vgws": True, "route": True}), change(ENDPOINT, "create", None, of_service(), NEW_ENDPOINT)], {"aws_route_table.new": {}, ENDPOINT: {"route_table_ids": refer("aws_route_table.new.id")}}), [],
+     {"+VpcEndpoints": [endpoint(ENDPOINT, "Gateway", tables=["aws_route_table.new"])], "+RouteTables": [{"Associations": [], "RouteTableId": "aws_route_table.new", "Routes": [LOCAL, to_s3(ENDPOINT)], "Tags": [], "VpcId": "vpc-1", "OwnerId": "111122223333"}]}, []),
+    ("a service without a prefix list, a table with such a route, one that isn't there", plan([change(f"{ENDPOINT}[0]", "create", None, of_service(["rtb-main"], service_name="com.amazonaws.us-east-1.dynamodb"), open_in("route_table_ids")), change(f"{ENDPOINT}[1]", "create", None, of_service(["rtb-web", "rtb-9"]), open_in("route_table_ids"))]),
+     [f"{ENDPOINT}[0]: the bundle has no prefix list of com.amazonaws.us-east-1.dynamodb", f"{ENDPOINT}[1]: rtb-web has a route to pl-s3 already", f"{ENDPOINT}[1]: the bundle has no rtb-9"],
+     {"+VpcEndpoints": [endpoint(f"{ENDPOINT}[0]", "Gateway", ServiceName="com.amazonaws.us-east-1.dynamodb"), endpoint(f"{ENDPOINT}[1]", "Gateway")]}, []),
+    ("an endpoint's tables change, and its policy", plan([change(ENDPOINT, "update", of_service(["rtb-web"], id="vpce-s3", policy="a"), of_service(["rtb-main"], id="vpce-s3", policy="b"))]), [], {"VpcEndpoints vpce-s3 RouteTableIds": ["rtb-main"], "RouteTables rtb-web Routes": ROUTES_WEB[:3], "RouteTables rtb-main Routes": [*MAIN, to_s3("vpce-s3")]}, [(WEB_S3, "arrived internet")]),
+    ("its policy alone, its tables elsewhere", plan([change(ENDPOINT, "update", of_service(["rtb-web"], id="vpce-s3", policy="a"), of_service(id="vpce-s3", policy="b"), {"route_table_ids": True})], {ENDPOINT: {}}), [], {}, [(WEB_S3, "arrived vpce-s3")]),
+    ("an association of a table goes, and one that isn't there", plan([change(OF_TABLE, "delete", {"route_table_id": "rtb-web", "vpc_endpoint_id": "vpce-s3"}, None), change("aws_vpc_endpoint_route_table_association.b", "delete", {"route_table_id": "rtb-main", "vpc_endpoint_id": "vpce-s3"}, None)]),
+     ["aws_vpc_endpoint_route_table_association.b: the bundle has no route of rtb-main to vpce-s3 to take away"], {"VpcEndpoints vpce-s3 RouteTableIds": [], "RouteTables rtb-web Routes": ROUTES_WEB[:3]}, [(WEB_S3, "arrived internet")]),
+    ("an endpoint of a service goes", plan([change(ENDPOINT, "delete", of_service(["rtb-web"], id="vpce-s3"), None)]), [], {"-VpcEndpoints": ["vpce-s3"], "RouteTables rtb-web Routes": ROUTES_WEB[:3]}, [(WEB_S3, "arrived internet")]),
+    ("one is replaced", plan([change(ENDPOINT, "delete create", of_service(["rtb-web"], id="vpce-s3"), of_service(["rtb-web"]), open_in("route_table_ids"))]), [], {"-VpcEndpoints": ["vpce-s3"], "+VpcEndpoints": [endpoint(ENDPOINT, "Gateway", tables=["rtb-web"])], "RouteTables rtb-web Routes": [*ROUTES_WEB[:3], to_s3(ENDPOINT)]}, [(WEB_S3, f"arrived {ENDPOINT}")]),
+    ("the default table is managed from now on: routes of endpoints stay", plan([change("aws_main_route_table_association.a", "create", None, {"route_table_id": "rtb-web", "vpc_id": "vpc-1"}), change("aws_default_route_table.a", "create", None, {"default_route_table_id": "rtb-web", "route": []}, {"id": True})]), [],
+     {"RouteTables rtb-web Routes": [LOCAL, to_s3("vpce-s3")], "RouteTables rtb-web PropagatingVgws": [], "RouteTables rtb-main Associations": [], "RouteTables rtb-web Associations": [*AWAY["RouteTables"][1]["Associations"], {"Main": True, "RouteTableAssociationId": "rtbassoc-main", "RouteTableId": "rtb-web"}]}, []),
+    ("endpoints that aren't there, or in a VPC that isn't", plan([change(ENDPOINT, "delete", of_service([], id="vpce-9"), None), change("aws_vpc_endpoint.b", "create", None, of_service([], vpc_id="vpc-9"), open_in("route_table_ids")), change("aws_vpc_endpoint.c", "update", of_service([], id="vpce-9"), of_service(["rtb-main"], id="vpce-9"))]),
+     [f"{ENDPOINT}: the bundle has no vpce-9", "aws_vpc_endpoint.b: the bundle has no vpc-9", "aws_vpc_endpoint.c: the bundle has no vpce-9"], {}, []),
+
+    # endpoints with interfaces
+    ("an endpoint with interfaces", plan([change(ENDPOINT, "create", None, of_interfaces(["subnet-web", "subnet-db"], ["sg-web"], subnet_configuration=[{"ipv4": "10.1.2.50", "ipv6": None, "subnet_id": "subnet-db"}]), open_in("subnet_ids", "security_group_ids"))]), [f"{ENDPOINT}: the address of its interface in subnet-web {LATER}: 10.1.1.4 is taken for it"],
+     {"+VpcEndpoints": [endpoint(ENDPOINT, "Interface", subnets=["subnet-web", "subnet-db"], groups=[WEB], interfaces=[f"{ENDPOINT}.network_interface_ids[{it}]" for it in (0, 1)])], "+NetworkInterfaces": [in_endpoint(ENDPOINT, 0, "subnet-web", "us-east-1a", "10.1.1.4", [WEB]), in_endpoint(ENDPOINT, 1, "subnet-db", "us-east-1b", "10.1.2.50", [WEB])]},
+     [("open from eni-web tcp 10.1.1.10 10.1.1.4 5000 443", f"arrived {ENDPOINT}.network_interface_ids[0]")]),
+    ("with the default group, in no subnet yet", plan([change(ENDPOINT, "create", None, of_interfaces(None), NEW_ENDPOINT), change(OF_SUBNET, "create", None, {"subnet_id": "subnet-db"}, {"vpc_endpoint_id": True})], {ENDPOINT: {}, OF_SUBNET: {"vpc_endpoint_id": refer("aws_vpc_endpoint.a.id")}}),
+     [f"{OF_SUBNET}: the address of its interface in subnet-db {LATER}: 10.1.2.4 is taken for it"],
+     {"+VpcEndpoints": [endpoint(ENDPOINT, "Interface", subnets=["subnet-db"], groups=[{"GroupId": "sg-default", "GroupName": "default"}], interfaces=[f"{ENDPOINT}.network_interface_ids[0]"])], "+NetworkInterfaces": [in_endpoint(ENDPOINT, 0, "subnet-db", "us-east-1b", "10.1.2.4", [{"GroupId": "sg-default", "GroupName": "default"}])]}, []),
+    ("addresses that others have, and what isn't known", plan([change(f"{ENDPOINT}[0]", "create", None, of_interfaces(["subnet-db"], ["sg-web"], subnet_configuration=[{"ipv4": "10.1.2.10", "subnet_id": "subnet-db"}]), open_in("subnet_ids", "security_group_ids")), change(f"{ENDPOINT}[1]", "create", None, of_interfaces(["subnet-9"], ["sg-web"]), open_in("subnet_ids", "security_group_ids")),
+                                                               change("aws_vpc_endpoint.b", "create", None, of_interfaces(["subnet-db"]), open_in("subnet_ids")), change("aws_vpc_endpoint.c", "create", None, {**of_interfaces([]), "vpc_endpoint_type": None}, {"id": True, "vpc_endpoint_type": True})], {"aws_vpc_endpoint.b": {"security_group_ids": refer("local.groups")}}),
+     [f"aws_vpc_endpoint.c: vpc_endpoint_type {LATER}", f"{ENDPOINT}[0]: 10.1.2.10 is an address of eni-db", f"{ENDPOINT}[1]: the bundle has no subnet-9", f"aws_vpc_endpoint.b: security_group_ids {LATER}: a plan doesn't tell local.groups", "aws_vpc_endpoint.b: the bundle doesn't tell the groups of aws_vpc_endpoint.b"],
+     {"+VpcEndpoints": [endpoint(f"{ENDPOINT}[0]", "Interface", groups=[WEB]), endpoint(f"{ENDPOINT}[1]", "Interface", groups=[WEB]), endpoint("aws_vpc_endpoint.b", "Interface")]}, []),
+    ("an endpoint's groups and subnets change", plan([change(ENDPOINT, "update", of_interfaces(["subnet-db"], ["sg-db"], id="vpce-ssm"), of_interfaces(["subnet-db", "subnet-web"], ["sg-web"], id="vpce-ssm"))]), [f"{ENDPOINT}: the address of its interface in subnet-web {LATER}: 10.1.1.4 is taken for it"],
+     {"VpcEndpoints vpce-ssm Groups": [WEB], "VpcEndpoints vpce-ssm SubnetIds": ["subnet-db", "subnet-web"], "VpcEndpoints vpce-ssm NetworkInterfaceIds": ["eni-ssm", "vpce-ssm.network_interface_ids[1]"], "NetworkInterfaces eni-ssm Groups": [WEB], "+NetworkInterfaces": [in_endpoint("vpce-ssm", 1, "subnet-web", "us-east-1a", "10.1.1.4", [WEB])]},
+     [("open from eni-web tcp 10.1.1.10 10.1.2.40 5000 5432", "stopped GroupsIn eni-ssm -")]),
+    ("a subnet goes, and one that it isn't in", plan([change(ENDPOINT, "update", of_interfaces(["subnet-db", "subnet-web"], ["sg-db"], id="vpce-ssm"), of_interfaces([], ["sg-db"], id="vpce-ssm", subnet_configuration=[]))]), [f"{ENDPOINT}: the bundle doesn't tell the interface of vpce-ssm in subnet-web"],
+     {"VpcEndpoints vpce-ssm SubnetIds": [], "VpcEndpoints vpce-ssm NetworkInterfaceIds": [], "-NetworkInterfaces": ["eni-ssm"]}, []),
+    ("associations of subnets and groups", plan([change(OF_SUBNET, "delete", {"subnet_id": "subnet-db", "vpc_endpoint_id": "vpce-ssm"}, None), change(OF_GROUP, "create", None, {"security_group_id": "sg-web", "vpc_endpoint_id": "vpce-ssm", "replace_default_association": False}, {"id": True})]), [],
+     {"VpcEndpoints vpce-ssm SubnetIds": [], "VpcEndpoints vpce-ssm NetworkInterfaceIds": [], "VpcEndpoints vpce-ssm Groups": [DB, WEB], "-NetworkInterfaces": ["eni-ssm"]}, []),
+    ("a group comes, and one goes", plan([change(OF_GROUP, "create", None, {"security_group_id": "sg-web", "vpc_endpoint_id": "vpce-ssm"}, {"id": True}), change("aws_vpc_endpoint_security_group_association.b", "delete", {"security_group_id": "sg-db", "vpc_endpoint_id": "vpce-ssm"}, None), change("aws_vpc_endpoint_security_group_association.c", "delete", {"security_group_id": "sg-old", "vpc_endpoint_id": "vpce-ssm"}, None)]),
+     ["aws_vpc_endpoint_security_group_association.c: vpce-ssm of the bundle doesn't have sg-old"], {"VpcEndpoints vpce-ssm Groups": [WEB], "NetworkInterfaces eni-ssm Groups": [WEB]}, []),
+    ("a group in the place of the default one, and back", plan([change(ENDPOINT, "create", None, of_interfaces(["subnet-db"], subnet_configuration=[{"ipv4": "10.1.2.50", "subnet_id": "subnet-db"}]), open_in("subnet_ids")), change(OF_GROUP, "create", None, {"security_group_id": "sg-web", "replace_default_association": True}, {"vpc_endpoint_id": True}), change("aws_vpc_endpoint_security_group_association.b", "delete", {"security_group_id": "sg-db", "vpc_endpoint_id": "vpce-ssm", "replace_default_association": True}, None)],
+                                                               {ENDPOINT: {}, OF_GROUP: {"vpc_endpoint_id": refer("aws_vpc_endpoint.a.id")}}), [],
+     {"+VpcEndpoints": [endpoint(ENDPOINT, "Interface", subnets=["subnet-db"], groups=[WEB], interfaces=[f"{ENDPOINT}.network_interface_ids[0]"])], "+NetworkInterfaces": [in_endpoint(ENDPOINT, 0, "subnet-db", "us-east-1b", "10.1.2.50", [WEB])],
+      "VpcEndpoints vpce-ssm Groups": [{"GroupId": "sg-default", "GroupName": "default"}], "NetworkInterfaces eni-ssm Groups": [{"GroupId": "sg-default", "GroupName": "default"}]}, []),
+    ("addresses of an endpoint's interfaces", plan([change(ENDPOINT, "update", of_interfaces(["subnet-db"], ["sg-db"], id="vpce-ssm"), of_interfaces(["subnet-db"], ["sg-db"], id="vpce-ssm", subnet_configuration=[{"ipv4": "10.1.2.60", "subnet_id": "subnet-db"}]))]), [f"{ENDPOINT}: subnet_configuration {LATER}, or can't be changed here"], {}, []),
+    ("an endpoint with interfaces goes, with its group", plan([change(ENDPOINT, "delete", of_interfaces(["subnet-db"], ["sg-db"], id="vpce-ssm"), None)]), [], {"-VpcEndpoints": ["vpce-ssm"], "-NetworkInterfaces": ["eni-ssm"]}, []),
+
+    # endpoints of firewalls
+    ("an endpoint of a firewall, with a route", plan([change(ENDPOINT, "create", None, {**of_interfaces(["subnet-web"]), "vpc_endpoint_type": "GatewayLoadBalancer", "service_name": "com.amazonaws.vpce.us-east-1.vpce-svc-1"}, open_in("subnet_ids")),
+                                                      change("aws_route.a", "create", None, {it: value for it, value in route("rtb-web", destination_cidr_block="10.6.0.0/16").items() if it not in ("vpc_endpoint_id", "network_interface_id")}, {"vpc_endpoint_id": True, "network_interface_id": True})],
+                                                     {ENDPOINT: {"subnet_ids": {"constant_value": ["subnet-web"]}}, "aws_route.a": {"vpc_endpoint_id": refer("aws_vpc_endpoint.a.id")}}), [],
+     {"+VpcEndpoints": [endpoint(ENDPOINT, "GatewayLoadBalancer", subnets=["subnet-web"], ServiceName="com.amazonaws.vpce.us-east-1.vpce-svc-1")], "RouteTables rtb-web Routes": [*ROUTES_WEB, to("10.6.0.0/16", GatewayId=ENDPOINT)]}, [("open from eni-web tcp 10.1.1.10 10.6.0.7 5000 443", f"stopped Unmodelled {ENDPOINT} -")]),
+    ("one goes, with what is told of its firewall", plan([change(ENDPOINT, "delete", {**of_interfaces(["subnet-web"], id="vpce-fw"), "vpc_endpoint_type": "GatewayLoadBalancer"}, None)]), [], {"-VpcEndpoints": ["vpce-fw"], "-Appliances": ["vpce-fw"], "RouteTables rtb-main Routes": [LOCAL, TO_OFFICE, *gone(TO_FW)]}, []),
+
+    ("what else leads to networks that aren't described", plan([*(change(f"aws_{it}.a", "create", None, {}, {"id": True}) for it in ("vpn_connection", "vpn_connection_route", "dx_gateway", "dx_gateway_association", "dx_private_virtual_interface", "ec2_transit_gateway_peering_attachment", "ec2_transit_gateway_connect", "ec2_transit_gateway_vpc_attachment", "vpc_endpoint_service", "networkfirewall_firewall")),
+                                                                change("aws_vpn_connection.b", "update", {"id": "vpn-1", "transit_gateway_id": "tgw-1", "tags": {}}, {"id": "vpn-1", "transit_gateway_id": "tgw-1", "tags": {"a": "b"}}), change("aws_vpn_connection.c", "delete", {"id": "vpn-2", "vpn_gateway_id": "vgw-1"}, None), change("aws_customer_gateway.a", "create", None, {}, {"id": True})]),
+     [f"{it}: {DOESNT}" for it in ("aws_vpn_connection.a", "aws_vpn_connection_route.a", "aws_dx_gateway.a", "aws_dx_gateway_association.a", "aws_dx_private_virtual_interface.a", "aws_ec2_transit_gateway_peering_attachment.a", "aws_ec2_transit_gateway_connect.a", "aws_ec2_transit_gateway_vpc_attachment.a", "aws_vpc_endpoint_service.a", "aws_networkfirewall_firewall.a", "aws_vpn_connection.c")], {}, []),
+]
+
 # Rows, the bundle that they are over, and how often they are drawn to be damaged.
-BASES = [(ROWS, BASE, 1), (HOST_ROWS, HOSTS, 3), (FAR_ROWS, FAR, 3), (NODE_ROWS, NODES, 3)]
+BASES = [(ROWS, BASE, 1), (HOST_ROWS, HOSTS, 3), (FAR_ROWS, FAR, 3), (NODE_ROWS, NODES, 3), (AWAY_ROWS, AWAY, 3)]
 
 # References through modules, data and variables: what the id of a group in a rule's block is, and what is told.
 THROUGH = [
@@ -982,6 +1180,10 @@ def run_accounts(results, room):
                 (["vpc-2", A_VPC], [(f"{A_VPC}.default_security_group_id", "444455556666"), ("aws_security_group.a", "444455556666")], 3))
     status, out, err = planned(put(os.path.join(room, "plan.json"), plan(changes[:1])), bundle)
     results.add("two accounts, and none of them told", (status, json.loads(out), err), (1, [BASE, other], lines_of(["aws_vpc.a: which of the bundle's accounts it is made in isn't told"])))
+    gateways = [change(VGW, "create", None, {"vpc_id": "vpc-2"}, {"id": True}), change("aws_vpn_gateway.b", "create", None, {}, {"id": True, "vpc_id": True})]
+    status, out, err = planned(put(os.path.join(room, "plan.json"), plan(gateways, {"aws_vpn_gateway.b": {}})), bundle)
+    results.add("two accounts: a gateway of a VPC, and one of none", (status, json.loads(out), err),
+                (1, [BASE, {**other, "VpnGateways": [new_gateway(VGW, "vpc-2")]}], lines_of(["aws_vpn_gateway.b: which of the bundle's accounts it is made in isn't told"])))
 
 
 def run_listed(results, room, program):
@@ -1066,11 +1268,14 @@ def facts(bundle):
         found |= {("row", it["NetworkAclId"], row["RuleNumber"], row["Egress"], row["CidrBlock"], row["Protocol"], row["RuleAction"], str(row.get("PortRange") if row["Protocol"] == "6" else ""))
                   for row in it["Entries"] if row["RuleNumber"] < 32767}
     for it in bundle["RouteTables"]:
-        found |= {("table", it["RouteTableId"], row.get("SubnetId"), row["Main"]) for row in it["Associations"]}
-        found |= {("route", it["RouteTableId"], row["DestinationCidrBlock"], row.get("GatewayId"), row.get("NetworkInterfaceId"), row["State"]) for row in it["Routes"]}
+        found |= {("table", it["RouteTableId"], row.get("SubnetId"), row.get("GatewayId"), row["Main"]) for row in it["Associations"]}
+        found |= {("route", it["RouteTableId"], row.get("DestinationCidrBlock"), row.get("DestinationPrefixListId"), row.get("GatewayId"), row.get("NetworkInterfaceId"), row["State"]) for row in it["Routes"]}
     for it in bundle["NetworkInterfaces"]:
         found.add(("interface", it["NetworkInterfaceId"], it["SubnetId"], it["PrivateIpAddress"], *sorted(row["PrivateIpAddress"] for row in it["PrivateIpAddresses"]),
                    *sorted(row["GroupId"] for row in it["Groups"]), it["SourceDestCheck"], it["Status"]))
+    found |= {("gateway", it["VpnGatewayId"], row["VpcId"], row["State"]) for it in bundle.get("VpnGateways", []) for row in it["VpcAttachments"]}
+    found |= {("endpoint", it["VpcEndpointId"], it["VpcEndpointType"], it["VpcId"], it["ServiceName"], it["State"], *sorted(it["RouteTableIds"]), *sorted(it["NetworkInterfaceIds"]))
+              for it in bundle.get("VpcEndpoints", [])}
     return found
 
 

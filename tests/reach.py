@@ -21,6 +21,7 @@ import subprocess
 import sys
 import tempfile
 
+import model
 import networks
 from answers import BOX, COUNT, HEADER, ID, NUMBER
 
@@ -69,6 +70,9 @@ class Network:
         self.hosts = {row["NetworkInterfaceId"]: row for row in rows if row.get("InterfaceType") != "nat_gateway"}
         self.primary = {name: number(row["PrivateIpAddress"]) for name, row in self.hosts.items()}
         self.ends = ["internet", *sorted(self.hosts, key=str.encode)]
+        network = model.Network(json.loads(text))
+        self.fars = {name: model.may_start(it) for name, it in network.fars.items() if network.is_end(name) and name not in network.interfaces}
+        self.ends += sorted(self.fars, key=str.encode)
         self.addresses = sorted({number(a.decode()) for a in re.findall(rb'(?:Ip(?:Address)?|Ipv4Prefix)": ?"([0-9.]+)["/]', text)})
 
     def own(self, name):
@@ -94,6 +98,8 @@ class Query:
         self.start, self.goal = (rng.choice(network.ends) if rng.random() < chance else None for chance in (0.5, 0.4))
         if self.start == self.goal == "internet":
             self.goal = None
+        if not network.fars.get(self.start, True):
+            self.start = None
         self.protos, self.p, self.q = (0, 255), (0, 65535), (0, 65535)
         self.src = self.dst = None
         self.max = 20000
@@ -136,13 +142,13 @@ class Query:
         return (a, b)
 
     def starts(self):
-        return [self.start] if self.start else [end for end in self.network.ends if end != self.goal]
+        return [self.start] if self.start else [end for end in self.network.ends if end != self.goal and self.network.fars.get(end, True)]
 
     def sources(self, start):
-        return self.src or (ALL if start == "internet" else (self.network.primary[start],) * 2)
+        return self.src or (ALL if start == "internet" or start in self.network.fars else (self.network.primary[start],) * 2)
 
     def targets(self):
-        if self.dst or self.goal in (None, "internet"):
+        if self.dst or self.goal in (None, "internet", *self.network.fars):
             return [self.dst or ALL]
         return self.network.own(self.goal)
 

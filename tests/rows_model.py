@@ -70,16 +70,26 @@ class Question:
 
     def settle_starts(self):
         hosts = {it.id for network in self.networks for it in network.interfaces.values() if not it.gateway}
-        if self.start not in (model.ANY, model.INTERNET) and "src" not in self.told and not self.primaries(self.start):
+        fars = {it.id for network in self.networks for it in network.fars.values() if network.is_far_end(it) and model.may_start(it)}
+        if self.start not in (model.ANY, model.INTERNET) and "src" not in self.told and self.described(self.start) and not self.primaries(self.start):
             refuse(f"NoAddress {self.start}")
         if self.start is self.goal is model.ANY and len(hosts) > MOST_HOSTS:
             refuse("TooManyInterfaces", self.command)
-        every = [model.INTERNET, *sorted((it for it in hosts if "src" in self.told or self.primaries(it)), key=str.encode)]
+        senders = sorted((it for it in hosts if "src" in self.told or self.primaries(it)), key=str.encode)
+        every = [model.INTERNET, *senders, *sorted(fars - hosts, key=str.encode)]
         self.starts = [it for it in every if it != self.goal] if self.start is model.ANY else [self.start]
 
     def described(self, name):
         """The interfaces of that id, one of each network that has it."""
         return [it.interfaces[name] for it in self.networks if name in it.interfaces]
+
+    def beyond(self, name):
+        """What leads by that id to networks that aren't described, one of each network that has it and no interface of that id."""
+        return [it.fars[name] for it in self.networks if name in it.fars and name not in it.interfaces]
+
+    def is_none(self, name):
+        """Whether packets don't start or arrive at what has the name in one of the networks."""
+        return any(not it.is_end(name) for it in self.networks if name in it.interfaces or name in it.fars)
 
     def primaries(self, name):
         """The primary addresses that a host has in any of the networks."""
@@ -90,7 +100,7 @@ class Question:
         follows = name in self.pairs and all(self.pairs.index(name) > self.pairs.index(it) for it in self.told)
         if not follows or (name in ("sport", "port") and self.told.get("proto", model.TCP) not in WITH_PORTS):
             refuse(f"BadWord {number}")
-        reader = {"from": self.end, "to": self.end, "proto": self.protocol, "src": self.prefix, "dst": self.prefix, "max": self.limit}.get(name, self.range)
+        reader = {"from": self.first_end, "to": self.end, "proto": self.protocol, "src": self.prefix, "dst": self.prefix, "max": self.limit}.get(name, self.range)
         self.told[name] = reader(number + 1, value)
 
     def end(self, number, value):
@@ -98,9 +108,14 @@ class Question:
             if self.told.get("from", model.ANY) is model.INTERNET:
                 refuse("BothInternet")
             return model.INTERNET
-        if not self.described(value):
+        if not self.described(value) and not self.beyond(value):
             refuse(f"UnknownId {number}")
-        return refuse(f"NotAnEnd {value}") if any(it.gateway for it in self.described(value)) else value
+        return refuse(f"NotAnEnd {value}") if self.is_none(value) else value
+
+    def first_end(self, number, value):
+        """An end that may be asked about as a start."""
+        told = self.end(number, value)
+        return refuse(f"NotAStart {number}") if not all(map(model.may_start, self.beyond(told))) else told
 
     def protocol(self, number, value):
         told = model.NUMBERS.get(value, number_of(value, 255))
@@ -131,8 +146,8 @@ class Question:
         if "src" in self.told:
             sources = [self.told["src"]]
         else:
-            sources = [every] if start is model.INTERNET else [(it, it) for it in self.primaries(start)]
-        if "dst" in self.told or self.goal in (model.ANY, model.INTERNET):
+            sources = [every] if start is model.INTERNET or self.beyond(start) else [(it, it) for it in self.primaries(start)]
+        if "dst" in self.told or self.goal in (model.ANY, model.INTERNET) or self.beyond(self.goal):
             targets = [self.told.get("dst") or every]
         else:
             told = [(it, it) for row in self.described(self.goal) for pair in row.addresses for it in pair if it is not None]
@@ -434,6 +449,13 @@ class Telling:
 
 # ---- cases
 
+def ends_outside(about):
+    """The far ends, each more than once; where there are some, also what leads to none."""
+    fars = [(network.is_far_end(it), it.id) for network in about for it in network.fars.values()]
+    ends = [name for is_end, name in fars if is_end]
+    return 3 * ends + [name for is_end, name in fars if not is_end] if ends else []
+
+
 def drawn_words(rng, about, narrow=1):
     """Words about networks; seldom some that are refused."""
     interfaces = {name: row for network in about for name, row in network.interfaces.items()}
@@ -442,7 +464,7 @@ def drawn_words(rng, about, narrow=1):
     words = []
     for name, chance in (("from", 0.6), ("to", 0.4)):
         if rng.random() < chance * narrow:
-            words += [name, rng.choice(["internet", *interfaces])]
+            words += [name, rng.choice(["internet", *interfaces, *ends_outside(about)])]
     if rng.random() < 0.5:
         words += ["proto", rng.choice(("tcp", "tcp", "udp", "icmp", "6", "50"))]
     for name, chance in (("src", 0.2), ("dst", 0.4)):

@@ -77,6 +77,16 @@ OUT = "open from eni-a tcp 10.1.1.10 198.51.100.7 5000 443"
 STOPS = "packets stop there as Unmodelled"
 IPV4 = "every answer is about IPv4 alone"
 BEHIND = "packets from behind it can't be asked about"
+VPN = "a network behind Site-to-Site VPN or Direct Connect"
+COMES, NONE_COMES, OPENS = "packets come in from there", "no packet comes in from there", "it opens no connection; ask to it"
+PEERED = '{"VpcPeeringConnectionId": "pcx-1", "Status": {"Code": "%s"}, "RequesterVpcInfo": {"VpcId": "vpc-a", "CidrBlock": "10.1.0.0/16"}, "AccepterVpcInfo": {"VpcId": "vpc-9", "OwnerId": "777788889999", "CidrBlockSet": [{"CidrBlock": "10.9.0.0/16"}]}}'
+ATTACHED = '{"TransitGatewayAttachmentId": "att-vpn", "TransitGatewayId": "tgw-1", "ResourceType": "%s", "State": "available", "Association": {"TransitGatewayRouteTableId": "%s"}}'
+ENDPOINT = '{"VpcEndpointId": "vpce-1", "VpcEndpointType": "%s", "VpcId": "vpc-%s", "State": "%s", "SubnetIds": ["subnet-a"], "ServiceName": "com.amazonaws.us-east-1.s3"}'
+GONE_VPC = '{"VpnGatewayId": "vgw-1", "VpcAttachments": [{"State": "%s", "VpcId": "vpc-%s"}]}'
+TO_VPN = '{"DestinationCidrBlock": "10.2.1.0/24", "Type": "static", "State": "active", "TransitGatewayAttachments": [{"TransitGatewayAttachmentId": "att-vpn", "ResourceType": "vpn"}]}'
+FIREWALLED = {"RouteTables": '{"RouteTableId": "rtb-edge", "VpcId": "vpc-a", "Associations": [{"Main": false, "GatewayId": "igw-a"}], "Routes": [{"DestinationCidrBlock": "10.1.0.0/16", "GatewayId": "vpce-1"}]}',
+              "eni": '{"PrivateIpAddresses": [{"PrivateIpAddress": "10.1.1.10", "Association": {"PublicIp": "203.0.113.10"}}]}'}
+COMES_IN_BY_IGW = "open from internet tcp 198.51.100.7 203.0.113.10 1 2"
 ZONES = "a packet between accounts may cross the ACL and table of the wrong subnet"
 HIDDEN = "packets from it stop as NoPublic, and none to it comes to the interface"
 UNLISTED = "that SecurityGroupRules has no rule of sg-b: its IpPermissions and IpPermissionsEgress count"
@@ -134,10 +144,40 @@ ROWS = [
      ["state filtered of route rtb-a 10.2.0.0/24 to igw-a: AWS doesn't use the route, and answers do"], "open from eni-a tcp 10.1.1.10 10.2.0.9 1 2", "stopped NoPublic igw-a -"),
     ("a route of a route server", {"route": '{"DestinationCidrBlock": "10.9.0.0/16", "NetworkInterfaceId": "eni-a", "Origin": "Advertisement"}'},
      ["origin Advertisement of route rtb-a 10.9.0.0/16 to eni-a: of routes as long as it, answers may go by another than AWS does"], TO_9, "stopped DestCheck eni-a -"),
-    ("an internet gateway's table", {"RouteTables": '{"RouteTableId": "rtb-edge", "VpcId": "vpc-a", "Associations": [{"Main": false, "GatewayId": "igw-a"}], "Routes": [{"DestinationCidrBlock": "10.1.0.0/16", "GatewayId": "vpce-1"}]}',
-                                    "eni": '{"PrivateIpAddresses": [{"PrivateIpAddress": "10.1.1.10", "Association": {"PublicIp": "203.0.113.10"}}]}'},
-     ["route table rtb-edge of gateway igw-a: packets that come in by igw-a go straight to their host"], "open from internet tcp 198.51.100.7 203.0.113.10 1 2", "arrived eni-a"),
+    ("an internet gateway's table", FIREWALLED, [f"route rtb-edge 10.1.0.0/16 to vpce-1, of what comes in by igw-a: {STOPS}"], COMES_IN_BY_IGW, "stopped Unmodelled vpce-1 -"),
+    ("which leads to a host", {**FIREWALLED, "RouteTables": FIREWALLED["RouteTables"].replace('"GatewayId": "vpce-1"', '"NetworkInterfaceId": "eni-a"')}, [], COMES_IN_BY_IGW, "arrived eni-a"),
+    ("which leads to a firewall", {**FIREWALLED, "VpcEndpoints": ENDPOINT % ("GatewayLoadBalancer", "a", "available"), "Appliances": '{"VpcEndpointId": "vpce-1", "Kind": "none"}'}, [], COMES_IN_BY_IGW, "stopped InspectDrop vpce-1 -"),
+    ("a firewall of which nothing is told", {**FIREWALLED, "VpcEndpoints": ENDPOINT % ("GatewayLoadBalancer", "a", "available")},
+     [f"not told: what stands behind vpce-1 of vpc-a, an endpoint of a firewall (Appliances): {STOPS}"], COMES_IN_BY_IGW, "stopped Unmodelled vpce-1 -"),
+    ("one of another VPC", {"route": '{"DestinationCidrBlock": "10.9.0.0/16", "GatewayId": "vpce-1"}', "VpcEndpoints": ENDPOINT % ("GatewayLoadBalancer", "b", "available"), "Appliances": '{"VpcEndpointId": "vpce-1", "Kind": "all"}'},
+     [f"route rtb-a 10.9.0.0/16 to vpce-1: {STOPS}"], TO_9, "stopped Unmodelled vpce-1 -"),
     ("a VPN gateway's table", {"tied": '{"Main": false, "GatewayId": "vgw-1"}'}, [f"route table rtb-a of gateway vgw-1: {BEHIND}"], TO_B, "stopped GroupsIn eni-b -"),
+    ("of one that is listed", {"tied": '{"Main": false, "GatewayId": "vgw-1"}', "VpnGateways": GONE_VPC % ("attached", "a")},
+     [f"route rtb-a 10.2.0.0/16 to tgw-1, of what comes in by vgw-1: {STOPS}", f"route rtb-a 198.51.100.0/24 to igw-a, of what comes in by vgw-1: {STOPS}", f"outside: vgw-1 of vpc-a, {VPN}: {COMES}"],
+     "open from vgw-1 tcp 10.9.0.1 10.2.1.10 1 2", "stopped Unmodelled tgw-1 -"),
+
+    # ends outside
+    ("a VPN gateway that is listed", {"route": '{"DestinationCidrBlock": "10.9.0.0/16", "GatewayId": "vgw-1"}', "VpnGateways": GONE_VPC % ("attached", "a")},
+     [f"outside: vgw-1 of vpc-a, {VPN}: {COMES}"], TO_9, "arrived vgw-1"),
+    ("one that is attached to another VPC", {"route": '{"DestinationCidrBlock": "10.9.0.0/16", "GatewayId": "vgw-1"}', "VpnGateways": GONE_VPC % ("attached", "b")},
+     [f"outside: vgw-1 of vpc-b, {VPN}: {COMES}"], TO_9, "stopped FarDetached vgw-1 -"),
+    ("to none that is described", {"VpnGateways": GONE_VPC % ("attached", "9")}, [f"outside: vgw-1, {VPN}: {NONE_COMES}, since it is attached to no VPC that is described"],
+     "open from vgw-1 tcp 10.9.0.1 10.1.1.10 1 2", "stopped FarDetached vgw-1 -"),
+    ("to none at all", {"VpnGateways": GONE_VPC % ("detached", "a")}, [f"outside: vgw-1, {VPN}: {NONE_COMES}, since it is attached to no VPC that is described"],
+     "open from vgw-1 tcp 10.9.0.1 10.1.1.10 1 2", "stopped FarDetached vgw-1 -"),
+    ("a peering with another account", {"route": '{"DestinationCidrBlock": "10.9.0.0/16", "VpcPeeringConnectionId": "pcx-1"}', "VpcPeeringConnections": PEERED % "active"},
+     [f"outside: pcx-1 of vpc-a, VPC vpc-9 of account 777788889999, which isn't described: {COMES}"], TO_9, "arrived pcx-1"),
+    ("one that waits", {"VpcPeeringConnections": PEERED % "pending-acceptance"}, [], None, None),
+    ("of which a side's blocks aren't told", {"VpcPeeringConnections": (PEERED % "active").replace("CidrBlockSet", "Ipv6CidrBlockSet"), "route": '{"DestinationCidrBlock": "10.9.0.0/16", "VpcPeeringConnectionId": "pcx-1"}'},
+     [f"route rtb-a 10.9.0.0/16 to pcx-1, whose other VPC vpc-9 isn't described: {STOPS}"], TO_9, "stopped Unmodelled pcx-1 -"),
+    ("a gateway endpoint", {"route": '{"DestinationCidrBlock": "10.9.0.0/16", "GatewayId": "vpce-1"}', "VpcEndpoints": ENDPOINT % ("Gateway", "a", "Available")},
+     [f"outside: vpce-1 of vpc-a, the service com.amazonaws.us-east-1.s3: {OPENS}"], TO_9, "arrived vpce-1"),
+    ("of another VPC", {"route": '{"DestinationCidrBlock": "10.9.0.0/16", "GatewayId": "vpce-1"}', "VpcEndpoints": ENDPOINT % ("Gateway", "b", "available")},
+     [f"route rtb-a 10.9.0.0/16 to vpce-1: {STOPS}", f"outside: vpce-1 of vpc-b, the service com.amazonaws.us-east-1.s3: {OPENS}"], TO_9, "stopped Unmodelled vpce-1 -"),
+    ("of none that is described", {"VpcEndpoints": ENDPOINT % ("Gateway", "9", "available")}, [], None, None),
+    ("one that is being deleted", {"route": '{"DestinationCidrBlock": "10.9.0.0/16", "GatewayId": "vpce-1"}', "VpcEndpoints": ENDPOINT % ("Gateway", "a", "deleting")},
+     [f"route rtb-a 10.9.0.0/16 to vpce-1: {STOPS}"], TO_9, "stopped Unmodelled vpce-1 -"),
+    ("an endpoint that is an interface", {"VpcEndpoints": ENDPOINT % ("Interface", "a", "available")}, [], None, None),
 
     # IPv6
     ("routes of IPv6", {"route": '{"DestinationIpv6CidrBlock": "2001:db8::/56", "GatewayId": "local"}, {"DestinationIpv6CidrBlock": "::/0", "EgressOnlyInternetGatewayId": "eigw-1"}'},
@@ -198,7 +238,19 @@ ROWS = [
 
     # transit gateways
     ("an attachment of another kind", {"TransitGatewayAttachments": '{"TransitGatewayAttachmentId": "att-vpn", "TransitGatewayId": "tgw-1", "ResourceType": "vpn", "State": "available"}'},
-     [f"vpn attachment att-vpn of tgw-1: {BEHIND}"], None, None),
+     [f"outside: att-vpn of tgw-1, a Site-to-Site VPN: {NONE_COMES}, since it has no route table here"], "open from att-vpn tcp 10.9.0.1 10.2.1.10 1 2", "stopped FarNoTable att-vpn -"),
+    ("of a table that isn't there", {"TransitGatewayAttachments": ATTACHED % ("vpn", "tgw-rtb-9")}, [f"outside: att-vpn of tgw-1, a Site-to-Site VPN: {NONE_COMES}, since it has no route table here"],
+     "open from att-vpn tcp 10.9.0.1 10.2.1.10 1 2", "stopped FarNoTable att-vpn -"),
+    ("of one that leads in", {"TransitGatewayAttachments": ATTACHED % ("direct-connect-gateway", "tgw-rtb")}, [f"outside: att-vpn of tgw-1, a Direct Connect gateway: {COMES}"],
+     "open from att-vpn udp 10.9.0.1 10.2.1.10 1 2", "arrived eni-b"),
+    ("of one that leads nowhere", {"TransitGatewayAttachments": ATTACHED % ("connect", "tgw-rtb-2"), "TransitGatewayRoutes": '{"TransitGatewayRouteTableId": "tgw-rtb-2", "Routes": [{"DestinationCidrBlock": "10.2.0.0/16", "Type": "static", "State": "blackhole", "TransitGatewayAttachments": [{"TransitGatewayAttachmentId": "att-b"}]}]}'},
+     [f"outside: att-vpn of tgw-1, a Connect attachment, as of an SD-WAN: {NONE_COMES}, since tgw-rtb-2 leads to no VPC here"], "open from att-vpn udp 10.9.0.1 10.2.1.10 1 2", "stopped TgwBlackhole tgw-rtb-2 10.2.0.0/16"),
+    ("of a kind that isn't known", {"TransitGatewayAttachments": ATTACHED % ("tunnel", "tgw-rtb")}, [f"outside: att-vpn of tgw-1, what is of type tunnel: {COMES}"], None, None),
+    ("of which too little is told", {"TransitGatewayAttachments": '{"TransitGatewayAttachmentId": "att-vpn", "TransitGatewayId": "tgw-1", "ResourceType": "vpn"}'}, [f"vpn attachment att-vpn of tgw-1: {BEHIND}"], None, None),
+    ("a transit route to one", {"transit": TO_VPN, "TransitGatewayAttachments": ATTACHED % ("vpn", "tgw-rtb")}, [f"outside: att-vpn of tgw-1, a Site-to-Site VPN: {COMES}"], TO_B, "arrived att-vpn"),
+    ("to a VPC of another account", {"transit": TO_VPN, "TransitGatewayAttachments": (ATTACHED % ("vpc", "tgw-rtb")).replace('"State"', '"ResourceId": "vpc-9", "ResourceOwnerId": "777788889999", "State"'),
+                                    "TransitGatewayVpcAttachments": '{"TransitGatewayAttachmentId": "att-vpn", "TransitGatewayId": "tgw-1", "VpcId": "vpc-9", "SubnetIds": ["subnet-9"], "State": "available"}'},
+     [f"outside: att-vpn of tgw-1, VPC vpc-9 of account 777788889999, which isn't described: {COMES}"], TO_B, "arrived att-vpn"),
     ("one that is gone", {"TransitGatewayAttachments": '{"TransitGatewayAttachmentId": "att-vpn", "TransitGatewayId": "tgw-1", "ResourceType": "vpn", "State": "deleted"}'}, [], None, None),
     ("a transit route to a VPN", {"transit": '{"DestinationCidrBlock": "10.2.1.0/24", "Type": "static", "State": "active", "TransitGatewayAttachments": [{"TransitGatewayAttachmentId": "att-vpn", "ResourceType": "vpn"}]}'},
      [f"route tgw-rtb 10.2.1.0/24 to att-vpn, whose kind is vpn: {STOPS}"], TO_B, "stopped Unmodelled att-vpn -"),
@@ -253,6 +305,12 @@ FOLDED = [
     ("to two", {"route": f"{VGW % (8, 'vgw-1')}, {VGW % (9, 'vgw-2')}"},
      [f"2 routes that lead beyond what is followed, as rtb-a 10.8.0.0/16 to vgw-1: {STOPS}",
       "2 gateways to other networks, as vgw-1: packets from behind them can't be asked about"]),
+    ("two ends outside that are alike", {"VpnGateways": f"{GONE_VPC % ('attached', 'a')}, {(GONE_VPC % ('attached', 'b')).replace('vgw-1', 'vgw-2')}, {(GONE_VPC % ('attached', '9')).replace('vgw-1', 'vgw-3')}"},
+     ["outside: 2 virtual private gateways, as vgw-1: packets come in from behind them", f"outside: vgw-3, {VPN}: {NONE_COMES}, since it is attached to no VPC that is described"]),
+    ("two services", {"VpcEndpoints": f"{ENDPOINT % ('Gateway', 'a', 'available')}, {(ENDPOINT % ('Gateway', 'b', 'available')).replace('vpce-1', 'vpce-2')}"},
+     ["outside: 2 gateway endpoints, as vpce-1: they open no connection; ask to them"]),
+    ("two firewalls of which nothing is told", {"VpcEndpoints": f"{ENDPOINT % ('GatewayLoadBalancer', 'a', 'available')}, {(ENDPOINT % ('GatewayLoadBalancer', 'b', 'available')).replace('vpce-1', 'vpce-2')}"},
+     [f"not told: what stands behind 2 endpoints of firewalls (Appliances), as vpce-1: {STOPS}"]),
     ("a thousand of them", {"route": ", ".join('{"DestinationCidrBlock": "10.9.%d.%d/32", "GatewayId": "vpce-1"}' % (k // 256, k % 256) for k in range(1000))},
      [f"1,000 routes that lead beyond what is followed, as rtb-a 10.9.0.0/32 to vpce-1: {STOPS}"]),
     ("two subnets of which block public access isn't told", {"vpc": '{"BlockPublicAccessStates": {}}', "InternetGateways": IGW_B % "available"},
@@ -297,7 +355,7 @@ def put(bundle, place, texts):
 
 def printed(lines):
     """Lines as they are printed."""
-    return [it if it.startswith("not told: ") else f"not followed: {it}" for it in lines]
+    return [it if it.startswith(("not told: ", "outside: ")) else f"not followed: {it}" for it in lines]
 
 
 def survey(*words):
@@ -389,7 +447,7 @@ def run_others(results, path):
     results.add("as a process, no bundle", process(os.devnull), (2, [], [f"survey: {os.devnull} is no bundle: it is not one JSON value in UTF-8"]))
     for words in ([], [path, path], ["--all"], ["--all", "--all", path], ["--all", path, path], ["--each", path]):
         results.add(f"words {words}", survey(*words), (2, [], ["survey: one BUNDLE is meant; --help says more"]))
-    results.add("--help", (survey("--help")[0], survey("--help")[1][:1]), (0, ["Tells what a bundle has that vpc doesn't follow: survey [--all] BUNDLE"]))
+    results.add("--help", (survey("--help")[0], survey("--help")[1][:1]), (0, ["Tells what a bundle has that vpc doesn't follow, and what leads outside: survey [--all] BUNDLE"]))
 
 
 def main(words):

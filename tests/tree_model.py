@@ -179,7 +179,7 @@ def query_of(network, lines):
     """The query of the second and the third line, or the number of the first that is none."""
     ends = re.fullmatch(r"query from (\S+) to (\S+)", lines[0]) if lines else None
     found = [model.INTERNET if it == "internet" else it for it in ends.groups()] if ends else []
-    if not found or not all(it is model.INTERNET or network.is_end(it) for it in found) or found == [model.INTERNET] * 2:
+    if not found or not all(map(network.is_end, found)) or not model.may_start(network.end(found[0])) or found == [model.INTERNET] * 2:
         return 2
     sides = lines[1].split(" ")[1:] if len(lines) > 1 and lines[1].startswith("box ") else []
     kinds = [ADDRESS if side in (1, 2) else NUMBER for side in range(5)]

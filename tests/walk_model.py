@@ -28,13 +28,14 @@ class Packets:
         self.rng, self.network = rng, model.Network(json.loads(text))
         self.cuts, self.own = model.cuts(self.network), [model.address(it.decode()) for it in networks.Ends(text).addresses]
         self.ends = [model.INTERNET, *(name for name, row in self.network.interfaces.items() if not row.gateway and name != "internet" and name[0] != "-")]
+        self.ends += [name for name, row in self.network.fars.items() if self.network.is_end(name) and name not in self.network.interfaces and name != "internet" and name[0] != "-"] * 2
 
     def near(self, side, other):
         told = self.rng.choice(self.cuts[side]) if self.cuts[side] and self.rng.random() < 0.7 else other
         return max(0, min(model.LAST[side], told + self.rng.choice((-1, 0, 0, 0, 1))))
 
     def address(self, end):
-        if end is not model.INTERNET and self.rng.random() < 0.75:
+        if end in self.network.interfaces and self.rng.random() < 0.75:
             row = self.network.interfaces[end]
             told = [it for pair in row.addresses for it in pair if it is not None] + [it for told in row.blocks for it in (told.first, told.last)]
             if told:
@@ -69,7 +70,7 @@ def replayed(network, packets):
 
     def event(label, start, header):
         walk = model.Walk(network, label, connections, translations)
-        end, arrived = walk.follow(model.first_place(start), header)
+        end, arrived = walk.follow(model.first_place(network.end(start)), header)
         stopped = isinstance(end, model.Stop)
         events.append(f"{label} from {model.name_of(start)} {header}")
         told.append(f"event {len(events)} stopped {end}" if stopped else f"event {len(events)} arrived {model.name_of(end)} {arrived}")
@@ -95,7 +96,7 @@ def differences(program, path, events_path, packets, count):
         packet = [path, label, "from", model.name_of(start), *str(header).split()]
         found += differs(["trace", *packet], model.traced(packets.network, label, start, header))
         found += differs(["why", *packet], model.explained(packets.network, label, start, header))
-        if start is not model.INTERNET or goal is not model.INTERNET:
+        if model.may_start(packets.network.end(start)) and (start is not model.INTERNET or goal is not model.INTERNET):
             words, lines = asked(packets.network, start, goal, header)
             found += differs(["ask", path, *words], lines)
     events, lines = replayed(packets.network, drawn)
