@@ -32,7 +32,7 @@ told() {
 
 # What stands on standard error beside the line of each call and what survey tells.
 said() {
-    grep -v -e '^collect-bundle: asking aws ' -e '^not followed: ' "$room/err"
+    grep -v -e '^collect-bundle: asking aws ' -e '^not followed: ' -e '^outside: ' "$room/err"
 }
 
 # The names of the calls of EC2 that were made, each once.

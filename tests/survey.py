@@ -149,7 +149,7 @@ ROWS = [
     ("which leads to a firewall", {**FIREWALLED, "VpcEndpoints": ENDPOINT % ("GatewayLoadBalancer", "a", "available"), "Appliances": '{"VpcEndpointId": "vpce-1", "Kind": "none"}'}, [], COMES_IN_BY_IGW, "stopped InspectDrop vpce-1 -"),
     ("a firewall of which nothing is told", {**FIREWALLED, "VpcEndpoints": ENDPOINT % ("GatewayLoadBalancer", "a", "available")},
      [f"not told: what stands behind vpce-1 of vpc-a, an endpoint of a firewall (Appliances): {STOPS}"], COMES_IN_BY_IGW, "stopped Unmodelled vpce-1 -"),
-    ("one of another VPC", {"route": '{"DestinationCidrBlock": "10.9.0.0/16", "GatewayId": "vpce-1"}', "VpcEndpoints": ENDPOINT % ("GatewayLoadBalancer", "b", "available"), "Appliances": '{"VpcEndpointId": "vpce-1", "Kind": "all"}'},
+    ("one of another VPC", {"route": '{"DestinationCidrBlock": "10.9.0.0/16", "GatewayId": "vpce-1"}', "VpcEndpoints": (ENDPOINT % ("GatewayLoadBalancer", "b", "available")).replace("subnet-a", "subnet-b"), "Appliances": '{"VpcEndpointId": "vpce-1", "Kind": "all"}'},
      [f"route rtb-a 10.9.0.0/16 to vpce-1: {STOPS}"], TO_9, "stopped Unmodelled vpce-1 -"),
     ("a VPN gateway's table", {"tied": '{"Main": false, "GatewayId": "vgw-1"}'}, [f"route table rtb-a of gateway vgw-1: {BEHIND}"], TO_B, "stopped GroupsIn eni-b -"),
     ("of one that is listed", {"tied": '{"Main": false, "GatewayId": "vgw-1"}', "VpnGateways": GONE_VPC % ("attached", "a")},
