@@ -1,3 +1,4 @@
+pub mod Homes
 pub mod OneRest
 pub mod Remembering
 pub mod Rests

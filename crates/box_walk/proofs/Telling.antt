@@ -9,7 +9,7 @@ use Rattle.header_boxes.specs.Terms.{IsAligned, holds, low_of}
 use Rattle.vpc_base.specs.Terms.{AreAmong, CutLists, reply_of}
 use Rattle.vpc_base.specs.declared.headers.Label.TheVariants as labels
 use Rattle.vpc_laws.specs.Types.{Description, End, Header, Hop, Outcome, Phase, Stop, Verdict}
-use Rattle.vpc_model.specs.Terms.{Appliances, Connection, Moment, Translation, Walk, alone, cuts_of_hops, hops_after, hops_of_reply, near_cuts, reply_hops, reply_walk, request_walk, same_end, standing_cuts, start_of, verdict_of, verdict_of_arrival, verdict_of_reply, verdict_of_request, walk_of}
+use Rattle.vpc_model.specs.Terms.{Appliances, Connection, Homes, Moment, Translation, Walk, cuts_of_hops, hops_after, hops_of_reply, near_cuts, reply_hops, reply_walk, request_walk, same_end, standing_cuts, start_of, verdict_by, verdict_of_arrival, verdict_of_reply, verdict_of_request, walk_of}
 use Rattle.vpc_model.specs.declared.outcomes.Phase.TheVariants as phases
 use Rattle.vpc_model.specs.declared.outcomes.Verdict.TheVariants as verdicts
 use Rattle.vpc_model.specs.declared.stops.Stop.TheVariants as stops
@@ -23,21 +23,21 @@ reply_walk-left d appliances goal r w v conns nats =
     ap (λ (c : List Connection). walk_of d appliances labels.Answer (record { place = start_of goal; header = r; conns = c; nats = w.nats })) conns
     ∙ ap (λ (t : List Translation). walk_of d appliances labels.Answer (record { place = start_of goal; header = r; conns = v.conns; nats = t })) nats
 
-verdict-left : (d : Description) (appliances : Appliances) (start goal : End) (h : Header) (w v : Walk) (r : Option Header) → w.conns ≡ v.conns → w.nats ≡ v.nats
-    → verdict_of_arrival d appliances (alone start) goal h w r ≡ verdict_of_arrival d appliances (alone start) goal h v r
-verdict-left d appliances start goal h w v None conns nats = refl
-verdict-left d appliances start goal h w v (Some r) conns nats = ap (λ (x : Walk). verdict_of_reply (alone start) h x.outcome) (reply_walk-left d appliances goal r w v conns nats)
+verdict-left : (d : Description) (appliances : Appliances) (homes : Homes) (goal : End) (h : Header) (w v : Walk) (r : Option Header) → w.conns ≡ v.conns → w.nats ≡ v.nats
+    → verdict_of_arrival d appliances homes goal h w r ≡ verdict_of_arrival d appliances homes goal h v r
+verdict-left d appliances homes goal h w v None conns nats = refl
+verdict-left d appliances homes goal h w v (Some r) conns nats = ap (λ (x : Walk). verdict_of_reply homes h x.outcome) (reply_walk-left d appliances goal r w v conns nats)
 
 hops-left : (d : Description) (appliances : Appliances) (goal : End) (w v : Walk) (r : Option Header) → w.conns ≡ v.conns → w.nats ≡ v.nats → hops_of_reply d appliances goal w r ≡ hops_of_reply d appliances goal v r
 hops-left d appliances goal w v None conns nats = refl
 hops-left d appliances goal w v (Some r) conns nats = ap (λ (x : Walk). x.hops) (reply_walk-left d appliances goal r w v conns nats)
 
 -- a request that arrives, by the moment to which it comes
-pub verdict_at-arrival : (d : Description) (appliances : Appliances) (start goal end : End) (m : BoxMoment) (h : Header) (w : Walk) → IsWalkTo w h m (endings.Arrived end)
-    → stop_of (verdict_of_request d appliances (alone start) goal h w w.outcome) ≡ word_of_arrival d appliances start goal end m h
-verdict_at-arrival d appliances start goal end m h w k =
-    ap (λ (o : Outcome). stop_of (verdict_of_request d appliances (alone start) goal h w o)) k.outcome
-    ∙ ap (λ (v : Verdict). stop_of (cond (same_end end goal) v (verdicts.Stopped phases.Request (stops.WrongPlace end)))) (verdict-left d appliances start goal h w (arrival_at end m h) (reply_of (header_at m.header h)) k.conns k.nats)
+pub verdict_at-arrival : (d : Description) (appliances : Appliances) (homes : Homes) (goal end : End) (m : BoxMoment) (h : Header) (w : Walk) → IsWalkTo w h m (endings.Arrived end)
+    → stop_of (verdict_of_request d appliances homes goal h w w.outcome) ≡ word_of_arrival d appliances homes goal end m h
+verdict_at-arrival d appliances homes goal end m h w k =
+    ap (λ (o : Outcome). stop_of (verdict_of_request d appliances homes goal h w o)) k.outcome
+    ∙ ap (λ (v : Verdict). stop_of (cond (same_end end goal) v (verdicts.Stopped phases.Request (stops.WrongPlace end)))) (verdict-left d appliances homes goal h w (arrival_at end m h) (reply_of (header_at m.header h)) k.conns k.nats)
 
 hops_at-arrival : (d : Description) (appliances : Appliances) (goal end : End) (m : BoxMoment) (h : Header) (w : Walk) → IsWalkTo w h m (endings.Arrived end)
     → hops_after d appliances goal w w.outcome ≡ (let v = arrival_at end m h in hops_after d appliances goal v v.outcome)
@@ -66,36 +66,36 @@ request_aligned : (d : Description) (appliances : Appliances) (start goal : End)
 request_aligned d appliances start goal old new ending requests w cuts e = w.aligned cuts (request_among d appliances start goal old requests cuts e)
 
 -- stopped on the way
-pub request_stops : (d : Description) (appliances : Appliances) (start goal : End) (old new : BoxMoment) (s : Stop) → AreRequests start old
+pub request_stops : (d : Description) (appliances : Appliances) (homes : Homes) (goal : End) (old new : BoxMoment) (s : Stop) → AreRequests homes.start old
     → IsWalkOn d appliances labels.Opening old new (endings.Stopped s)
-    → Tells (AreAmong (near_cuts d appliances start goal (low_of old.header.part))) (λ h. stop_of (verdict_of d appliances start goal h)) old new (Some (phases.Request, s))
-request_stops d appliances start goal old new s requests w = record {
+    → Tells (AreAmong (near_cuts d appliances homes.start goal (low_of old.header.part))) (λ h. stop_of (verdict_by d appliances homes goal h)) old new (Some (phases.Request, s))
+request_stops d appliances homes goal old new s requests w = record {
   told = λ h inside.
-      let walk = request_walk d appliances start h in
-      sym (ap (λ (o : Outcome). stop_of (verdict_of_request d appliances (alone start) goal h walk o)) (request_led d appliances start old new (endings.Stopped s) requests w h inside).outcome);
+      let walk = request_walk d appliances homes.start h in
+      sym (ap (λ (o : Outcome). stop_of (verdict_of_request d appliances homes goal h walk o)) (request_led d appliances homes.start old new (endings.Stopped s) requests w h inside).outcome);
   body = w.body;
-  aligned = λ cuts e. request_aligned d appliances start goal old new (endings.Stopped s) requests w cuts e;
+  aligned = λ cuts e. request_aligned d appliances homes.start goal old new (endings.Stopped s) requests w cuts e;
 }
 
 -- arrived
-pub request_arrives : (d : Description) (appliances : Appliances) (start goal end : End) (old mid new : BoxMoment) (told : Option (Phase × Stop)) → AreRequests start old
+pub request_arrives : (d : Description) (appliances : Appliances) (homes : Homes) (goal end : End) (old mid new : BoxMoment) (told : Option (Phase × Stop)) → AreRequests homes.start old
     → IsWalkOn d appliances labels.Opening old mid (endings.Arrived end)
-    → Tells (DivideArrival d appliances goal end mid) (word_of_arrival d appliances start goal end mid) mid new told
-    → Tells (AreAmong (near_cuts d appliances start goal (low_of old.header.part))) (λ h. stop_of (verdict_of d appliances start goal h)) old new told
-request_arrives d appliances start goal end old mid new told requests w k =
+    → Tells (DivideArrival d appliances goal end mid) (word_of_arrival d appliances homes goal end mid) mid new told
+    → Tells (AreAmong (near_cuts d appliances homes.start goal (low_of old.header.part))) (λ h. stop_of (verdict_by d appliances homes goal h)) old new told
+request_arrives d appliances homes goal end old mid new told requests w k =
     let low = low_of old.header.part in
     let low_inside = low_in_body mid.header.part old.header.part w.body in
-    let walk = request_walk d appliances start low in
-    tells_after d appliances labels.Opening (AreAmong (near_cuts d appliances start goal low)) (DivideArrival d appliances goal end mid) (λ h. stop_of (verdict_of d appliances start goal h)) (word_of_arrival d appliances start goal end mid) old mid new (endings.Arrived end) told w
+    let walk = request_walk d appliances homes.start low in
+    tells_after d appliances labels.Opening (AreAmong (near_cuts d appliances homes.start goal low)) (DivideArrival d appliances goal end mid) (λ h. stop_of (verdict_by d appliances homes goal h)) (word_of_arrival d appliances homes goal end mid) old mid new (endings.Arrived end) told w
     (λ cuts e.
-    let among = request_among d appliances start goal old requests cuts e in (
+    let among = request_among d appliances homes.start goal old requests cuts e in (
       among,
       record {
         standing = among_through (standing_cuts d) _ cuts (standing_among d appliances labels.Opening (moment_at low old)) among;
         reply = subst (λ (g : Header). AreAmong (cuts_of_hops d (let v = arrival_at end mid g in hops_after d appliances goal v v.outcome)) cuts) (sym w.body.low)
-            (subst (λ (hops : List Hop). AreAmong (cuts_of_hops d hops) cuts) (hops_at-arrival d appliances goal end mid low walk (request_led d appliances start old mid (endings.Arrived end) requests w low low_inside))
-            (among_through (cuts_of_hops d (reply_hops d appliances start goal low)) (near_cuts d appliances start goal low) cuts (right_among (cuts_of_hops d walk.hops) (cuts_of_hops d (reply_hops d appliances start goal low))) e));
+            (subst (λ (hops : List Hop). AreAmong (cuts_of_hops d hops) cuts) (hops_at-arrival d appliances goal end mid low walk (request_led d appliances homes.start old mid (endings.Arrived end) requests w low low_inside))
+            (among_through (cuts_of_hops d (reply_hops d appliances homes.start goal low)) (near_cuts d appliances homes.start goal low) cuts (right_among (cuts_of_hops d walk.hops) (cuts_of_hops d (reply_hops d appliances homes.start goal low))) e));
       },
     ))
-    (λ h inside. verdict_at-arrival d appliances start goal end mid h (request_walk d appliances start h) (request_led d appliances start old mid (endings.Arrived end) requests w h inside))
+    (λ h inside. verdict_at-arrival d appliances homes goal end mid h (request_walk d appliances homes.start h) (request_led d appliances homes.start old mid (endings.Arrived end) requests w h inside))
     k

@@ -11,18 +11,18 @@ use Rattle.vpc_base.specs.Terms.{AreAmong, reply_of}
 use Rattle.vpc_base.specs.declared.headers.Label.TheVariants as labels
 use Rattle.vpc_laws.specs.Types.{Box5, Description, End, Header, Hop, Phase, Place, Stop}
 use Rattle.vpc_laws.proofs.Telling.{start-sound}
-use Rattle.vpc_model.specs.Terms.{Appliances, Moment, addresses_in, alone, cuts_of_hops, hops_of_reply, is_end, is_sound, same_end, start_of, verdict_of_arrival, verdict_of_reply, walk_of}
+use Rattle.vpc_model.specs.Terms.{Appliances, Homes, Moment, addresses_in, cuts_of_hops, hops_of_reply, is_end, is_sound, same_end, start_of, verdict_of_arrival, verdict_of_reply, walk_of}
 use Rattle.vpc_model.specs.declared.outcomes.Phase.TheVariants as phases
 use Rattle.vpc_model.specs.declared.outcomes.Verdict.TheVariants as verdicts
 use Rattle.vpc_model.specs.declared.stops.Stop.TheVariants as stops
 use Rattle.box_walk.proofs.TellingAll.{addresses_divided}
 
 -- at the goal, the verdict is that of the reply
-at_goal : (d : Description) (appliances : Appliances) (start goal end : End) (m : BoxMoment) (h : Header) (r : Option Header) → same_end end goal ≡ true → reply_of (header_at m.header h) ≡ r
-    → word_of_arrival d appliances start goal end m h ≡ stop_of (verdict_of_arrival d appliances (alone start) goal h (arrival_at end m h) r)
-at_goal d appliances start goal end m h r there is =
-    ap (λ (b : Bool). stop_of (cond b (verdict_of_arrival d appliances (alone start) goal h (arrival_at end m h) (reply_of (header_at m.header h))) (verdicts.Stopped phases.Request (stops.WrongPlace end)))) there
-    ∙ ap (λ (o : Option Header). stop_of (verdict_of_arrival d appliances (alone start) goal h (arrival_at end m h) o)) is
+at_goal : (d : Description) (appliances : Appliances) (homes : Homes) (goal end : End) (m : BoxMoment) (h : Header) (r : Option Header) → same_end end goal ≡ true → reply_of (header_at m.header h) ≡ r
+    → word_of_arrival d appliances homes goal end m h ≡ stop_of (verdict_of_arrival d appliances homes goal h (arrival_at end m h) r)
+at_goal d appliances homes goal end m h r there is =
+    ap (λ (b : Bool). stop_of (cond b (verdict_of_arrival d appliances homes goal h (arrival_at end m h) (reply_of (header_at m.header h))) (verdicts.Stopped phases.Request (stops.WrongPlace end)))) there
+    ∙ ap (λ (o : Option Header). stop_of (verdict_of_arrival d appliances homes goal h (arrival_at end m h) o)) is
 
 -- and so are the hops
 hops_at_goal : (d : Description) (appliances : Appliances) (goal end : End) (m : BoxMoment) (r : Option Header) → same_end end goal ≡ true → reply_of (header_at m.header (low_of m.header.part)) ≡ r
@@ -32,12 +32,12 @@ hops_at_goal d appliances goal end m r there is =
     ap (λ (b : Bool). cond b (hops_of_reply d appliances goal w (reply_of (header_at m.header (low_of m.header.part)))) []) there
     ∙ ap (hops_of_reply d appliances goal w) is
 
-pub no_reply : (d : Description) (appliances : Appliances) (start goal end : End) (old new : BoxMoment) (x : Part (Option Image)) → same_end end goal ≡ true
+pub no_reply : (d : Description) (appliances : Appliances) (homes : Homes) (goal end : End) (old new : BoxMoment) (x : Part (Option Image)) → same_end end goal ≡ true
     → GivesReply (addresses_in d) old.header x → new.header.part ≡ x.body → x.told ≡ None
-    → Tells (DivideArrival d appliances goal end old) (word_of_arrival d appliances start goal end old) old new (Some (phases.Reply, stops.NoReply goal))
-no_reply d appliances start goal end old new x there k over is =
-    subst (λ (b : Box5). Answers (DivideArrival d appliances goal end old) (word_of_arrival d appliances start goal end old) old.header.part (record { body = b; told = Some (phases.Reply, stops.NoReply goal) })) (sym over) (record {
-      told = λ h inside. sym (at_goal d appliances start goal end old h None there (sym (k.told h inside) ∙ ap (option_map (λ i. header_at i h)) is));
+    → Tells (DivideArrival d appliances goal end old) (word_of_arrival d appliances homes goal end old) old new (Some (phases.Reply, stops.NoReply goal))
+no_reply d appliances homes goal end old new x there k over is =
+    subst (λ (b : Box5). Answers (DivideArrival d appliances goal end old) (word_of_arrival d appliances homes goal end old) old.header.part (record { body = b; told = Some (phases.Reply, stops.NoReply goal) })) (sym over) (record {
+      told = λ h inside. sym (at_goal d appliances homes goal end old h None there (sym (k.told h inside) ∙ ap (option_map (λ i. header_at i h)) is));
       body = k.body;
       aligned = λ cuts e. k.aligned cuts (addresses_divided d cuts e.standing);
     })
@@ -93,16 +93,16 @@ reply_moment d goal old mid x answer place there from k kind narrowed is at =
       apart = to.apart;
     }
 
-pub replied : (d : Description) (appliances : Appliances) (start goal end : End) (old mid new : BoxMoment) (x : Part (Option Image)) (answer : Image) (told : Option (Phase × Stop)) → same_end end goal ≡ true
+pub replied : (d : Description) (appliances : Appliances) (homes : Homes) (goal end : End) (old mid new : BoxMoment) (x : Part (Option Image)) (answer : Image) (told : Option (Phase × Stop)) → same_end end goal ≡ true
     → GivesReply (addresses_in d) old.header x → IsReplyOf goal x answer old mid
-    → Tells (DivideReply d appliances mid) (word_of_answer d appliances start mid) mid new told
-    → Tells (DivideArrival d appliances goal end old) (word_of_arrival d appliances start goal end old) old new told
-replied d appliances start goal end old mid new x answer told there k r rest = record {
+    → Tells (DivideReply d appliances mid) (word_of_answer d appliances homes mid) mid new told
+    → Tells (DivideArrival d appliances goal end old) (word_of_arrival d appliances homes goal end old) old new told
+replied d appliances homes goal end old mid new x answer told there k r rest = record {
   told = λ h inside.
       let around = inside_reply h (within_holds new.header.part mid.header.part h rest.body.within inside) in
       rest.told h inside
-      ∙ ap (λ (m : Moment). let w = walk_of d appliances labels.Answer m in stop_of (verdict_of_reply (alone start) h w.outcome)) (moment_of_reply h)
-      ∙ sym (at_goal d appliances start goal end old h (Some (header_at answer h)) there (reply_told h around));
+      ∙ ap (λ (m : Moment). let w = walk_of d appliances labels.Answer m in stop_of (verdict_of_reply homes h w.outcome)) (moment_of_reply h)
+      ∙ sym (at_goal d appliances homes goal end old h (Some (header_at answer h)) there (reply_told h around));
   body = body_through new.header.part mid.header.part old.header.part rest.body middle;
   aligned = λ cuts e.
       aligned_through cuts new.header.part mid.header.part old.header.part

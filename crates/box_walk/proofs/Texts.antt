@@ -1,16 +1,16 @@
 -- Words and their texts.
 use Rattle.std.proofs.Common.{◌≡◌, None, Option, Some, ap, refl, subst, true}
 use Rattle.std.specs.Prelude.{option_map}
+use Rattle.box_walk.proofs.Homes.{verdicts_by_are_told}
 use Rattle.box_walk.specs.Asking.{stop_of}
 use Rattle.box_walk.specs.Laws.{WordsHaveTexts}
-use Rattle.vpc_laws.proofs.Telling.{verdicts_are_told}
 use Rattle.vpc_laws.specs.Sound.{IsTold}
 use Rattle.vpc_laws.specs.Types.{Description, Phase, Stop, Verdict}
 use Rattle.vpc_model.specs.Appliances.{appliances_of}
 use Rattle.vpc_model.specs.Report.{ending_of}
 use Rattle.vpc_model.specs.Sound.{has_text}
 use Rattle.vpc_model.specs.Told.{told_stop}
-use Rattle.vpc_model.specs.Verdict.{verdict_of}
+use Rattle.vpc_model.specs.Verdict.{verdict_by}
 use Rattle.vpc_model.specs.declared.outcomes.Verdict.TheVariants as verdicts
 
 -- the stop that is told, or else another
@@ -30,5 +30,5 @@ ending_of-stop d (verdicts.Stopped phase s) = refl
 
 pub words_have_texts : WordsHaveTexts
 words_have_texts a h phase s accepted asking is =
-    stop_told a.network (verdict_of a.network (appliances_of a.network) a.start a.goal h) (phase, s)
-    (verdicts_are_told a.network (appliances_of a.network) a.start a.goal h accepted asking.start asking.goal) is
+    stop_told a.network (verdict_by a.network (appliances_of a.network) a.homes a.goal h) (phase, s)
+    (verdicts_by_are_told a.network (appliances_of a.network) a.homes a.goal h accepted asking.start asking.goal) is

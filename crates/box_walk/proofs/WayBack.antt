@@ -12,35 +12,35 @@ use Rattle.box_steps.specs.declared.moment.BoxMoment.{BoxMoment}
 use Rattle.box_steps.specs.declared.onward.Onward.TheVariants as onwards
 use Rattle.conn_tracking.specs.OnImages.{connections_at}
 use Rattle.vpc_laws.specs.Types.{Box5, Description, End, Header, Phase, Stop}
-use Rattle.vpc_model.specs.Terms.{Appliances, Connection, Moment, Translation, alone, arrive, ended, same_end, step_of, verdict_of_request}
+use Rattle.vpc_model.specs.Terms.{Appliances, Connection, Homes, Moment, Translation, arrive, ended, same_end, step_of, verdict_of_request}
 use Rattle.vpc_model.specs.declared.outcomes.Outcome.TheVariants as outcomes
 use Rattle.box_walk.proofs.JourneyLemmas.{same-only}
 use Rattle.box_walk.specs.Terms.{DivideArrival, Tells, TellsReturns, stop_of, whether, word_of_arrival}
 
 -- what is told of replies goes by what arrived and what it left
-same_arrival : (d : Description) (a : Appliances) (start goal : End) (x y : BoxMoment) (h : Header) → header_at x.header h ≡ header_at y.header h
+same_arrival : (d : Description) (a : Appliances) (homes : Homes) (goal : End) (x y : BoxMoment) (h : Header) → header_at x.header h ≡ header_at y.header h
     → connections_at h x.conns.items ≡ connections_at h y.conns.items → translations_at h x.nats.items ≡ translations_at h y.nats.items
-    → word_of_arrival d a start goal goal x h ≡ word_of_arrival d a start goal goal y h
-same_arrival d a start goal x y h header conns nats =
+    → word_of_arrival d a homes goal goal x h ≡ word_of_arrival d a homes goal goal y h
+same_arrival d a homes goal x y h header conns nats =
     ap (λ (k : Header). by k (connections_at h x.conns.items) (translations_at h x.nats.items)) header
     ∙ ap (λ (cs : List Connection). by (header_at y.header h) cs (translations_at h x.nats.items)) conns
     ∙ ap (λ (ts : List Translation). by (header_at y.header h) (connections_at h y.conns.items) ts) nats
   where
     by : Header → List Connection → List Translation → Option (Phase × Stop)
-    by k cs ts = let w = ended [] (outcomes.Arrived goal k) cs ts in stop_of (verdict_of_request d a (alone start) goal h w w.outcome)
+    by k cs ts = let w = ended [] (outcomes.Arrived goal k) cs ts in stop_of (verdict_of_request d a homes goal h w w.outcome)
 
 -- of those that have arrived what is known of the ones that are let in
-pub returns_known : (d : Description) (a : Appliances) (start goal end : End) (b : Box5) (before m mid arrived : BoxMoment) (x : Part (Option (Phase × Stop)))
-    → TellsReturns d a start goal before x → IsNarrowed b before m → IsStepOn d a labels.Opening m mid (onwards.Arrive end)
+pub returns_known : (d : Description) (a : Appliances) (homes : Homes) (goal end : End) (b : Box5) (before m mid arrived : BoxMoment) (x : Part (Option (Phase × Stop)))
+    → TellsReturns d a homes goal before x → IsNarrowed b before m → IsStepOn d a labels.Opening m mid (onwards.Arrive end)
     → arrived ≡ record mid { header = image_over mid.header.part m.header }
-    → same_end end goal ≡ true → (h : Header) → holds h arrived.header.part ≡ true → holds h x.body ≡ true → x.told ≡ word_of_arrival d a start goal end arrived h
-returns_known d a start goal end b before m mid arrived x k n step is there h inside told =
+    → same_end end goal ≡ true → (h : Header) → holds h arrived.header.part ≡ true → holds h x.body ≡ true → x.told ≡ word_of_arrival d a homes goal end arrived h
+returns_known d a homes goal end b before m mid arrived x k n step is there h inside told =
     k.told h told
-    ∙ same_arrival d a start goal k.arrived arrived h
+    ∙ same_arrival d a homes goal k.arrived arrived h
     (ap (λ (i : Image). header_at i h) k.let_in.header ∙ sym (ap (λ (i : Image). header_at i h) n.header) ∙ sym (ap (λ (y : BoxMoment). header_at y.header h) is))
     (sym (k.let_in.conns h end next) ∙ conns ∙ sym (ap (λ (y : BoxMoment). connections_at h y.conns.items) is))
     (sym (k.let_in.nats h end next) ∙ nats ∙ sym (ap (λ (y : BoxMoment). translations_at h y.nats.items) is))
-    ∙ ap (λ (e : End). word_of_arrival d a start goal e arrived h) (sym (same-only end goal there))
+    ∙ ap (λ (e : End). word_of_arrival d a homes goal e arrived h) (sym (same-only end goal there))
   where
     held : holds h mid.header.part ≡ true
     held = subst (λ (y : BoxMoment). holds h y.header.part ≡ true) is inside
@@ -57,18 +57,18 @@ returns_known d a start goal end b before m mid arrived x k n step is there h in
     nats : let s = step_of d a labels.Opening (moment_at h before) in s.nats ≡ translations_at h mid.nats.items
     nats = subst (λ (y : Moment). let s = step_of d a labels.Opening y in s.nats ≡ translations_at h mid.nats.items) same (step.step h held).nats
 
-pub returns_known_if : (d : Description) (a : Appliances) (start goal end : End) (b : Box5) (before m mid arrived : BoxMoment) (back : Option (Part (Option (Phase × Stop))))
-    → IfSome back (TellsReturns d a start goal before) → IsNarrowed b before m → IsStepOn d a labels.Opening m mid (onwards.Arrive end)
+pub returns_known_if : (d : Description) (a : Appliances) (homes : Homes) (goal end : End) (b : Box5) (before m mid arrived : BoxMoment) (back : Option (Part (Option (Phase × Stop))))
+    → IfSome back (TellsReturns d a homes goal before) → IsNarrowed b before m → IsStepOn d a labels.Opening m mid (onwards.Arrive end)
     → arrived ≡ record mid { header = image_over mid.header.part m.header }
-    → IfSome back (λ x. same_end end goal ≡ true → (h : Header) → holds h arrived.header.part ≡ true → holds h x.body ≡ true → x.told ≡ word_of_arrival d a start goal end arrived h)
-returns_known_if d a start goal end b before m mid arrived None k n step is = tt
-returns_known_if d a start goal end b before m mid arrived (Some x) k n step is = returns_known d a start goal end b before m mid arrived x k n step is
+    → IfSome back (λ x. same_end end goal ≡ true → (h : Header) → holds h arrived.header.part ≡ true → holds h x.body ≡ true → x.told ≡ word_of_arrival d a homes goal end arrived h)
+returns_known_if d a homes goal end b before m mid arrived None k n step is = tt
+returns_known_if d a homes goal end b before m mid arrived (Some x) k n step is = returns_known d a homes goal end b before m mid arrived x k n step is
 
 -- what is known of a moment over its own part is known of the moment
-pub returns_from_itself : (d : Description) (a : Appliances) (start goal : End) (before m arrived new : BoxMoment) (told : Option (Phase × Stop)) → IsNarrowed before.header.part before m → IsLetIn d a m arrived
-    → Tells (DivideArrival d a goal goal arrived) (word_of_arrival d a start goal goal arrived) arrived new told
-    → TellsReturns d a start goal before (record { body = new.header.part; told = told })
-returns_from_itself d a start goal before m arrived new told n k tells = record {
+pub returns_from_itself : (d : Description) (a : Appliances) (homes : Homes) (goal : End) (before m arrived new : BoxMoment) (told : Option (Phase × Stop)) → IsNarrowed before.header.part before m → IsLetIn d a m arrived
+    → Tells (DivideArrival d a goal goal arrived) (word_of_arrival d a homes goal goal arrived) arrived new told
+    → TellsReturns d a homes goal before (record { body = new.header.part; told = told })
+returns_from_itself d a homes goal before m arrived new told n k tells = record {
   arrived = arrived;
   let_in = record {
     header = k.header ∙ n.header;

@@ -13,11 +13,11 @@ use Rattle.box_steps.specs.Moments.{CanRemember, IsNarrowed, IsStepOn, image_ove
 use Rattle.box_steps.specs.declared.moment.BoxMoment.{BoxMoment}
 use Rattle.box_steps.specs.declared.onward.Onward.TheVariants as onwards
 use Rattle.vpc_laws.specs.Types.{Box5, Description, End, Header, Hop, Phase, Stop}
-use Rattle.vpc_model.specs.Terms.{Appliances, Walk, appliances_of, cuts_of_hops, near_cuts, start_of, walk_of}
+use Rattle.vpc_model.specs.Terms.{Appliances, Homes, Walk, appliances_of, cuts_of_hops, near_cuts, start_of, walk_of}
 use Rattle.vpc_model.specs.declared.outcomes.Phase.TheVariants as phases
 use Rattle.box_walk.proofs.Rests.{rest_arrives, rest_stops}
 use Rattle.box_walk.proofs.Telling.{request_arrives, request_stops}
-use Rattle.box_walk.specs.Terms.{AreRequests, DivideArrival, Ending, HaveCome, IsRestOn, IsWalkOn, IsWalkTo, Tells, asked, is_among, request_at, rest_of, word_of, word_of_arrival}
+use Rattle.box_walk.specs.Terms.{AreRequests, DivideArrival, Ending, HaveCome, IsRestOn, IsWalkOn, IsWalkTo, Tells, asked_by, is_among, request_at, rest_of, word_of, word_of_arrival}
 use Rattle.box_walk.specs.declared.walks.Ending.TheVariants as endings
 
 -- the requests of a box at the start
@@ -85,25 +85,25 @@ one_left : (n : ℕ) → 0 < n → n ≡ n - 1 + 1
 one_left n some = omega (arith, some)
 
 -- stopped there
-pub way_stops : (d : Description) (start goal : End) (b : Box5) (before m new : BoxMoment) (s : Stop) → HaveCome d (appliances_of d) start before
+pub way_stops : (d : Description) (homes : Homes) (goal : End) (b : Box5) (before m new : BoxMoment) (s : Stop) → HaveCome d (appliances_of d) homes.start before
     → IsWithin b before.header.part → IsNarrowed b before m → IsStepOn d (appliances_of d) labels.Opening m new (onwards.Stop s)
-    → Answers (AreAmong (near_cuts d (appliances_of d) start goal (low_of b))) (word_of (asked d start goal)) b (record { body = new.header.part; told = Some (phases.Request, s) })
-way_stops d start goal b before m new s c within n step =
+    → Answers (AreAmong (near_cuts d (appliances_of d) homes.start goal (low_of b))) (word_of (asked_by d homes goal)) b (record { body = new.header.part; told = Some (phases.Request, s) })
+way_stops d homes goal b before m new s c within n step =
     let a = appliances_of d in
-    request_stops d a start goal (requests_over start b) new s (are_requests start b)
-    (walk_resumed d a start b before m new (endings.Stopped s) c within n
-    (rest_stops d a labels.Opening c.left (c.left - 1) c.passed m new s (one_left c.left c.some) (new-fresh d a start b before m c n) step))
+    request_stops d a homes goal (requests_over homes.start b) new s (are_requests homes.start b)
+    (walk_resumed d a homes.start b before m new (endings.Stopped s) c within n
+    (rest_stops d a labels.Opening c.left (c.left - 1) c.passed m new s (one_left c.left c.some) (new-fresh d a homes.start b before m c n) step))
 
 -- arrived
-pub way_arrives : (d : Description) (start goal end : End) (b : Box5) (before m mid arrived new : BoxMoment) (told : Option (Phase × Stop)) → HaveCome d (appliances_of d) start before
+pub way_arrives : (d : Description) (homes : Homes) (goal end : End) (b : Box5) (before m mid arrived new : BoxMoment) (told : Option (Phase × Stop)) → HaveCome d (appliances_of d) homes.start before
     → IsWithin b before.header.part → IsNarrowed b before m → IsStepOn d (appliances_of d) labels.Opening m mid (onwards.Arrive end)
     → arrived ≡ record mid { header = image_over mid.header.part m.header }
-    → Tells (DivideArrival d (appliances_of d) goal end arrived) (word_of_arrival d (appliances_of d) start goal end arrived) arrived new told
-    → Answers (AreAmong (near_cuts d (appliances_of d) start goal (low_of b))) (word_of (asked d start goal)) b (record { body = new.header.part; told = told })
-way_arrives d start goal end b before m mid arrived new told c within n step is tells =
+    → Tells (DivideArrival d (appliances_of d) goal end arrived) (word_of_arrival d (appliances_of d) homes goal end arrived) arrived new told
+    → Answers (AreAmong (near_cuts d (appliances_of d) homes.start goal (low_of b))) (word_of (asked_by d homes goal)) b (record { body = new.header.part; told = told })
+way_arrives d homes goal end b before m mid arrived new told c within n step is tells =
     let a = appliances_of d in
-    request_arrives d a start goal end (requests_over start b) arrived new told (are_requests start b)
-    (walk_resumed d a start b before m arrived (endings.Arrived end) c within n
-    (rest_arrives d a labels.Opening c.left (c.left - 1) c.passed m mid arrived end (one_left c.left c.some) (new-fresh d a start b before m c n)
+    request_arrives d a homes goal end (requests_over homes.start b) arrived new told (are_requests homes.start b)
+    (walk_resumed d a homes.start b before m arrived (endings.Arrived end) c within n
+    (rest_arrives d a labels.Opening c.left (c.left - 1) c.passed m mid arrived end (one_left c.left c.some) (new-fresh d a homes.start b before m c n)
     (moment-narrowed d labels.Opening b before m c.moment within n) step is))
     tells

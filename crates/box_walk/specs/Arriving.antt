@@ -15,6 +15,7 @@ use Rattle.vpc_model.specs.Appliances.{Appliances}
 use Rattle.vpc_model.specs.Connections.{passing_of}
 use Rattle.vpc_model.specs.Lookup.{has_address, interface_at}
 use Rattle.vpc_model.specs.Sound.{is_eni}
+use Rattle.vpc_model.specs.Verdict.{Homes}
 use Rattle.vpc_model.specs.declared.places.End.TheVariants as ends
 use Rattle.box_walk.specs.Journeys.{open_cuts, reached_of}
 use Rattle.box_walk.specs.declared.arriving.Arrivals.{Arrivals}
@@ -31,10 +32,10 @@ end_unless e None = Some (ends.Interface e)
 end_unless e (Some told) = None
 
 -- for a body of the sides: which end requests reach goes by what the interface lets in
-pub record AreArrivals (d : Description) (a : Appliances) (start : End) (sides : Box5) (x : Arrivals) : Type 0 where
+pub record AreArrivals (d : Description) (a : Appliances) (homes : Homes) (sides : Box5) (x : Arrivals) : Type 0 where
   pub reached : (h : Header) → holds h x.header.part ≡ true
-      → reached_of d a start None h ≡ (if lets_in d x.end (header_at x.header h) then end_unless x.end x.back else None)
+      → reached_of d a homes None h ≡ (if lets_in d x.end (header_at x.header h) then end_unless x.end x.back else None)
   pub end : is_eni d x.end ≡ true
   pub valid : IsValidImage x.header
   pub body : IsBody x.header.part sides
-  pub aligned : (cuts : CutLists) → AreAmong (open_cuts d a start (low_of sides)) cuts → IsAligned cuts x.header.part sides
+  pub aligned : (cuts : CutLists) → AreAmong (open_cuts d a homes.start (low_of sides)) cuts → IsAligned cuts x.header.part sides

@@ -1,5 +1,5 @@
 -- What becomes of requests from an end: with a goal they should arrive there, without one at any end but the start.
-use Rattle.std.specs.Prelude.{◌≡◌, ◌≢◌, ◌↔◌, if◌then◌else◌, None, Option, Some}
+use Rattle.std.specs.Prelude.{◌≡◌, ◌≢◌, ◌↔◌, if◌then◌else◌, None, Option, Some, true}
 use Rattle.vpc_base.specs.Cuts.{CutLists}
 use Rattle.vpc_base.specs.Header.{reply_of}
 use Rattle.vpc_base.specs.declared.headers.Header.{Header}
@@ -8,7 +8,7 @@ use Rattle.box_steps.specs.declared.moment.BoxMoment.{BoxMoment}
 use Rattle.vpc_laws.specs.Types.{Description, End, Outcome, Phase, Stop, Verdict}
 use Rattle.vpc_model.specs.Appliances.{Appliances}
 use Rattle.vpc_model.specs.Near.{near_cuts}
-use Rattle.vpc_model.specs.Verdict.{alone, request_walk, same_end, verdict_of, verdict_of_arrival}
+use Rattle.vpc_model.specs.Verdict.{Homes, is_home, request_walk, same_end, verdict_by, verdict_of_arrival}
 use Rattle.vpc_model.specs.Walk.{Walk}
 use Rattle.vpc_model.specs.declared.outcomes.Outcome.TheVariants as outcomes
 use Rattle.vpc_model.specs.declared.outcomes.Phase.TheVariants as phases
@@ -25,18 +25,18 @@ journey_by goal verdicts.Through = journeys.Reached goal
 journey_by goal (verdicts.Stopped phase s) = journeys.Stopped phase s
 
 -- a request without a goal, whose walk has ended so: at another end than the start, the verdict toward that end
-abbrev pub journey_after : Description → Appliances → End → Header → Walk → Outcome → Journey
-journey_after d appliances start h request (outcomes.Stopped s) = journeys.Stopped phases.Request s
-journey_after d appliances start h request (outcomes.Arrived end k) =
-    if same_end end start then journeys.Stopped phases.Request (stops.WrongPlace end)
-    else journey_by end (verdict_of_arrival d appliances (alone start) end h request (reply_of k))
+abbrev pub journey_after : Description → Appliances → Homes → Header → Walk → Outcome → Journey
+journey_after d appliances homes h request (outcomes.Stopped s) = journeys.Stopped phases.Request s
+journey_after d appliances homes h request (outcomes.Arrived end k) =
+    if same_end end homes.start then journeys.Stopped phases.Request (stops.WrongPlace end)
+    else journey_by end (verdict_of_arrival d appliances homes end h request (reply_of k))
 
--- what becomes of a request from the start, toward the goal if there is one
-abbrev pub journey_of : Description → Appliances → End → Option End → Header → Journey
-journey_of d appliances start (Some goal) h = journey_by goal (verdict_of d appliances start goal h)
-journey_of d appliances start None h =
-    let request = request_walk d appliances start h in
-    journey_after d appliances start h request request.outcome
+-- what becomes of a request from the start, whose reply may arrive at any of its homes, toward the goal if there is one
+abbrev pub journey_of : Description → Appliances → Homes → Option End → Header → Journey
+journey_of d appliances homes (Some goal) h = journey_by goal (verdict_by d appliances homes goal h)
+journey_of d appliances homes None h =
+    let request = request_walk d appliances homes.start h in
+    journey_after d appliances homes h request request.outcome
 
 -- the end that is reached, if one is
 abbrev pub reached_end : Journey → Option End
@@ -44,14 +44,21 @@ reached_end (journeys.Reached end) = Some end
 reached_end (journeys.Stopped phase s) = None
 
 -- the end that a request from the start reaches
-abbrev pub reached_of : Description → Appliances → End → Option End → Header → Option End
-reached_of d appliances start goal h = reached_end (journey_of d appliances start goal h)
+abbrev pub reached_of : Description → Appliances → Homes → Option End → Header → Option End
+reached_of d appliances homes goal h = reached_end (journey_of d appliances homes goal h)
 
 -- without a goal a request reaches an end exactly where, toward that end, it gets through
 abbrev pub JourneysAreVerdicts : Type 0
 JourneysAreVerdicts =
-    (d : Description) (appliances : Appliances) (start end : End) (h : Header) → end ≢ start
-    → (journey_of d appliances start None h ≡ journeys.Reached end) ↔ (verdict_of d appliances start end h ≡ verdicts.Through)
+    (d : Description) (appliances : Appliances) (homes : Homes) (end : End) (h : Header) → end ≢ homes.start
+    → (journey_of d appliances homes None h ≡ journeys.Reached end) ↔ (verdict_by d appliances homes end h ≡ verdicts.Through)
+
+-- where replies may arrive at more ends, more requests get through, and each reaches the end that it reached
+abbrev pub MoreHomesLetMoreThrough : Type 0
+MoreHomesLetMoreThrough =
+    (d : Description) (appliances : Appliances) (few more : Homes) (goal : Option End) (h : Header) (end : End)
+    → few.start ≡ more.start → ((e : End) → is_home few e ≡ true → is_home more e ≡ true)
+    → reached_of d appliances few goal h ≡ Some end → reached_of d appliances more goal h ≡ Some end
 
 -- ---- requests of a part
 

@@ -5,7 +5,7 @@ use Rattle.vpc_laws.specs.Types.{Phase, Stop}
 use Rattle.vpc_model.specs.Accepted.{IsAccepted}
 use Rattle.vpc_model.specs.Appliances.{appliances_of}
 use Rattle.vpc_model.specs.Sound.{has_text}
-use Rattle.vpc_model.specs.Verdict.{verdict_of}
+use Rattle.vpc_model.specs.Verdict.{verdict_by}
 use Rattle.vpc_model.specs.declared.outcomes.Verdict.TheVariants as verdicts
 use Rattle.box_walk.specs.Asking.{Asking, IsAsking, stopped_of, word_of}
 
@@ -18,4 +18,4 @@ WordsHaveTexts =
 -- nothing stops a request, or its reply, exactly where its verdict is that it gets through
 abbrev pub NothingStopsThrough : Type 0
 NothingStopsThrough =
-    (a : Asking) (h : Header) → (stopped_of a h ≡ None) ↔ (verdict_of a.network (appliances_of a.network) a.start a.goal h ≡ verdicts.Through)
+    (a : Asking) (h : Header) → (stopped_of a h ≡ None) ↔ (verdict_by a.network (appliances_of a.network) a.homes a.goal h ≡ verdicts.Through)

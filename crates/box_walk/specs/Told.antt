@@ -15,7 +15,7 @@ use Rattle.vpc_model.specs.Appliances.{Appliances}
 use Rattle.vpc_model.specs.Near.{cuts_of_hops}
 use Rattle.vpc_model.specs.Place.{start_of}
 use Rattle.vpc_model.specs.Step.Words.{Moment}
-use Rattle.vpc_model.specs.Verdict.{alone, hops_after, verdict_of_reply, verdict_of_request}
+use Rattle.vpc_model.specs.Verdict.{Homes, hops_after, verdict_of_reply, verdict_of_request}
 use Rattle.vpc_model.specs.Walk.{Walk, ended, walk_of}
 use Rattle.vpc_model.specs.declared.outcomes.Outcome.TheVariants as outcomes
 use Rattle.box_walk.specs.Asking.{stop_of}
@@ -44,10 +44,10 @@ AreRequests start m = (h : Header) → moment_at h m ≡ request_at start h
 abbrev pub arrival_at : End → BoxMoment → Header → Walk
 arrival_at end m h = ended [] (outcomes.Arrived end (header_at m.header h)) (connections_at h m.conns.items) (translations_at h m.nats.items)
 
-abbrev pub word_of_arrival : Description → Appliances → End → End → End → BoxMoment → Header → Option (Phase × Stop)
-word_of_arrival d appliances start goal end m h =
+abbrev pub word_of_arrival : Description → Appliances → Homes → End → End → BoxMoment → Header → Option (Phase × Stop)
+word_of_arrival d appliances homes goal end m h =
     let w = arrival_at end m h in
-    stop_of (verdict_of_request d appliances (alone start) goal h w w.outcome)
+    stop_of (verdict_of_request d appliances homes goal h w w.outcome)
 
 -- the hops of the low corner's reply
 abbrev pub low_reply_hops : Description → Appliances → End → End → BoxMoment → List Hop
@@ -66,10 +66,10 @@ pub record DivideArrival (d : Description) (appliances : Appliances) (goal end :
 abbrev pub reply_of_moment : Description → Appliances → BoxMoment → Header → Walk
 reply_of_moment d appliances m h = walk_of d appliances labels.Answer (moment_at h m)
 
-abbrev pub word_of_answer : Description → Appliances → End → BoxMoment → Header → Option (Phase × Stop)
-word_of_answer d appliances start m h =
+abbrev pub word_of_answer : Description → Appliances → Homes → BoxMoment → Header → Option (Phase × Stop)
+word_of_answer d appliances homes m h =
     let w = reply_of_moment d appliances m h in
-    stop_of (verdict_of_reply (alone start) h w.outcome)
+    stop_of (verdict_of_reply homes h w.outcome)
 
 -- the cuts at the places of the low corner's walk are among these
 abbrev pub DivideReply : Description → Appliances → BoxMoment → CutLists → Type 0
@@ -78,5 +78,5 @@ DivideReply d appliances m cuts =
     AreAmong (cuts_of_hops d w.hops) cuts
 
 -- of replies that have arrived at an end
-abbrev pub word_of_return : End → End → BoxMoment → Header → Option (Phase × Stop)
-word_of_return start end m h = stop_of (verdict_of_reply (alone start) h (outcomes.Arrived end (header_at m.header h)))
+abbrev pub word_of_return : Homes → End → BoxMoment → Header → Option (Phase × Stop)
+word_of_return homes end m h = stop_of (verdict_of_reply homes h (outcomes.Arrived end (header_at m.header h)))

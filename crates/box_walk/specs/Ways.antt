@@ -13,6 +13,7 @@ use Rattle.vpc_laws.specs.Types.{Description, End, EniNo, Hop, Phase, Place, Sto
 use Rattle.vpc_laws.specs.Walk.{places_of}
 use Rattle.vpc_model.specs.Appliances.{Appliances, appliances_of}
 use Rattle.vpc_model.specs.Near.{cuts_of_hops}
+use Rattle.vpc_model.specs.Verdict.{Homes}
 use Rattle.vpc_model.specs.Walk.{Walk, walk_of}
 use Rattle.vpc_model.specs.declared.places.Place.TheVariants as places
 use Rattle.box_walk.specs.Rests.{is_among, rest_of}
@@ -62,17 +63,17 @@ pub record HaveComeTo (d : Description) (a : Appliances) (start : End) (old new 
 -- ---- and back
 
 -- what stops the replies of those that the interface lets in, for a body of them
-pub record TellsReturns (d : Description) (a : Appliances) (start goal : End) (m : BoxMoment) (x : Part (Option (Phase × Stop))) : Type 0 where
+pub record TellsReturns (d : Description) (a : Appliances) (homes : Homes) (goal : End) (m : BoxMoment) (x : Part (Option (Phase × Stop))) : Type 0 where
   pub arrived : BoxMoment
   pub let_in : IsLetIn d a m arrived
-  pub told : (h : Header) → holds h x.body ≡ true → x.told ≡ word_of_arrival d a start goal goal arrived h
+  pub told : (h : Header) → holds h x.body ≡ true → x.told ≡ word_of_arrival d a homes goal goal arrived h
 
 -- ---- both
 
-pub record IsKnownWay (d : Description) (a : Appliances) (start goal : End) (before : BoxMoment) (back : Option (Part (Option (Phase × Stop)))) : Type 0 where
-  pub come : HaveCome d a start before
-  pub returns : IfSome back (TellsReturns d a start goal before)
+pub record IsKnownWay (d : Description) (a : Appliances) (homes : Homes) (goal : End) (before : BoxMoment) (back : Option (Part (Option (Phase × Stop)))) : Type 0 where
+  pub come : HaveCome d a homes.start before
+  pub returns : IfSome back (TellsReturns d a homes goal before)
 
 -- the way between two ends, if it is known
-abbrev pub IsWay : Description → End → End → Bool → BoxMoment → Option (Part (Option (Phase × Stop))) → Type 0
-IsWay d start goal known before back = known ≡ true → IsKnownWay d (appliances_of d) start goal before back
+abbrev pub IsWay : Description → Homes → End → Bool → BoxMoment → Option (Part (Option (Phase × Stop))) → Type 0
+IsWay d homes goal known before back = known ≡ true → IsKnownWay d (appliances_of d) homes goal before back

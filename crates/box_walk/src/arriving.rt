@@ -2,6 +2,7 @@
 ghost use Rattle.std.specs.Prelude.{◌≡◌, IfSome, IsTrue};
 ghost use Rattle.box_steps.specs.Moments.{IsBoxMoment};
 ghost use Rattle.box_walk.specs.Arriving.{AreArrivals};
+ghost use Rattle.box_walk.specs.Asking.{homes_by};
 ghost use Rattle.box_walk.specs.Told.{AreRequests};
 ghost use Rattle.box_walk.specs.Walks.{BeginsFresh};
 ghost use Rattle.vpc_base.specs.declared.headers.Label.TheVariants as labels;
@@ -14,7 +15,7 @@ use box_images::Image;
 use box_steps::{BoxMoment, let_in};
 use fabric::Fabric;
 use packet_emulator::same_end;
-use vpc_model::{End, EniNo};
+use vpc_model::{End, EniNo, FarNo};
 
 /// Requests that come to one interface by the same places, before its groups are asked.
 #[derive(Clone, Copy)]
@@ -32,6 +33,7 @@ pub fn arrivals_of(
     f: &Fabric,
     deciders: &Deciders,
     start: End,
+    links: &[FarNo],
     m: &mut BoxMoment,
 ) -> Option<Arrivals>
     requires appliances { deciders.now.appliances ≡ appliances_of f.now }
@@ -39,7 +41,7 @@ pub fn arrivals_of(
     requires fresh { BeginsFresh labels.Opening m.old }
     requires requests { AreRequests start m.old }
     ensures { IfSome result
-        (AreArrivals f.now (appliances_of f.now) start m.old.header.part) }
+        (AreArrivals f.now (appliances_of f.now) (homes_by links.now start) m.old.header.part) }
 {
     // That the network is accepted is a clause of this call.
     let _ = f.network().description();
@@ -50,7 +52,7 @@ pub fn arrivals_of(
     }
     let header = m.header;
     let_in(f, e, m);
-    let back = word_of_arrival(f, deciders, start, end, end, m);
+    let back = word_of_arrival(f, deciders, start, links, end, end, m);
     // Where their replies part, this is told of some of them alone.
     if is_within(&header.part, &m.header.part) {
         Some(Arrivals {

@@ -1,6 +1,6 @@
 // The probe that asks which requests get through to a goal.
 ghost use Rattle.std.specs.Prelude.{◌≡◌, ◌↔◌, IsTrue};
-ghost use Rattle.box_walk.specs.Asking.{asked};
+ghost use Rattle.box_walk.specs.Asking.{asked_by, homes_by};
 ghost use Rattle.box_walk.specs.Goal.{goal_unless};
 
 use crate::probe::RoundProbe;
@@ -29,8 +29,10 @@ fn goal_unless(goal: End, stopped: Option<()>) -> Option<End>
 impl<'a, 'b> GoalProbe<'a, 'b> {
     /// The probe for the ends of another one, by the moment of that one.
     pub fn of(round: &'a RoundProbe<'b>) -> GoalProbe<'a, 'b>
-        ensures { asked result.round.now.fabric.now result.round.now.start result.round.now.goal
-            ≡ asked round.now.fabric.now round.now.start round.now.goal }
+        ensures { asked_by result.round.now.fabric.now
+            (homes_by result.round.now.links.now result.round.now.start) result.round.now.goal
+            ≡ asked_by round.now.fabric.now
+            (homes_by round.now.links.now round.now.start) round.now.goal }
     {
         GoalProbe {
             round,
@@ -50,7 +52,8 @@ impl<'a, 'b> Probe for GoalProbe<'a, 'b> {
     type Word = End;
 
     ghost meaning = { λ p h. reached_of p.round.now.fabric.now
-        (appliances_of p.round.now.fabric.now) p.round.now.start (Some p.round.now.goal) h };
+        (appliances_of p.round.now.fabric.now)
+        (homes_by p.round.now.links.now p.round.now.start) (Some p.round.now.goal) h };
 
     ghost cuts = { λ p. cuts_of p.round.now.fabric.now };
 

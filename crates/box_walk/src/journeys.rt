@@ -6,7 +6,8 @@ ghost use Rattle.header_boxes.specs.Boxes.{low_of};
 ghost use Rattle.box_steps.specs.Moments.{IsBoxMoment};
 ghost use Rattle.vpc_model.specs.Appliances.{appliances_of};
 ghost use Rattle.vpc_model.specs.Sound.{is_end};
-ghost use Rattle.box_walk.specs.Journeys.{JourneysAreVerdicts, TellsJourney, journey_of, open_cuts, toward};
+ghost use Rattle.box_walk.specs.Asking.{homes_by};
+ghost use Rattle.box_walk.specs.Journeys.{JourneysAreVerdicts, MoreHomesLetMoreThrough, TellsJourney, journey_of, open_cuts, toward};
 ghost use Rattle.box_walk.specs.Told.{AreRequests};
 ghost use Rattle.box_walk.specs.Walks.{BeginsFresh};
 
@@ -17,12 +18,12 @@ use box_steps::BoxMoment;
 use fabric::Fabric;
 use packet_emulator::same_end;
 use vpc_base::Label;
-use vpc_model::{End, Phase, Stop};
+use vpc_model::{End, FarNo, Phase, Stop};
 
 /// What becomes of a request and its reply.
 #[derive(Clone, Copy)]
 pub enum Journey {
-    /// The request arrives at this end, and its reply at the start.
+    /// The request arrives at this end, and its reply at one of its homes.
     Reached(End),
     /// One of the two is stopped, or arrives at an end where it should not.
     Stopped(Phase, Stop),
@@ -40,14 +41,20 @@ pub(crate) fn toward(end: End, word: Word) -> Journey
 
 /// The journey of the requests of a moment at the start: their walks go on to their ends, and the replies begin there. The
 /// moment becomes that of the part of which this is told.
-pub(crate) fn journey_on(f: &Fabric, deciders: &Deciders, start: End, m: &mut BoxMoment) -> Journey
+pub(crate) fn journey_on(
+    f: &Fabric,
+    deciders: &Deciders,
+    start: End,
+    links: &[FarNo],
+    m: &mut BoxMoment,
+) -> Journey
     requires appliances { deciders.now.appliances ≡ appliances_of f.now }
     requires moment { IsBoxMoment f.now labels.Opening m.old }
     requires fresh { BeginsFresh labels.Opening m.old }
     requires requests { AreRequests start m.old }
     ensures { TellsJourney
         (AreAmong (open_cuts f.now (appliances_of f.now) start (low_of m.old.header.part)))
-        (journey_of f.now (appliances_of f.now) start None) m.old m.new result }
+        (journey_of f.now (appliances_of f.now) (homes_by links.now start) None) m.old m.new result }
 {
     // That the network is accepted is a clause of this call.
     let _ = f.network().description();
@@ -57,7 +64,7 @@ pub(crate) fn journey_on(f: &Fabric, deciders: &Deciders, start: End, m: &mut Bo
             if same_end(end, start) {
                 return Journey::Stopped(Phase::Request, Stop::WrongPlace(end));
             }
-            toward(end, word_of_arrival(f, deciders, start, end, end, m))
+            toward(end, word_of_arrival(f, deciders, start, links, end, end, m))
         }
     }
 }
@@ -66,4 +73,9 @@ pub(crate) fn journey_on(f: &Fabric, deciders: &Deciders, start: End, m: &mut Bo
 /// through. So one search answers for all ends.
 pub fn journeys_are_verdicts()
     ensures { JourneysAreVerdicts }
+{}
+
+/// Where replies may arrive at more ends, more requests get through, and each reaches the end that it reached before.
+pub fn more_homes_let_more_through()
+    ensures { MoreHomesLetMoreThrough }
 {}

@@ -17,7 +17,7 @@ mod ways;
 pub use arriving::Arrivals;
 pub use box_steps::{BoxMoment, BoxNext, ImageNat, step_on};
 pub use goal::GoalProbe;
-pub use journeys::{Journey, journeys_are_verdicts};
+pub use journeys::{Journey, journeys_are_verdicts, more_homes_let_more_through};
 pub use laws::{misses_never_arrive, nothing_stops_through, words_have_texts};
 pub use open::OpenProbe;
 pub use probe::RoundProbe;

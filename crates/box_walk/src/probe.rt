@@ -6,7 +6,8 @@ ghost use Rattle.box_images.specs.Images.{IsImageOfOpen, IsValidImage, header_at
 ghost use Rattle.vpc_model.specs.Appliances.{appliances_of};
 ghost use Rattle.vpc_model.specs.Place.{start_of};
 ghost use Rattle.vpc_model.specs.Sound.{is_end};
-ghost use Rattle.box_walk.specs.Asking.{AnswersStopped, AnswersWord, IsAsking, asked};
+ghost use Rattle.vpc_model.specs.Verdict.{homes_among};
+ghost use Rattle.box_walk.specs.Asking.{AnswersStopped, AnswersWord, IsAsking, asked, asked_by, homes_by};
 
 use crate::verdict::{Word, is_stopped, whether, word_of_request};
 use crate::ways::Way;
@@ -17,7 +18,7 @@ use fabric::Fabric;
 use header_boxes::Box5;
 use ordered_cover::Probe;
 use std::cell::RefCell;
-use vpc_model::{End, Phase, Stop, same_stop, start_place};
+use vpc_model::{End, FarNo, Phase, Stop, same_stop, start_place};
 
 /// What stops requests from one end to another, or their replies. A part that is answered is one for which
 /// all requests pass the same places, and so do their replies.
@@ -25,12 +26,14 @@ pub struct RoundProbe<'a> {
     fabric: &'a Fabric,
     deciders: &'a Deciders,
     start: End,
+    // Where the replies of the start's requests may arrive beside it.
+    links: &'a [FarNo],
     goal: End,
     // What is followed: made once for all probes, since it has room for all that a walk may leave behind.
     followed: RefCell<BoxMoment>,
     way: Way<'a>,
-    ghost known: { IsAsking (asked fabric.now start goal) },
-    ghost same_way: { way ≡ asked fabric.now start goal },
+    ghost known: { IsAsking (asked_by fabric.now (homes_by links.now start) goal) },
+    ghost same_way: { way ≡ asked_by fabric.now (homes_by links.now start) goal },
     ghost described: { deciders.now.appliances ≡ appliances_of fabric.now },
 }
 
@@ -40,6 +43,7 @@ impl<'a> Drop for RoundProbe<'a> {
             fabric: _,
             deciders: _,
             start: _,
+            links: _,
             goal: _,
             followed,
             way,
@@ -72,6 +76,17 @@ pub(crate) fn moment_at(start: End, sides: &Box5) -> BoxMoment
     BoxMoment::at(start_place(&start), Image::of(sides))
 }
 
+// Those links at which replies of the start's requests may arrive: all where it is a network that isn't described, else none.
+pub(crate) fn links_of<'a>(start: End, links: &'a [FarNo]) -> &'a [FarNo]
+    ensures { homes_by result.now start ≡ homes_among links.now start }
+{
+    match start {
+        End::Far(_) => links,
+        End::Interface(_) => &[],
+        End::Internet => &[],
+    }
+}
+
 impl<'a> RoundProbe<'a> {
     /// The probe for the requests from the end `start` to the end `goal`, with the appliances that the
     /// network describes.
@@ -79,12 +94,14 @@ impl<'a> RoundProbe<'a> {
         requires appliances { deciders.now.appliances ≡ appliances_of f.now }
         requires start { IsTrue (is_end f.now start) }
         requires goal { IsTrue (is_end f.now goal) }
-        ensures { asked result.fabric.now result.start result.goal ≡ asked f.now start goal }
+        ensures { asked_by result.fabric.now (homes_by result.links.now result.start) result.goal
+            ≡ asked f.now start goal }
     {
         RoundProbe {
             fabric: f,
             deciders,
             start,
+            links: &[],
             goal,
             followed: RefCell::from(moment_at(start, &Box5::default())),
             way: Way::unknown(f, start, goal),
@@ -96,12 +113,30 @@ impl<'a> RoundProbe<'a> {
     pub fn turn(&mut self, start: End, goal: End)
         requires start { IsTrue (is_end self.old.fabric.now start) }
         requires goal { IsTrue (is_end self.old.fabric.now goal) }
-        ensures { asked self.new.fabric.now self.new.start self.new.goal
+        ensures { asked_by self.new.fabric.now
+            (homes_by self.new.links.now self.new.start) self.new.goal
             ≡ asked self.old.fabric.now start goal }
     {
         self.start = start;
+        self.links = &[];
         self.goal = goal;
-        self.way.turn(start, goal);
+        self.way.turn(start, &[], goal);
+    }
+
+    /// Asks about other ends from here on, of which the start is among several: where it is a network that isn't
+    /// described, behind these `links` the same network is taken to lie, and replies may arrive at each of them.
+    pub fn turn_among(&mut self, start: End, links: &'a [FarNo], goal: End)
+        requires start { IsTrue (is_end self.old.fabric.now start) }
+        requires goal { IsTrue (is_end self.old.fabric.now goal) }
+        ensures { asked_by self.new.fabric.now
+            (homes_by self.new.links.now self.new.start) self.new.goal
+            ≡ asked_by self.old.fabric.now (homes_among links.now start) goal }
+    {
+        let links = links_of(start, links);
+        self.start = start;
+        self.links = links;
+        self.goal = goal;
+        self.way.turn(start, links, goal);
     }
 
     /// Follows the requests of these sides, or a part of them, to the goal's interface, and the replies of those that are
@@ -109,8 +144,10 @@ impl<'a> RoundProbe<'a> {
     /// its two walks where more than two parts are asked.
     pub fn look_ahead(&mut self, sides: &Box5)
         requires { IsValid sides.now }
-        ensures { asked self.new.fabric.now self.new.start self.new.goal
-            ≡ asked self.old.fabric.now self.old.start self.old.goal }
+        ensures { asked_by self.new.fabric.now
+            (homes_by self.new.links.now self.new.start) self.new.goal
+            ≡ asked_by self.old.fabric.now
+            (homes_by self.old.links.now self.old.start) self.old.goal }
     {
         if let Ok(mut m) = self.followed.try_borrow_mut() {
             self.way.find(self.deciders, sides, &mut m);
@@ -127,17 +164,26 @@ impl<'a> RoundProbe<'a> {
     // What stops the requests of a part of the sides, or their replies, followed from the start.
     fn follow_whole(&self, sides: &Box5, m: &mut BoxMoment) -> Word
         requires { IsValid sides.now }
-        ensures { AnswersWord (asked self.now.fabric.now self.now.start self.now.goal) sides.now
+        ensures { AnswersWord (asked_by self.now.fabric.now
+            (homes_by self.now.links.now self.now.start) self.now.goal) sides.now
             (record { body = m.new.header.part; told = result }) }
     {
         begin(m, self.start, sides);
-        word_of_request(self.fabric, self.deciders, self.start, self.goal, m)
+        word_of_request(
+            self.fabric,
+            self.deciders,
+            self.start,
+            self.links,
+            self.goal,
+            m,
+        )
     }
 
     // What stops the requests of a part of the sides, or their replies: by the known way, if they have come by it.
     fn follow(&self, sides: &Box5, m: &mut BoxMoment) -> Part<Word>
         requires { IsValid sides.now }
-        ensures { AnswersWord (asked self.now.fabric.now self.now.start self.now.goal) sides.now result }
+        ensures { AnswersWord (asked_by self.now.fabric.now
+            (homes_by self.now.links.now self.now.start) self.now.goal) sides.now result }
     {
         if let Some(told) = self.way.word_on(self.deciders, sides, m) {
             let body = m.header.part;
@@ -153,7 +199,8 @@ impl<'a> RoundProbe<'a> {
     // What stops them, by a moment of its own: it is made and cleared within the call, so that no other call holds it.
     fn follow_apart(&self, sides: &Box5) -> Part<Word>
         requires { IsValid sides.now }
-        ensures { AnswersWord (asked self.now.fabric.now self.now.start self.now.goal) sides.now result }
+        ensures { AnswersWord (asked_by self.now.fabric.now
+            (homes_by self.now.links.now self.now.start) self.now.goal) sides.now result }
     {
         self.follow(sides, &mut moment_at(self.start, sides))
     }
@@ -161,17 +208,26 @@ impl<'a> RoundProbe<'a> {
     // Whether something stops the requests of a part of the sides, or their replies, followed from the start.
     fn ask_whole(&self, sides: &Box5, m: &mut BoxMoment) -> Option<()>
         requires { IsValid sides.now }
-        ensures { AnswersStopped (asked self.now.fabric.now self.now.start self.now.goal) sides.now
+        ensures { AnswersStopped (asked_by self.now.fabric.now
+            (homes_by self.now.links.now self.now.start) self.now.goal) sides.now
             (record { body = m.new.header.part; told = result }) }
     {
         begin(m, self.start, sides);
-        is_stopped(self.fabric, self.deciders, self.start, self.goal, m)
+        is_stopped(
+            self.fabric,
+            self.deciders,
+            self.start,
+            self.links,
+            self.goal,
+            m,
+        )
     }
 
     // Whether something stops the requests of a part of the sides, or their replies: by the known way, if they have come by it.
     fn ask(&self, sides: &Box5, m: &mut BoxMoment) -> Part<Option<()>>
         requires { IsValid sides.now }
-        ensures { AnswersStopped (asked self.now.fabric.now self.now.start self.now.goal) sides.now result }
+        ensures { AnswersStopped (asked_by self.now.fabric.now
+            (homes_by self.now.links.now self.now.start) self.now.goal) sides.now result }
     {
         if let Some(word) = self.way.word_on(self.deciders, sides, m) {
             let body = m.header.part;
@@ -186,7 +242,8 @@ impl<'a> RoundProbe<'a> {
     // Whether something stops them, by a moment of its own.
     fn ask_apart(&self, sides: &Box5) -> Part<Option<()>>
         requires { IsValid sides.now }
-        ensures { AnswersStopped (asked self.now.fabric.now self.now.start self.now.goal) sides.now result }
+        ensures { AnswersStopped (asked_by self.now.fabric.now
+            (homes_by self.now.links.now self.now.start) self.now.goal) sides.now result }
     {
         self.ask(sides, &mut moment_at(self.start, sides))
     }
@@ -195,7 +252,8 @@ impl<'a> RoundProbe<'a> {
     /// than one of which that is told.
     pub fn is_stopped_on(&self, sides: &Box5) -> Part<Option<()>>
         requires { IsValid sides.now }
-        ensures { AnswersStopped (asked self.now.fabric.now self.now.start self.now.goal) sides.now result }
+        ensures { AnswersStopped (asked_by self.now.fabric.now
+            (homes_by self.now.links.now self.now.start) self.now.goal) sides.now result }
     {
         match self.followed.try_borrow_mut() {
             Ok(mut m) => self.ask(sides, &mut m),
@@ -208,11 +266,12 @@ impl<'a> Probe for RoundProbe<'a> {
     ghost use Rattle.vpc_model.specs.Cuts.{cuts_of};
     ghost use Rattle.cut_laws.proofs.Places.{near_cuts_are_among_all};
     ghost use Rattle.vpc_model.specs.Near.{near_cuts};
-    ghost use Rattle.box_walk.specs.Asking.{word_of};
+    ghost use Rattle.box_walk.specs.Asking.{asked_by, homes_by, word_of};
 
     type Word = (Phase, Stop);
 
-    ghost meaning = { λ p h. word_of (asked p.fabric.now p.start p.goal) h };
+    ghost meaning = { λ p h.
+        word_of (asked_by p.fabric.now (homes_by p.links.now p.start) p.goal) h };
 
     ghost cuts = { λ p. cuts_of p.fabric.now };
 

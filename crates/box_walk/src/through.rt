@@ -1,6 +1,6 @@
 // The probe that asks whether requests get through, and not what stops the others.
 ghost use Rattle.std.specs.Prelude.{◌≡◌, ◌↔◌, IsTrue};
-ghost use Rattle.box_walk.specs.Asking.{asked, stopped_of};
+ghost use Rattle.box_walk.specs.Asking.{asked_by, homes_by, stopped_of};
 
 use crate::probe::RoundProbe;
 use header_boxes::Box5;
@@ -17,8 +17,10 @@ pub struct ThroughProbe<'a, 'b> {
 impl<'a, 'b> ThroughProbe<'a, 'b> {
     /// The probe for the ends of another one, by the moment of that one.
     pub fn of(round: &'a RoundProbe<'b>) -> ThroughProbe<'a, 'b>
-        ensures { asked result.round.now.fabric.now result.round.now.start result.round.now.goal
-            ≡ asked round.now.fabric.now round.now.start round.now.goal }
+        ensures { asked_by result.round.now.fabric.now
+            (homes_by result.round.now.links.now result.round.now.start) result.round.now.goal
+            ≡ asked_by round.now.fabric.now
+            (homes_by round.now.links.now round.now.start) round.now.goal }
     {
         ThroughProbe { round }
     }
@@ -32,7 +34,8 @@ impl<'a, 'b> Probe for ThroughProbe<'a, 'b> {
 
     type Word = ();
 
-    ghost meaning = { λ p h. stopped_of (asked p.round.now.fabric.now p.round.now.start p.round.now.goal) h };
+    ghost meaning = { λ p h. stopped_of (asked_by p.round.now.fabric.now
+        (homes_by p.round.now.links.now p.round.now.start) p.round.now.goal) h };
 
     ghost cuts = { λ p. cuts_of p.round.now.fabric.now };
 

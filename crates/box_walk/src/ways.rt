@@ -1,7 +1,7 @@
 // The way of requests to their goal, as far as all of them pass the same places.
 ghost use Rattle.std.specs.Prelude.{◌≡◌, ◌+◌, ◌<◌, ◌≤◌, IfSome, IsTrue, false, length, true};
 ghost use Rattle.box_steps.specs.Moments.{CanRemember, IsBoxMoment};
-ghost use Rattle.box_walk.specs.Asking.{AnswersWord, IsAsking, asked};
+ghost use Rattle.box_walk.specs.Asking.{AnswersWord, IsAsking, asked, asked_by, homes_by};
 ghost use Rattle.box_walk.specs.Rests.{IsLeftAt, is_among};
 ghost use Rattle.box_walk.specs.Told.{AreRequests, DivideArrival, Tells, word_of_arrival};
 ghost use Rattle.box_walk.specs.Walks.{BeginsFresh};
@@ -28,13 +28,14 @@ use header_boxes::Box5;
 use packet_emulator::same_end;
 use std::marker::Model;
 use vpc_base::Label;
-use vpc_model::{End, EniNo, Phase, Place};
+use vpc_model::{End, EniNo, FarNo, Phase, Place};
 
 /// Requests between two ends that have come to the goal's interface by the same places, before its groups are asked, and
 /// what stops the replies of those that are let in there. What is asked of some of them begins there.
 pub struct Way<'a> {
     fabric: &'a Fabric,
     start: End,
+    links: &'a [FarNo],
     goal: End,
     // Whether there are such requests.
     is_known: bool,
@@ -47,6 +48,7 @@ impl<'a> Drop for Way<'a> {
         let Way {
             fabric: _,
             start: _,
+            links: _,
             goal: _,
             is_known: _,
             before,
@@ -57,14 +59,15 @@ impl<'a> Drop for Way<'a> {
 }
 
 impl<'a> Model for Way<'a> {
-    ghost use Rattle.box_walk.specs.Asking.{Asking, asked};
+    ghost use Rattle.box_walk.specs.Asking.{Asking, asked_by, homes_by};
     ghost use Rattle.box_walk.specs.Ways.{IsWay};
 
     ghost Value = { Asking };
 
-    ghost view = { λ w. asked w.fabric.now w.start w.goal };
+    ghost view = { λ w. asked_by w.fabric.now (homes_by w.links.now w.start) w.goal };
 
-    ghost invariant = { λ w. IsWay w.fabric.now w.start w.goal w.is_known w.before w.back };
+    ghost invariant = { λ w. IsWay w.fabric.now
+        (homes_by w.links.now w.start) w.goal w.is_known w.before w.back };
 }
 
 /// Whether all headers of a box lie in another one.
@@ -155,6 +158,7 @@ fn returns_from(
     f: &Fabric,
     deciders: &Deciders,
     start: End,
+    links: &[FarNo],
     i: EniNo,
     before: &BoxMoment,
     m: &mut BoxMoment,
@@ -165,7 +169,8 @@ fn returns_from(
     requires moment { IsBoxMoment f.now labels.Opening before.now }
     requires room { CanRemember labels.Opening before.now }
     ensures { IfSome result
-        (TellsReturns f.now (appliances_of f.now) start (ends.Interface i) before.now) }
+        (TellsReturns f.now (appliances_of f.now)
+        (homes_by links.now start) (ends.Interface i) before.now) }
 {
     let part = before.header.part;
     m.take_within(before, &part);
@@ -177,7 +182,7 @@ fn returns_from(
     m.take_within(before, &part);
     let_in(f, i, m);
     let goal = End::Interface(i);
-    let told = word_of_arrival(f, deciders, start, goal, goal, m);
+    let told = word_of_arrival(f, deciders, start, links, goal, goal, m);
     Some(Part {
         body: m.header.part,
         told,
@@ -251,6 +256,7 @@ struct Question<'a> {
     fabric: &'a Fabric,
     deciders: &'a Deciders,
     start: End,
+    links: &'a [FarNo],
     goal: End,
 }
 
@@ -262,17 +268,18 @@ fn word_back(q: &Question<'_>, end: End, back: &Option<Part<Word>>, m: &mut BoxM
     requires back { IfSome back.now (λ x. same_end end q.now.goal ≡ true → (h : Header)
         → holds h m.old.header.part ≡ true → holds h x.body ≡ true
         → x.told ≡ word_of_arrival q.now.fabric.now (appliances_of q.now.fabric.now)
-        q.now.start q.now.goal end m.old h) }
+        (homes_by q.now.links.now q.now.start) q.now.goal end m.old h) }
     ensures { let d = q.now.fabric.now in
         Tells (DivideArrival d (appliances_of d) q.now.goal end m.old)
-        (word_of_arrival d (appliances_of d) q.now.start q.now.goal end m.old) m.old m.new result }
+        (word_of_arrival d (appliances_of d)
+        (homes_by q.now.links.now q.now.start) q.now.goal end m.old) m.old m.new result }
 {
     if let Some(x) = back {
         if same_end(end, q.goal) && is_within(&m.header.part, &x.body) {
             return x.told;
         }
     }
-    word_of_arrival(q.fabric, q.deciders, q.start, q.goal, end, m)
+    word_of_arrival(q.fabric, q.deciders, q.start, q.links, q.goal, end, m)
 }
 
 // What stops requests that have come by a known way, or their replies; nothing where the interface sends them on, as
@@ -287,10 +294,12 @@ fn word_by(
     requires appliances { q.now.deciders.now.appliances ≡ appliances_of q.now.fabric.now }
     requires goal { IsTrue (is_end q.now.fabric.now q.now.goal) }
     requires way { let d = q.now.fabric.now in
-        IsKnownWay d (appliances_of d) q.now.start q.now.goal before.now back.now }
+        IsKnownWay d (appliances_of d) (homes_by q.now.links.now q.now.start)
+        q.now.goal before.now back.now }
     requires within { IsWithin sides.now before.now.header.part }
     ensures { IfSome result (λ told.
-        AnswersWord (asked q.now.fabric.now q.now.start q.now.goal) sides.now
+        AnswersWord (asked_by q.now.fabric.now
+        (homes_by q.now.links.now q.now.start) q.now.goal) sides.now
         (record { body = m.new.header.part; told = told })) }
 {
     m.take_within(before, sides);
@@ -313,6 +322,7 @@ impl<'a> Way<'a> {
         Way {
             fabric: f,
             start,
+            links: &[],
             goal,
             is_known: false,
             before: moment_at(End::Internet, &Box5::default()),
@@ -320,11 +330,12 @@ impl<'a> Way<'a> {
         }
     }
 
-    /// None that is known, between other ends.
-    pub fn turn(&mut self, start: End, goal: End)
-        ensures { self.new ≡ asked self.old.network start goal }
+    /// None that is known, between other ends, of which the start's replies may arrive at these links too.
+    pub fn turn(&mut self, start: End, links: &'a [FarNo], goal: End)
+        ensures { self.new ≡ asked_by self.old.network (homes_by links.now start) goal }
     {
         self.start = start;
+        self.links = links;
         self.goal = goal;
         self.is_known = false;
     }
@@ -346,7 +357,15 @@ impl<'a> Way<'a> {
         let come = come_to(self.fabric, deciders, self.start, Some(i), &mut self.before);
         if let Some(e) = come {
             if e.0 == i.0 {
-                self.back = returns_from(self.fabric, deciders, self.start, e, &self.before, m);
+                self.back = returns_from(
+                    self.fabric,
+                    deciders,
+                    self.start,
+                    self.links,
+                    e,
+                    &self.before,
+                    m,
+                );
                 self.is_known = true;
             }
         }
@@ -371,6 +390,7 @@ impl<'a> Way<'a> {
             fabric: self.fabric,
             deciders,
             start: self.start,
+            links: self.links,
             goal: self.goal,
         };
         word_by(&q, &self.before, &self.back, sides, m)

@@ -1,6 +1,6 @@
 // The answer to a query.
 ghost use Rattle.std.specs.Prelude.{◌≡◌, ◌≤◌, ◌<◌, IfOk};
-ghost use Rattle.box_walk.specs.Asking.{asked, word_of};
+ghost use Rattle.box_walk.specs.Asking.{asked, asked_by, homes_by, word_of};
 ghost use Rattle.header_boxes.specs.Rows.{IsFirst, NoneThrough};
 ghost use Rattle.ordered_cover.specs.Cover.{IsMore, IsSearched};
 ghost use Rattle.vpc_model.specs.Appliances.{appliances_of};
@@ -47,7 +47,8 @@ fn first_by(
     query: &Query,
 ) -> Result<Option<Header>, NoMemory>
     requires query { IsQueryIn f.now query.now }
-    requires round { asked round.now.fabric.now round.now.start round.now.goal
+    requires round { asked_by round.now.fabric.now
+        (homes_by round.now.links.now round.now.start) round.now.goal
         ≡ asked f.now query.now.start query.now.goal }
     ensures { IfOk result (IsFirst (meaning_in f.now query.now) query.now.sides) }
 {
@@ -73,7 +74,8 @@ fn glance(
     query: &Query,
 ) -> Result<Searched, NoMemory>
     requires query { IsQueryIn f.now query.now }
-    requires round { asked round.now.fabric.now round.now.start round.now.goal
+    requires round { asked_by round.now.fabric.now
+        (homes_by round.now.links.now round.now.start) round.now.goal
         ≡ asked f.now query.now.start query.now.goal }
     ensures { IfOk result (IsSearched (meaning_in f.now query.now) query.now.sides) }
 {
@@ -96,7 +98,8 @@ fn beyond(
     next: Header,
 ) -> Result<Reached, NoMemory>
     requires query { IsQueryIn f.now query.now }
-    requires round { asked round.now.fabric.now round.now.start round.now.goal
+    requires round { asked_by round.now.fabric.now
+        (homes_by round.now.links.now round.now.start) round.now.goal
         ≡ asked f.now query.now.start query.now.goal }
     requires more { IsMore (goes_on_in query.now)
         (word_of (asked f.now query.now.start query.now.goal)) (cuts_of f.now)
@@ -121,7 +124,8 @@ fn blocked_by_rows(
     query: &Query,
 ) -> Result<Reached, NoMemory>
     requires query { IsQueryIn f.now query.now }
-    requires round { asked round.now.fabric.now round.now.start round.now.goal
+    requires round { asked_by round.now.fabric.now
+        (homes_by round.now.links.now round.now.start) round.now.goal
         ≡ asked f.now query.now.start query.now.goal }
     requires none { NoneThrough (meaning_in f.now query.now) query.now.sides }
     requires few { query.now.max ≤ most_rows }
@@ -146,7 +150,8 @@ fn blocked_by_tree(
     query: &Query,
 ) -> Result<Reached, NoMemory>
     requires query { IsQueryIn f.now query.now }
-    requires round { asked round.now.fabric.now round.now.start round.now.goal
+    requires round { asked_by round.now.fabric.now
+        (homes_by round.now.links.now round.now.start) round.now.goal
         ≡ asked f.now query.now.start query.now.goal }
     requires none { NoneThrough (meaning_in f.now query.now) query.now.sides }
     requires many { most_rows < query.now.max }
@@ -171,7 +176,8 @@ fn blocked(
     query: &Query,
 ) -> Result<Reached, NoMemory>
     requires query { IsQueryIn f.now query.now }
-    requires round { asked round.now.fabric.now round.now.start round.now.goal
+    requires round { asked_by round.now.fabric.now
+        (homes_by round.now.links.now round.now.start) round.now.goal
         ≡ asked f.now query.now.start query.now.goal }
     requires none { NoneThrough (meaning_in f.now query.now) query.now.sides }
     ensures { IfOk result (IsReached f.now query.now) }
@@ -191,7 +197,8 @@ fn by_cover(
     query: &Query,
 ) -> Result<Reached, NoMemory>
     requires query { IsQueryIn f.now query.now }
-    requires round { asked round.now.fabric.now round.now.start round.now.goal
+    requires round { asked_by round.now.fabric.now
+        (homes_by round.now.links.now round.now.start) round.now.goal
         ≡ asked f.now query.now.start query.now.goal }
     requires few { query.now.max ≤ most_rows }
     ensures { IfOk result (IsReached f.now query.now) }
@@ -213,7 +220,8 @@ fn by_tree(
     query: &Query,
 ) -> Result<Reached, NoMemory>
     requires query { IsQueryIn f.now query.now }
-    requires round { asked round.now.fabric.now round.now.start round.now.goal
+    requires round { asked_by round.now.fabric.now
+        (homes_by round.now.links.now round.now.start) round.now.goal
         ≡ asked f.now query.now.start query.now.goal }
     requires many { most_rows < query.now.max }
     ensures { IfOk result (IsReached f.now query.now) }
@@ -236,7 +244,8 @@ fn by_boxes(
     query: &Query,
 ) -> Result<Reached, NoMemory>
     requires query { IsQueryIn f.now query.now }
-    requires round { asked round.now.fabric.now round.now.start round.now.goal
+    requires round { asked_by round.now.fabric.now
+        (homes_by round.now.links.now round.now.start) round.now.goal
         ≡ asked f.now query.now.start query.now.goal }
     ensures { IfOk result (IsReached f.now query.now) }
 {

@@ -1,6 +1,6 @@
 // The probes that find what doesn't get through.
 ghost use Rattle.std.specs.Prelude.{◌≡◌, ◌↔◌, IsTrue};
-ghost use Rattle.box_walk.specs.Asking.{asked};
+ghost use Rattle.box_walk.specs.Asking.{asked_by, homes_by};
 ghost use Rattle.policy_check.specs.Stopped.{halting_of, passing_of, turned, unless_halted, unless_same};
 
 use crate::certainties::{Certainty, certainty_of};
@@ -30,8 +30,10 @@ pub struct StoppedProbe<'a, 'b> {
 impl<'a, 'b> StoppedProbe<'a, 'b> {
     /// The probe for the ends of another one, by the moment of that one.
     pub fn of(round: &'a RoundProbe<'b>) -> StoppedProbe<'a, 'b>
-        ensures { asked result.round.now.fabric.now result.round.now.start result.round.now.goal
-            ≡ asked round.now.fabric.now round.now.start round.now.goal }
+        ensures { asked_by result.round.now.fabric.now
+            (homes_by result.round.now.links.now result.round.now.start) result.round.now.goal
+            ≡ asked_by round.now.fabric.now
+            (homes_by round.now.links.now round.now.start) round.now.goal }
     {
         StoppedProbe { round }
     }
@@ -45,7 +47,8 @@ impl<'a, 'b> Probe for StoppedProbe<'a, 'b> {
 
     type Word = ();
 
-    ghost meaning = { λ p h. passing_of (asked p.round.now.fabric.now p.round.now.start p.round.now.goal) h };
+    ghost meaning = { λ p h. passing_of (asked_by p.round.now.fabric.now
+        (homes_by p.round.now.links.now p.round.now.start) p.round.now.goal) h };
 
     ghost cuts = { λ p. cuts_of p.round.now.fabric.now };
 
@@ -99,8 +102,10 @@ pub struct HaltProbe<'a, 'b> {
 impl<'a, 'b> HaltProbe<'a, 'b> {
     /// The probe for the ends of another one, by the moment of that one.
     pub fn of(round: &'a RoundProbe<'b>, certainty: Certainty) -> HaltProbe<'a, 'b>
-        ensures asked { asked result.round.now.fabric.now result.round.now.start result.round.now.goal
-            ≡ asked round.now.fabric.now round.now.start round.now.goal }
+        ensures asked { asked_by result.round.now.fabric.now
+            (homes_by result.round.now.links.now result.round.now.start) result.round.now.goal
+            ≡ asked_by round.now.fabric.now
+            (homes_by round.now.links.now round.now.start) round.now.goal }
         ensures certainty { result.certainty ≡ certainty }
     {
         HaltProbe { round, certainty }
@@ -116,7 +121,8 @@ impl<'a, 'b> Probe for HaltProbe<'a, 'b> {
     type Word = ();
 
     ghost meaning = { λ p h. halting_of p.certainty
-        (asked p.round.now.fabric.now p.round.now.start p.round.now.goal) h };
+        (asked_by p.round.now.fabric.now
+        (homes_by p.round.now.links.now p.round.now.start) p.round.now.goal) h };
 
     ghost cuts = { λ p. cuts_of p.round.now.fabric.now };
 

@@ -7,13 +7,13 @@ use Rattle.vpc_base.proofs.Options.{if_some}
 use Rattle.header_boxes.proofs.Held.{holds_low, valid_if_within}
 use Rattle.header_boxes.specs.Boxes.{IsWithin, holds, low_of}
 use Rattle.box_walk.proofs.Texts.{ending_of-stop, words_have_texts}
-use Rattle.box_walk.specs.Asking.{IsAsking, asked, word_of}
+use Rattle.box_walk.specs.Asking.{IsAsking, asked_by, word_of}
 use Rattle.vpc_laws.specs.Types.{Box5, Description, End, Header, Phase, Stop, StopName, StopText}
 use Rattle.vpc_model.specs.Accepted.{IsAccepted}
 use Rattle.vpc_model.specs.Appliances.{appliances_of}
 use Rattle.vpc_model.specs.Names.{name_text}
 use Rattle.vpc_model.specs.Sound.{has_text}
-use Rattle.vpc_model.specs.Verdict.{verdict_of}
+use Rattle.vpc_model.specs.Verdict.{Homes, verdict_by}
 use Rattle.vpc_model.proofs.Names.{name_text_tells}
 use Rattle.vpc_model.specs.declared.outcomes.Phase.TheVariants as phases
 use Rattle.report_check.specs.Agreement.{agreed, agreement_of, is_phase, is_text, told_of}
@@ -83,19 +83,19 @@ agreed-some text (Some told) some = ap Some (sym (text_tells text told (if_some 
 -- ---- what is told of the headers of a part
 
 -- it is told by the text, or isn't, of all of them
-pub agreement_of-part : (d : Description) (start goal : End) (text : StopText) (part : Box5) (word : Option (Phase × Stop))
-    → ((h : Header) → holds h part ≡ true → word_of (asked d start goal) h ≡ word)
+pub agreement_of-part : (d : Description) (homes : Homes) (goal : End) (text : StopText) (part : Box5) (word : Option (Phase × Stop))
+    → ((h : Header) → holds h part ≡ true → word_of (asked_by d homes goal) h ≡ word)
     → (h : Header) → holds h part ≡ true
-    → agreement_of d start goal text h ≡ agreed text (told_of d word)
+    → agreement_of d homes goal text h ≡ agreed text (told_of d word)
 unfolding agreement_of
-agreement_of-part d start goal text part word all h held =
-    ap (agreed text) (ending_of-stop d (verdict_of d (appliances_of d) start goal h) ∙ ap (told_of d) (all h held))
+agreement_of-part d homes goal text part word all h held =
+    ap (agreed text) (ending_of-stop d (verdict_by d (appliances_of d) homes goal h) ∙ ap (told_of d) (all h held))
 
 -- what is told of them has a text
-pub part-text : (d : Description) (start goal : End) (part sides : Box5) (word : Option (Phase × Stop))
-    → IsAccepted d → IsAsking (asked d start goal) → IsWithin part sides
-    → ((h : Header) → holds h part ≡ true → word_of (asked d start goal) h ≡ word)
+pub part-text : (d : Description) (homes : Homes) (goal : End) (part sides : Box5) (word : Option (Phase × Stop))
+    → IsAccepted d → IsAsking (asked_by d homes goal) → IsWithin part sides
+    → ((h : Header) → holds h part ≡ true → word_of (asked_by d homes goal) h ≡ word)
     → (told : Phase × Stop) → word ≡ Some told → has_text d told.1 ≡ true
-part-text d start goal part sides word accepted asking within all told is =
-    words_have_texts (asked d start goal) (low_of part) told.0 told.1 accepted asking
+part-text d homes goal part sides word accepted asking within all told is =
+    words_have_texts (asked_by d homes goal) (low_of part) told.0 told.1 accepted asking
     (all (low_of part) (holds_low part (valid_if_within part sides within)) ∙ is)

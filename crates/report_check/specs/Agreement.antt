@@ -3,8 +3,9 @@ use Rattle.std.specs.Prelude.{◌&&◌, Bool, None, Option, Some, bytes_eq, fals
 use Rattle.vpc_model.specs.Names.{name_text}
 use Rattle.vpc_laws.specs.Types.{Description, End, Header, Phase, Stop, StopText}
 use Rattle.vpc_model.specs.Appliances.{appliances_of}
-use Rattle.vpc_model.specs.Report.{meaning_of}
+use Rattle.vpc_model.specs.Report.{ending_of}
 use Rattle.vpc_model.specs.Told.{told_stop}
+use Rattle.vpc_model.specs.Verdict.{Homes, verdict_by}
 use Rattle.vpc_model.specs.declared.outcomes.Phase.TheVariants as phases
 
 -- the same phase
@@ -29,5 +30,5 @@ agreed text None = None
 agreed text (Some told) = if is_text text told then Some tt else None
 
 -- a word for a header that is stopped as the text says; none where something else becomes of it
-unfoldable pub agreement_of : Description → End → End → StopText → Header → Option (Unit {0})
-agreement_of d start goal text h = agreed text (meaning_of d (appliances_of d) start goal h)
+unfoldable pub agreement_of : Description → Homes → End → StopText → Header → Option (Unit {0})
+agreement_of d homes goal text h = agreed text (ending_of d (verdict_by d (appliances_of d) homes goal h))

@@ -1,5 +1,6 @@
 // The probe that is asked whether headers are stopped as a row says.
 ghost use Rattle.std.specs.Prelude.{◌≡◌, ◌↔◌, IsTrue, Some};
+ghost use Rattle.box_walk.specs.Asking.{homes_by};
 ghost use Rattle.vpc_laws.specs.Types.{Phase, Stop};
 ghost use Rattle.vpc_model.specs.Accepted.{IsAccepted};
 ghost use Rattle.vpc_model.specs.Sound.{has_text};
@@ -31,8 +32,11 @@ impl<'a, 'b> RowProbe<'a, 'b> {
         text: &'a StopText,
     ) -> RowProbe<'a, 'b>
         requires { walks.now.fabric.now ≡ network.now }
-        ensures { agreement_of result.network.now result.walks.now.start result.walks.now.goal result.text.now
-            ≡ agreement_of network.now walks.now.start walks.now.goal text.now }
+        ensures { agreement_of result.network.now
+            (homes_by result.walks.now.links.now result.walks.now.start)
+            result.walks.now.goal result.text.now
+            ≡ agreement_of network.now
+            (homes_by walks.now.links.now walks.now.start) walks.now.goal text.now }
     {
         let _ = network.description();
         RowProbe {
@@ -64,7 +68,8 @@ impl<'a, 'b> Probe for RowProbe<'a, 'b> {
 
     type Word = ();
 
-    ghost meaning = { λ p. agreement_of p.network.now p.walks.now.start p.walks.now.goal p.text.now };
+    ghost meaning = { λ p. agreement_of p.network.now
+        (homes_by p.walks.now.links.now p.walks.now.start) p.walks.now.goal p.text.now };
 
     ghost cuts = { λ p. cuts_of p.network.now };
 

@@ -1,5 +1,6 @@
 // The rows of a report, one after the other.
 ghost use Rattle.std.specs.Prelude.{◌≡◌, ◌≤◌, All, IfOk, length};
+ghost use Rattle.box_walk.specs.Asking.{homes_by};
 ghost use Rattle.header_boxes.specs.Boxes.{IsValid};
 ghost use Rattle.header_boxes.specs.Rows.{IsFirst};
 ghost use Rattle.report_reader.specs.Reports.{IsSoundReport, row_limit, rows_of};
@@ -41,7 +42,8 @@ pub(crate) fn first_other(
 ) -> Result<Option<Header>, NoMemory>
     requires network { walks.now.fabric.now ≡ n.now }
     requires part { IsValid part }
-    ensures { IfOk result (IsFirst (agreement_of n.now walks.now.start walks.now.goal word.now) part) }
+    ensures { IfOk result (IsFirst (agreement_of n.now
+        (homes_by walks.now.links.now walks.now.start) walks.now.goal word.now) part) }
 {
     let probe = RowProbe::of(walks, n, word);
     first(alloc, &probe, part)

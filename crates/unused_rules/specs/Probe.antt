@@ -16,7 +16,7 @@ agreement_of a b h = unless_apart (word_of a h) (word_of b h)
 
 -- the cuts at the places of a request, and of its reply
 abbrev pub near_cuts_of : Asking → Header → CutLists
-near_cuts_of a h = near_cuts a.network (appliances_of a.network) a.start a.goal h
+near_cuts_of a h = near_cuts a.network (appliances_of a.network) a.homes.start a.goal h
 
 -- those in both
 abbrev pub near_cuts_of_both : Asking → Asking → Header → CutLists
@@ -29,5 +29,5 @@ cuts_of_both a b = joined_cuts (cuts_of a.network) (cuts_of b.network)
 pub near_among_both : (a b : Asking) (h : Header) → AreAmong (near_cuts_of_both a b h) (cuts_of_both a b)
 near_among_both a b h =
     joined_among (near_cuts_of a h) (near_cuts_of b h) (cuts_of a.network) (cuts_of b.network)
-    (near_cuts_are_among_all a.network (appliances_of a.network) a.start a.goal h)
-    (near_cuts_are_among_all b.network (appliances_of b.network) b.start b.goal h)
+    (near_cuts_are_among_all a.network (appliances_of a.network) a.homes.start a.goal h)
+    (near_cuts_are_among_all b.network (appliances_of b.network) b.homes.start b.goal h)

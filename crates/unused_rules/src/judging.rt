@@ -1,6 +1,6 @@
 // Which request of a query needs a rule.
 ghost use Rattle.std.specs.Prelude.{◌≡◌, IfOk, IfSome, IsTrue};
-ghost use Rattle.box_walk.specs.Asking.{asked};
+ghost use Rattle.box_walk.specs.Asking.{asked, asked_by, homes_by};
 ghost use Rattle.header_boxes.specs.Boxes.{IsValid};
 ghost use Rattle.header_boxes.specs.Rows.{IsFirst, NoneThrough};
 ghost use Rattle.vpc_model.specs.Appliances.{appliances_of};
@@ -40,7 +40,8 @@ pub(crate) struct Baseline<'a> {
     before: RoundProbe<'a>,
     ghost described: { deciders.now.appliances ≡ appliances_of fabric.now },
     ghost known: { IsAskedIn fabric.now query.now },
-    ghost same_way: { asked before.fabric.now before.start before.goal
+    ghost same_way: { asked_by before.fabric.now
+        (homes_by before.links.now before.start) before.goal
         ≡ asked fabric.now query.now.start query.now.goal },
 }
 
@@ -84,8 +85,10 @@ fn first_apart(
 ) -> Result<Option<Header>, NoMemory>
     requires { IsValid sides }
     ensures { IfOk result (IsFirst (agreement_of
-        (asked before.now.fabric.now before.now.start before.now.goal)
-        (asked after.now.fabric.now after.now.start after.now.goal)) sides) }
+        (asked_by before.now.fabric.now
+        (homes_by before.now.links.now before.now.start) before.now.goal)
+        (asked_by after.now.fabric.now
+        (homes_by after.now.links.now after.now.start) after.now.goal)) sides) }
 {
     first(alloc, &AgreementProbe::of(before, after), sides)
 }
@@ -115,8 +118,10 @@ fn first_in(
 ) -> Result<Option<Header>, NoMemory>
     requires { IfSome part IsValid }
     ensures { IfOk result (IsFirstIn (agreement_of
-        (asked before.now.fabric.now before.now.start before.now.goal)
-        (asked after.now.fabric.now after.now.start after.now.goal)) part) }
+        (asked_by before.now.fabric.now
+        (homes_by before.now.links.now before.now.start) before.now.goal)
+        (asked_by after.now.fabric.now
+        (homes_by after.now.links.now after.now.start) after.now.goal)) part) }
 {
     match part {
         None => Ok(None),
@@ -133,8 +138,10 @@ fn first_of_parts(
     requires asked { IfSome parts.now.asked IsValid }
     requires answered { IfSome parts.now.answered IsValid }
     ensures { IfOk result (IsFirstOf (agreement_of
-        (asked before.now.fabric.now before.now.start before.now.goal)
-        (asked after.now.fabric.now after.now.start after.now.goal)) parts.now) }
+        (asked_by before.now.fabric.now
+        (homes_by before.now.links.now before.now.start) before.now.goal)
+        (asked_by after.now.fabric.now
+        (homes_by after.now.links.now after.now.start) after.now.goal)) parts.now) }
 {
     let one = first_in(alloc, before, after, parts.asked)?;
     let rest = part_before(parts.answered, one);
@@ -184,8 +191,10 @@ fn are_alike(
 ) -> Result<bool, NoMemory>
     requires { IsValid sides }
     ensures { IfOk result (λ alike. IsTrue alike → NoneThrough (agreement_of
-        (asked before.now.fabric.now before.now.start before.now.goal)
-        (asked after.now.fabric.now after.now.start after.now.goal)) sides) }
+        (asked_by before.now.fabric.now
+        (homes_by before.now.links.now before.now.start) before.now.goal)
+        (asked_by after.now.fabric.now
+        (homes_by after.now.links.now after.now.start) after.now.goal)) sides) }
 {
     match first_within(alloc, &AgreementProbe::of(before, after), sides, MOST_PARTS)? {
         Searched::Blocked => Ok(true),

@@ -1,6 +1,6 @@
 // The probe that finds requests of which something else becomes in another network.
 ghost use Rattle.std.specs.Prelude.{◌≡◌, ◌↔◌, IsTrue};
-ghost use Rattle.box_walk.specs.Asking.{asked};
+ghost use Rattle.box_walk.specs.Asking.{asked_by, homes_by};
 ghost use Rattle.unused_rules.specs.Same.{unless_apart};
 
 use box_walk::RoundProbe;
@@ -39,10 +39,14 @@ impl<'a, 'b> AgreementProbe<'a, 'b> {
         before: &'a RoundProbe<'b>,
         after: &'a RoundProbe<'b>,
     ) -> AgreementProbe<'a, 'b>
-        ensures before { asked result.before.now.fabric.now result.before.now.start result.before.now.goal
-            ≡ asked before.now.fabric.now before.now.start before.now.goal }
-        ensures after { asked result.after.now.fabric.now result.after.now.start result.after.now.goal
-            ≡ asked after.now.fabric.now after.now.start after.now.goal }
+        ensures before { asked_by result.before.now.fabric.now
+            (homes_by result.before.now.links.now result.before.now.start) result.before.now.goal
+            ≡ asked_by before.now.fabric.now
+            (homes_by before.now.links.now before.now.start) before.now.goal }
+        ensures after { asked_by result.after.now.fabric.now
+            (homes_by result.after.now.links.now result.after.now.start) result.after.now.goal
+            ≡ asked_by after.now.fabric.now
+            (homes_by after.now.links.now after.now.start) after.now.goal }
     {
         AgreementProbe { before, after }
     }
@@ -54,20 +58,28 @@ impl<'a, 'b> Probe for AgreementProbe<'a, 'b> {
     type Word = ();
 
     ghost meaning = { λ p h. agreement_of
-        (asked p.before.now.fabric.now p.before.now.start p.before.now.goal)
-        (asked p.after.now.fabric.now p.after.now.start p.after.now.goal) h };
+        (asked_by p.before.now.fabric.now
+        (homes_by p.before.now.links.now p.before.now.start) p.before.now.goal)
+        (asked_by p.after.now.fabric.now
+        (homes_by p.after.now.links.now p.after.now.start) p.after.now.goal) h };
 
     ghost cuts = { λ p. cuts_of_both
-        (asked p.before.now.fabric.now p.before.now.start p.before.now.goal)
-        (asked p.after.now.fabric.now p.after.now.start p.after.now.goal) };
+        (asked_by p.before.now.fabric.now
+        (homes_by p.before.now.links.now p.before.now.start) p.before.now.goal)
+        (asked_by p.after.now.fabric.now
+        (homes_by p.after.now.links.now p.after.now.start) p.after.now.goal) };
 
     ghost near = { λ p h. near_cuts_of_both
-        (asked p.before.now.fabric.now p.before.now.start p.before.now.goal)
-        (asked p.after.now.fabric.now p.after.now.start p.after.now.goal) h };
+        (asked_by p.before.now.fabric.now
+        (homes_by p.before.now.links.now p.before.now.start) p.before.now.goal)
+        (asked_by p.after.now.fabric.now
+        (homes_by p.after.now.links.now p.after.now.start) p.after.now.goal) h };
 
     ghost near_among = { λ p h. near_among_both
-        (asked p.before.now.fabric.now p.before.now.start p.before.now.goal)
-        (asked p.after.now.fabric.now p.after.now.start p.after.now.goal) h };
+        (asked_by p.before.now.fabric.now
+        (homes_by p.before.now.links.now p.before.now.start) p.before.now.goal)
+        (asked_by p.after.now.fabric.now
+        (homes_by p.after.now.links.now p.after.now.start) p.after.now.goal) h };
 
     fn is_same(one: (), other: ()) -> bool
         ensures { IsTrue result ↔ (one ≡ other) }

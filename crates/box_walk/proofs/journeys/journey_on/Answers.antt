@@ -1,5 +1,6 @@
 use Rattle.std.proofs.Common.{◌∙◌, subst, sym}
 use Rattle.box_walk.proofs.JourneyLemmas.{arrives-end, journey_arrives, journey_returns, journey_stops}
+use Rattle.box_walk.specs.Asking.{homes_by}
 use Rattle.box_walk.specs.Walks.{IsWalkOn}
 use Rattle.box_walk.specs.declared.walks.Ending.{Ending}
 use Rattle.vpc_base.specs.declared.headers.Label.TheVariants as labels
@@ -10,12 +11,12 @@ use Rattle.box_walk.proofs.journeys.journey_on.Goals as goal
 
 pub returns-in-Stopped : goal.returns-in-Stopped
 returns-in-Stopped g c =
-    journey_stops c.args.f.now (appliances_of c.args.f.now) c.args.start c.args.m.now c.walk_on.new.m c.in-Stopped.stop c.requires.requests
+    journey_stops c.args.f.now (appliances_of c.args.f.now) (homes_by c.args.links.now c.args.start) c.args.m.now c.walk_on.new.m c.in-Stopped.stop c.requires.requests
     (subst (λ (e : Ending). IsWalkOn c.args.f.now (appliances_of c.args.f.now) labels.Opening c.args.m.now c.walk_on.new.m e) c.in-Stopped.is c.walk_on.ensures)
 
 pub returns-then-same_end : goal.returns-then-same_end
 returns-then-same_end g c =
-    journey_returns c.args.f.now (appliances_of c.args.f.now) c.args.start c.in-Arrived.end c.args.m.now c.walk_on.new.m c.requires.requests (sym c.same_end.ensures ∙ c.if-same_end.true)
+    journey_returns c.args.f.now (appliances_of c.args.f.now) (homes_by c.args.links.now c.args.start) c.in-Arrived.end c.args.m.now c.walk_on.new.m c.requires.requests (sym c.same_end.ensures ∙ c.if-same_end.true)
     (subst (λ (e : Ending). IsWalkOn c.args.f.now (appliances_of c.args.f.now) labels.Opening c.args.m.now c.walk_on.new.m e) c.in-Arrived.is c.walk_on.ensures)
 
 pub word_of_arrival-requires-clause-goal : goal.word_of_arrival-requires-clause-goal
@@ -25,7 +26,7 @@ word_of_arrival-requires-clause-goal g c =
 
 pub returns-else-same_end : goal.returns-else-same_end
 returns-else-same_end g c =
-    journey_arrives c.args.f.now (appliances_of c.args.f.now) c.args.start c.in-Arrived.end c.args.m.now c.walk_on.new.m c.word_of_arrival.new.m c.word_of_arrival.result c.toward.result c.requires.requests
+    journey_arrives c.args.f.now (appliances_of c.args.f.now) (homes_by c.args.links.now c.args.start) c.in-Arrived.end c.args.m.now c.walk_on.new.m c.word_of_arrival.new.m c.word_of_arrival.result c.toward.result c.requires.requests
     (sym c.same_end.ensures ∙ c.if-same_end.false) c.toward.ensures
     (subst (λ (e : Ending). IsWalkOn c.args.f.now (appliances_of c.args.f.now) labels.Opening c.args.m.now c.walk_on.new.m e) c.in-Arrived.is c.walk_on.ensures)
     c.word_of_arrival.ensures

@@ -1,6 +1,7 @@
 use Rattle.std.proofs.Common.{◌∙◌, ap, sym}
 use Rattle.box_images.specs.declared.images.Image.{Image}
 use Rattle.box_walk.proofs.TellingArrivals.{is_reply, no_reply, replied, reply_moment}
+use Rattle.box_walk.specs.Asking.{homes_by}
 use Rattle.vpc_model.specs.Appliances.{appliances_of}
 use Rattle.vpc_model.specs.Lookup.{addresses_in}
 use Rattle.box_walk.proofs.verdict.word_of_arrival.Goals as goal
@@ -18,7 +19,7 @@ word_of_answer-requires-clause-moment g c =
 
 pub returns-in-None : goal.returns-in-None
 returns-in-None g c =
-    no_reply c.args.f.now (appliances_of c.args.f.now) c.args.start c.args.goal c.args.end c.args.m.now c.narrow.new.self c.reply_on-reply.result
+    no_reply c.args.f.now (appliances_of c.args.f.now) (homes_by c.args.links.now c.args.start) c.args.goal c.args.end c.args.m.now c.narrow.new.self c.reply_on-reply.result
     (sym c.same_end.ensures ∙ c.if-not-same_end.false)
     (c.reply_on-reply.ensures.answer (addresses_in c.args.f.now) c.requires.moment.kind)
     (ap (λ (i : Image). i.part) c.narrow.ensures.header) c.in-None.is
@@ -26,7 +27,7 @@ returns-in-None g c =
 pub returns-in-Some : goal.returns-in-Some
 returns-in-Some g c =
     let gives = c.reply_on-reply.ensures.answer (addresses_in c.args.f.now) c.requires.moment.kind in
-    replied c.args.f.now (appliances_of c.args.f.now) c.args.start c.args.goal c.args.end c.args.m.now _ c.word_of_answer.new.m c.reply_on-reply.result c.in-Some.answer c.word_of_answer.result
+    replied c.args.f.now (appliances_of c.args.f.now) (homes_by c.args.links.now c.args.start) c.args.goal c.args.end c.args.m.now _ c.word_of_answer.new.m c.reply_on-reply.result c.in-Some.answer c.word_of_answer.result
     (sym c.same_end.ensures ∙ c.if-not-same_end.false) gives
     (is_reply (addresses_in c.args.f.now) c.args.goal c.args.m.now c.narrow.new.self c.reply_on-reply.result c.in-Some.answer c.start_place-m.result gives c.narrow.ensures c.in-Some.is c.start_place-m.ensures)
     c.word_of_answer.ensures

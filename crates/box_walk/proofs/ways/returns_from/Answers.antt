@@ -3,6 +3,7 @@ use Rattle.box_steps.proofs.Narrowing.{moment-narrowed}
 use Rattle.vpc_base.specs.declared.headers.Label.TheVariants as labels
 use Rattle.vpc_model.specs.Appliances.{appliances_of}
 use Rattle.vpc_model.specs.declared.places.End.TheVariants as ends
+use Rattle.box_walk.specs.Asking.{homes_by}
 use Rattle.box_walk.proofs.WayOn.{room_kept}
 use Rattle.box_walk.proofs.WayBack.{returns_from_itself}
 use Rattle.box_walk.proofs.ways.returns_from.Goals as goal
@@ -25,5 +26,5 @@ let_in-requires-clause-room g c = room_kept c.args.before.now.header.part c.args
 
 pub returns : goal.returns
 returns g c =
-    returns_from_itself c.args.f.now (appliances_of c.args.f.now) c.args.start (ends.Interface c.args.i) c.args.before.now c.take_within-2.new.self c.let_in.new.m c.word_of_arrival-told.new.m
+    returns_from_itself c.args.f.now (appliances_of c.args.f.now) (homes_by c.args.links.now c.args.start) (ends.Interface c.args.i) c.args.before.now c.take_within-2.new.self c.let_in.new.m c.word_of_arrival-told.new.m
     c.word_of_arrival-told.result c.take_within-2.ensures c.let_in.ensures c.word_of_arrival-told.ensures

@@ -1,5 +1,5 @@
 use Rattle.std.proofs.Common.{◌∙◌, ap}
-use Rattle.box_walk.specs.Asking.{Asking, asked}
+use Rattle.box_walk.specs.Asking.{Asking, asked, asked_by, homes_by}
 use Rattle.vpc_laws.specs.Types.{Description}
 use Rattle.vpc_model.specs.declared.places.End.TheVariants as places
 use Rattle.reach_matrix.proofs.PairRanges.{pair_ranges, valid_between}
@@ -16,7 +16,7 @@ returns-clause-ranges g c =
     ∙ (ap (λ a. requests_between a c.address_of-2.result c.args.ports) c.address_of.ensures
     ∙ ap (λ a. requests_between (address_of c.args.f.now c.args.from) a c.args.ports) c.address_of-2.ensures) in
     let turned = c.look_ahead.ensures ∙ c.turn.ensures ∙ ap (λ (d : Description). asked d (places.Interface c.args.from) (places.Interface c.args.to)) c.requires.network in
-    pair_ranges c.args.f.now c.args.ports (c.args.from, c.args.to) (asked p.fabric.now p.start p.goal) c.requests_between-sides.result c.open_ports.result
+    pair_ranges c.args.f.now c.args.ports (c.args.from, c.args.to) (asked_by p.fabric.now (homes_by p.links.now p.start) p.goal) c.requests_between-sides.result c.open_ports.result
     (c.of.ensures ∙ turned) sides c.open_ports.ensures
 
 pub returns-clause-network : goal.returns-clause-network

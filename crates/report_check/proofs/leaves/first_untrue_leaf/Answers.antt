@@ -4,7 +4,7 @@ use Rattle.ordered_cover.specs.declared.trees.Node.{Node}
 use Rattle.report_reader.specs.Reports.{rows_of}
 use Rattle.vpc_laws.specs.Types.{Header, Row, StopText}
 use Rattle.vpc_model.specs.Appliances.{Appliances}
-use Rattle.vpc_model.specs.Verdict.{verdict_of}
+use Rattle.vpc_model.specs.Verdict.{alone, verdict_of}
 use Rattle.report_check.proofs.TrueRows.{first_in, has_word_if_none, least_untrue_is}
 use Rattle.report_check.proofs.Walked.{IsWalked, leaf_is_valid, next_leaf, walked_cut, walked_leaf, walked_to}
 use Rattle.report_check.specs.Agreement.{agreement_of}
@@ -46,7 +46,7 @@ returns-in-Some g c =
     let found = first_in c.network.result.now d _ _ row c.in_ok-header-in-Leaf.field-0 c.network.ensures (c.look_ahead.ensures ∙ c.of-walks.ensures) c.in_ok-header-in-Leaf.ensures in
     least_untrue_is d r (rows_of r) number (number + 1) row h c.round-verdict.result refl refl next.below next.stands next.before
     (c.round-verdict.ensures ∙ ap (λ (a : Appliances). verdict_of d a r.start r.goal h) c.requires.appliances)
-    (subst (λ (o : Option Header). IsFirst (agreement_of d r.start r.goal word) part o) c.in-Some.is found)
+    (subst (λ (o : Option Header). IsFirst (agreement_of d (alone r.start) r.goal word) part o) c.in-Some.is found)
 
 pub loop-node-preserved : goal.loop-node-preserved
 loop-node-preserved g c =
@@ -69,5 +69,5 @@ loop-node-preserved g c =
           let found = first_in w.network.result.now d _ _ row w.in_ok-header-in-Leaf.field-0 w.network.ensures (c.look_ahead.ensures ∙ c.of-walks.ensures) w.in_ok-header-in-Leaf.ensures in
           walked_leaf word rest boxes w.leave.new.self number part
           (subst (λ (node : Node StopText). IsWalked d r (node ∷ rest) boxes number) w.in-Leaf.is walked) w.first_box-part.ensures w.in_ok-leave-in-Leaf.ensures
-          (has_word_if_none d r row (subst (λ (o : Option Header). IsFirst (agreement_of d r.start r.goal word) part o) w.in_default.is found)))
+          (has_word_if_none d r row (subst (λ (o : Option Header). IsFirst (agreement_of d (alone r.start) r.goal word) part o) w.in_default.is found)))
     ]

@@ -3,7 +3,7 @@ use Rattle.std.proofs.lemmas.List.{take_all}
 use Rattle.header_boxes.specs.Rows.{IsFirst}
 use Rattle.vpc_laws.specs.Types.{Header}
 use Rattle.vpc_model.specs.Appliances.{Appliances}
-use Rattle.vpc_model.specs.Verdict.{verdict_of}
+use Rattle.vpc_model.specs.Verdict.{alone, verdict_of}
 use Rattle.report_check.proofs.TrueRows.{first_in, least_untrue_is, true_more}
 use Rattle.report_check.specs.Agreement.{agreement_of}
 use Rattle.report_check.specs.Checked.{AreTrue}
@@ -19,7 +19,7 @@ returns-in-Some g c =
     least_untrue_is d r c.args.rows.now c.loop-row.row-index (c.loop-row.number + 1) row h c.round-verdict.result
     c.requires.rows (omega arith) (omega arith) c.row-item.is c.loop-row.invariant.before
     (c.round-verdict.ensures ∙ ap (λ (a : Appliances). verdict_of d a r.start r.goal h) c.requires.appliances)
-    (subst (λ (o : Option Header). IsFirst (agreement_of d r.start r.goal row.word) row.part o) c.in-Some.is found)
+    (subst (λ (o : Option Header). IsFirst (agreement_of d (alone r.start) r.goal row.word) row.part o) c.in-Some.is found)
 
 pub loop-row-preserved : goal.loop-row-preserved
 loop-row-preserved g c =
@@ -30,7 +30,7 @@ loop-row-preserved g c =
     record {
       number = omega arith;
       before = true_more d r c.args.rows.now c.loop-row.row-index row (omega arith) c.row-item.is c.loop-row.invariant.before
-          (subst (λ (o : Option Header). IsFirst (agreement_of d r.start r.goal row.word) row.part o) c.in_default.is found);
+          (subst (λ (o : Option Header). IsFirst (agreement_of d (alone r.start) r.goal row.word) row.part o) c.in_default.is found);
     }
 
 pub returns : goal.returns

@@ -1,7 +1,8 @@
 use Rattle.std.proofs.Common.{subst}
 use Rattle.header_boxes.specs.declared.boxes.Box5.{Box5}
 use Rattle.vpc_model.specs.Lookup.{addresses_in}
-use Rattle.box_walk.specs.Open.{AnswersJourney, starting}
+use Rattle.box_walk.specs.Asking.{homes_by}
+use Rattle.box_walk.specs.Open.{AnswersJourney, starting_by}
 use Rattle.box_walk.proofs.TellingArrivals.{request_moment}
 use Rattle.box_walk.proofs.open.OpenProbe.follow.Goals as goal
 
@@ -12,5 +13,5 @@ journey_on-told-requires-clause-moment g c =
 
 pub returns : goal.returns
 returns g c =
-    let s = starting c.args.self.now.fabric.now c.args.self.now.start in
+    let s = starting_by c.args.self.now.fabric.now (homes_by c.args.self.now.links.now c.args.self.now.start) in
     subst (λ (b : Box5). AnswersJourney s b (record { body = c.journey_on-told.new.m.header.part; told = c.journey_on-told.result })) c.begin.ensures.part c.journey_on-told.ensures

@@ -5,6 +5,7 @@ use Rattle.vpc_model.specs.Appliances.{appliances_of}
 use Rattle.vpc_model.specs.Lookup.{addresses_in}
 use Rattle.box_walk.proofs.TellingArrivals.{request_moment}
 use Rattle.box_walk.specs.Arriving.{AreArrivals}
+use Rattle.box_walk.specs.Asking.{homes_by}
 use Rattle.box_walk.proofs.open.OpenProbe.follow_in.Goals as goal
 
 pub arrivals_of-requires-clause-moment : goal.arrivals_of-requires-clause-moment
@@ -15,4 +16,4 @@ arrivals_of-requires-clause-moment g c =
 pub returns : goal.returns
 returns g c =
     let d = c.args.self.now.fabric.now in
-    subst (λ (b : Box5). IfSome c.arrivals_of.result (AreArrivals d (appliances_of d) c.args.self.now.start b)) c.begin.ensures.part c.arrivals_of.ensures
+    subst (λ (b : Box5). IfSome c.arrivals_of.result (AreArrivals d (appliances_of d) (homes_by c.args.self.now.links.now c.args.self.now.start) b)) c.begin.ensures.part c.arrivals_of.ensures
