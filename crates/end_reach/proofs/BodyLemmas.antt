@@ -1,5 +1,6 @@
 -- The rows of a start, as they are handed on.
 use Rattle.std.proofs.Common.{◌≡◌, ◌+◌, ◌++◌, ◌∙◌, All, List, ap, length, subst, sym, true, ℕ}
+use Rattle.box_walk.proofs.Homes.{start_among}
 use Rattle.box_gather.specs.Over.{IsPartOver, IsWholeOver}
 use Rattle.header_boxes.specs.declared.rows.Row.{Row}
 use Rattle.query_words.specs.declared.reaches.ReachQuery.{ReachQuery}
@@ -9,18 +10,22 @@ use Rattle.vpc_model.specs.Accepted.{IsAccepted}
 use Rattle.vpc_model.specs.Appliances.{appliances_of}
 use Rattle.vpc_model.specs.Cuts.{cuts_of}
 use Rattle.vpc_model.specs.Sound.{is_end}
+use Rattle.vpc_model.specs.Verdict.{homes_among}
 use Rattle.end_reach.proofs.RowLemmas.{rows_reach_ends}
-use Rattle.end_reach.specs.Asked.{boxes_at}
+use Rattle.end_reach.specs.Asked.{boxes_at, links_of}
 use Rattle.end_reach.specs.Texts.{row_lines_from}
 use Rattle.end_reach.specs.Told.{reached_in}
 
 module _ (d : Description) (query : ReachQuery) (targets : List (ℕ × ℕ)) (start : End) (accepted : IsAccepted d) (there : is_end d start ≡ true) (given : AreGivenEnds d query) where
+  known : let homes = homes_among (links_of d query) start in is_end d homes.start ≡ true
+  known = subst (λ (e : End). is_end d e ≡ true) (sym (start_among (links_of d query) start)) there
+
   -- the ends that they reach are described
   pub whole-ends : (rows : List (Row End)) (room : ℕ) → IsWholeOver (reached_in d query start) (cuts_of d) (boxes_at d query targets start) room rows → All (λ r. is_end d r.word ≡ true) rows
-  whole-ends rows room k = rows_reach_ends d (appliances_of d) start query.goal (boxes_at d query targets start) rows accepted there given.goal k.rows_are
+  whole-ends rows room k = rows_reach_ends d (appliances_of d) (homes_among (links_of d query) start) query.goal (boxes_at d query targets start) rows accepted known given.goal k.rows_are
 
   pub part-ends : (rows : List (Row End)) (next : Header) (room : ℕ) → IsPartOver (reached_in d query start) (cuts_of d) (boxes_at d query targets start) room rows next → All (λ r. is_end d r.word ≡ true) rows
-  part-ends rows next room k = rows_reach_ends d (appliances_of d) start query.goal (boxes_at d query targets start) rows accepted there given.goal k.rows_are
+  part-ends rows next room k = rows_reach_ends d (appliances_of d) (homes_among (links_of d query) start) query.goal (boxes_at d query targets start) rows accepted known given.goal k.rows_are
 
 -- ---- the same by the network's own description, and by a slice
 

@@ -1,5 +1,6 @@
 pub mod SideLemmas
 pub mod StartLemmas
+pub mod LinkLemmas
 pub mod JoinedLemmas
 pub mod RowLemmas
 pub mod BodyLemmas

@@ -1,8 +1,9 @@
 -- Which requests a question for all that gets through is about.
 use Rattle.std.specs.List.{flat_map}
-use Rattle.std.specs.Prelude.{◌≡◌, ◌&&◌, ◌++◌, ◌∷◌, [], if◌then◌else◌, Bool, List, None, Option, Some, false, filter, is_some, map, not, option_map, true, ℕ}
+use Rattle.std.specs.Prelude.{◌≡◌, ◌↔◌, ◌&&◌, ◌++◌, ◌∷◌, [], if◌then◌else◌, Bool, Contains, List, None, Option, Some, false, filter, is_some, map, not, option_map, true, ℕ}
 use Rattle.header_boxes.specs.declared.boxes.Box5.{Box5}
 use Rattle.listing_text.specs.Outside.{AreSourcesById}
+use Rattle.listing_text.specs.Outside as listed
 use Rattle.listing_text.specs.Sides.{AreSidesOf, alone, sides_between}
 use Rattle.query_words.specs.Sides.{all_addresses}
 use Rattle.query_words.specs.declared.reaches.ReachPairs.{ReachPairs}
@@ -94,3 +95,20 @@ pub record AreAllStarts (d : Description) (src : Option (ℕ × ℕ)) (goal : Op
 abbrev pub AreStarts : Description → Option (ℕ × ℕ) → Option End → Option End → List End → Type 0
 AreStarts d src (Some start) goal starts = starts ≡ start ∷ []
 AreStarts d src None goal starts = AreAllStarts d src goal starts
+
+-- ---- links
+
+-- the networks that aren't described among the starts, in the order of the description; none where the start is given
+abbrev pub links_between : Description → Option End → Option End → List FarNo
+links_between d (Some start) goal = []
+links_between d None goal = filter (is_far_start goal) (listed.sources_of d)
+
+-- behind all of them one network is taken to lie: a reply to a request that came in by one may arrive at any (profile)
+abbrev pub links_of : Description → ReachQuery → List FarNo
+links_of d query = links_between d query.start query.goal
+
+-- where no start is given, they are the networks that aren't described among the starts
+abbrev pub LinksAreStarts : Type 0
+LinksAreStarts =
+    (d : Description) (query : ReachQuery) (starts : List End) (k : FarNo) → query.start ≡ None → AreStarts d query.pairs.src query.start query.goal starts
+    → Contains starts (ends.Far k) ↔ Contains (links_of d query) k

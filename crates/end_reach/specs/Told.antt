@@ -9,11 +9,12 @@ use Rattle.query_words.specs.declared.reaches.ReachQuery.{ReachQuery}
 use Rattle.vpc_laws.specs.Types.{Description, End, Header}
 use Rattle.vpc_model.specs.Appliances.{appliances_of}
 use Rattle.vpc_model.specs.Cuts.{cuts_of}
-use Rattle.end_reach.specs.Asked.{boxes_at}
+use Rattle.vpc_model.specs.Verdict.{homes_among}
+use Rattle.end_reach.specs.Asked.{boxes_at, links_of}
 
--- the end that a request reaches, with the described appliances
+-- the end that a request reaches, with the described appliances, where its reply may arrive at each of the links
 abbrev pub reached_in : Description → ReachQuery → End → Header → Option End
-reached_in d query start h = reached_of d (appliances_of d) start query.goal h
+reached_in d query start h = reached_of d (appliances_of d) (homes_among (links_of d query) start) query.goal h
 
 -- what is asked of each start: which end its requests reach, in at most as many rows as the query says
 abbrev pub wanted : Description → ReachQuery → List (ℕ × ℕ) → Wanted End End

@@ -4,6 +4,7 @@ ghost use Rattle.vpc_model.specs.Sound.{is_end};
 ghost use Rattle.end_reach.specs.Answered.{CanBeTold, IsPrinted, IsReachAnswered, IsToldUnlessTooMany, IsTooMany};
 
 use crate::bodies::{Body, body_of};
+use crate::links::links_of;
 use crate::sides::{Asked, targets_of};
 use crate::starts::starts_of;
 use appliances::Deciders;
@@ -82,9 +83,11 @@ impl<'a> Job for Reaching<'a> {
         let n = f.network();
         let targets = targets_of(alloc, n, query.pairs.dst, query.goal)?;
         let starts = starts_of(alloc, n, query.pairs.src, query.start, query.goal)?;
+        let links = links_of(alloc, n, query)?;
         let asked = Asked {
             query,
             targets: targets.as_slice(),
+            links: links.as_slice(),
         };
         let body = body_of(alloc, f, deciders, &asked, starts.as_slice())?;
         answer_body(alloc, n, self.words, &body)

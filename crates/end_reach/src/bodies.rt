@@ -4,7 +4,7 @@ ghost use Rattle.listing_text.specs.Bodies.{IsAdded, IsBody};
 ghost use Rattle.query_words.specs.ReachQuery.{AreGivenEnds, AreReachPairs};
 ghost use Rattle.vpc_model.specs.Appliances.{appliances_of};
 ghost use Rattle.vpc_model.specs.Sound.{is_end};
-ghost use Rattle.end_reach.specs.Asked.{AreTargets};
+ghost use Rattle.end_reach.specs.Asked.{AreTargets, links_of};
 ghost use Rattle.end_reach.specs.Texts.{row_lines_from};
 ghost use Rattle.end_reach.specs.Told.{wanted};
 ghost use Rattle.end_reach.specs.Walked.{AreOf};
@@ -44,11 +44,11 @@ fn add_rows(body: &mut Body, n: &Network, start: End, rows: &[Row<End>]) -> Resu
 }
 
 // Adds what is gathered from a start.
-fn add_start(
+fn add_start<'a>(
     alloc: Global,
     f: &Fabric,
-    walks: &mut Walks,
-    asked: &Asked,
+    walks: &mut Walks<'a>,
+    asked: &Asked<'a>,
     start: End,
     body: &mut Body,
 ) -> Result<(), NoMemory>
@@ -57,6 +57,7 @@ fn add_start(
     requires pairs { AreReachPairs asked.now.query.now.pairs }
     requires targets { AreTargets f.now
         asked.now.query.now.pairs.dst asked.now.query.now.goal asked.now.targets.now }
+    requires links { asked.now.links.now ≡ links_of f.now asked.now.query.now }
     requires start { IsTrue (is_end f.now start) }
     requires few { body.old.count ≤ asked.now.query.now.pairs.max }
     ensures added { OnOk result (IsAdded
@@ -78,11 +79,11 @@ fn add_start(
 }
 
 /// The rows of all starts, not more than asked for.
-pub fn body_of(
+pub fn body_of<'a>(
     alloc: Global,
-    f: &Fabric,
-    deciders: &Deciders,
-    asked: &Asked,
+    f: &'a Fabric,
+    deciders: &'a Deciders,
+    asked: &Asked<'a>,
     starts: &[End],
 ) -> Result<Body, NoMemory>
     requires appliances { deciders.now.appliances ≡ appliances_of f.now }
@@ -90,6 +91,7 @@ pub fn body_of(
     requires pairs { AreReachPairs asked.now.query.now.pairs }
     requires targets { AreTargets f.now
         asked.now.query.now.pairs.dst asked.now.query.now.goal asked.now.targets.now }
+    requires links { asked.now.links.now ≡ links_of f.now asked.now.query.now }
     requires starts { All (λ e. IsTrue (is_end f.now e)) starts.now }
     ensures { IfOk result (λ b. IsBody
         (wanted f.now asked.now.query.now asked.now.targets.now) (row_lines_from f.now) starts.now

@@ -7,7 +7,8 @@ ghost use Rattle.query_words.specs.ReachQuery.{AreGivenEnds, AreReachPairs};
 ghost use Rattle.vpc_model.specs.Appliances.{appliances_of};
 ghost use Rattle.vpc_model.specs.Sound.{is_end};
 ghost use Rattle.vpc_model.specs.Told.{end_id};
-ghost use Rattle.end_reach.specs.Asked.{AreTargets};
+ghost use Rattle.vpc_model.specs.Verdict.{homes_among};
+ghost use Rattle.end_reach.specs.Asked.{AreTargets, links_of};
 ghost use Rattle.end_reach.specs.Texts.{row_line, row_lines_from};
 ghost use Rattle.end_reach.specs.Told.{wanted};
 ghost use Rattle.end_reach.specs.Walked.{AreOf, IsGatheredIn};
@@ -22,7 +23,7 @@ use header_boxes::{Box5, Row};
 use reference_check::Network;
 use std::alloc::Global;
 use vpc_base::NoMemory;
-use vpc_model::End;
+use vpc_model::{End, FarNo};
 
 // ---- what is gathered
 
@@ -48,28 +49,31 @@ impl<'a> Walks<'a> {
 }
 
 // Toward whatever end a request arrives at.
-fn gather_to_any(
+fn gather_to_any<'a>(
     alloc: Global,
-    probe: &mut OpenProbe,
+    probe: &mut OpenProbe<'a>,
     start: End,
+    links: &'a [FarNo],
     boxes: &[Box5],
     room: u32,
 ) -> Result<Gathered<End>, NoMemory>
     requires start { IsTrue (is_end probe.old.fabric.now start) }
     requires valid { All IsValid boxes.now }
     requires disjoint { AllPairs AreDisjoint boxes.now }
-    ensures gathered { IfOk result (IsGatheredIn probe.old.fabric.now start None boxes.now room) }
+    ensures gathered { IfOk result (IsGatheredIn probe.old.fabric.now
+        (homes_among links.now start) None boxes.now room) }
     ensures network { probe.new.fabric.now ≡ probe.old.fabric.now }
 {
-    probe.turn(start);
+    probe.turn_among(start, links);
     gather_over(alloc, probe, boxes, room)
 }
 
 // Toward a goal: requests are given up where they can't arrive there.
-fn gather_to(
+fn gather_to<'a>(
     alloc: Global,
-    round: &mut RoundProbe,
+    round: &mut RoundProbe<'a>,
     start: End,
+    links: &'a [FarNo],
     goal: End,
     boxes: &[Box5],
     room: u32,
@@ -78,19 +82,20 @@ fn gather_to(
     requires goal { IsTrue (is_end round.old.fabric.now goal) }
     requires valid { All IsValid boxes.now }
     requires disjoint { AllPairs AreDisjoint boxes.now }
-    ensures gathered { IfOk result (IsGatheredIn round.old.fabric.now start (Some goal) boxes.now room) }
+    ensures gathered { IfOk result (IsGatheredIn round.old.fabric.now
+        (homes_among links.now start) (Some goal) boxes.now room) }
     ensures network { round.new.fabric.now ≡ round.old.fabric.now }
 {
-    round.turn(start, goal);
+    round.turn_among(start, links, goal);
     gather_over(alloc, &GoalProbe::of(round), boxes, room)
 }
 
 /// Which of the requests reach an end from the start, the goal if there is one, in at most `room` rows.
-pub fn gather_at(
+pub fn gather_at<'a>(
     alloc: Global,
     f: &Fabric,
-    walks: &mut Walks,
-    asked: &Asked,
+    walks: &mut Walks<'a>,
+    asked: &Asked<'a>,
     start: End,
     room: u32,
 ) -> Result<Gathered<End>, NoMemory>
@@ -99,6 +104,7 @@ pub fn gather_at(
     requires pairs { AreReachPairs asked.now.query.now.pairs }
     requires targets { AreTargets f.now
         asked.now.query.now.pairs.dst asked.now.query.now.goal asked.now.targets.now }
+    requires links { asked.now.links.now ≡ links_of f.now asked.now.query.now }
     requires start { IsTrue (is_end f.now start) }
     ensures gathered { IfOk result
         (IsGatheredFrom (wanted f.now asked.now.query.now asked.now.targets.now) start room) }
@@ -106,9 +112,10 @@ pub fn gather_at(
 {
     let boxes = boxes_at(alloc, f.network(), asked.query, asked.targets, start)?;
     let boxes = boxes.as_slice();
+    let links = asked.links;
     match asked.query.goal {
-        Some(goal) => gather_to(alloc, &mut walks.toward, start, goal, boxes, room),
-        None => gather_to_any(alloc, &mut walks.to_any, start, boxes, room),
+        Some(goal) => gather_to(alloc, &mut walks.toward, start, links, goal, boxes, room),
+        None => gather_to_any(alloc, &mut walks.to_any, start, links, boxes, room),
     }
 }
 

@@ -13,7 +13,7 @@ use query_words::{ReachPairs, ReachQuery};
 use reference_check::Network;
 use std::alloc::Global;
 use vpc_base::NoMemory;
-use vpc_model::{End, Interface};
+use vpc_model::{End, FarNo, Interface};
 
 /// The requests of a query.
 #[derive(Drop)]
@@ -21,6 +21,8 @@ pub struct Asked<'a> {
     pub query: &'a ReachQuery,
     /// Their destinations, as `targets_of` gives them.
     pub targets: &'a [(u32, u32)],
+    /// At which ends beside the start their replies may arrive, as `links_of` gives them.
+    pub links: &'a [FarNo],
 }
 
 // ---- sources

@@ -90,12 +90,19 @@ fn first_starts(alloc: Global, goal: Option<End>) -> Result<Vec<End>, NoMemory>
     Ok(starts)
 }
 
+// Whether a network that isn't described isn't the goal.
+pub(crate) fn is_far_start(goal: Option<End>, far: FarNo) -> bool
+    ensures { result ≡ is_far_start goal far }
+{
+    !is_goal(goal, End::Far(far))
+}
+
 // Adds a network that isn't described, where it isn't the goal.
 fn add_far(starts: &mut Vec<End>, goal: Option<End>, far: FarNo) -> Result<(), NoMemory>
     ensures { OnOk result (starts.new.items
         ≡ starts.old.items ++ cond (is_far_start goal far) (ends.Far far ∷ []) []) }
 {
-    if !is_goal(goal, End::Far(far)) {
+    if is_far_start(goal, far) {
         starts.push(End::Far(far))?;
     }
     Ok(())

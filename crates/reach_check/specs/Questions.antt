@@ -13,9 +13,10 @@ use Rattle.listing_reader.specs.declared.origins.Origin.{Origin}
 use Rattle.query_words.specs.ReachQuery.{AreGivenEnds, AreReachPairs}
 use Rattle.query_words.specs.declared.reaches.ReachQuery.{ReachQuery}
 use Rattle.report_check.specs.Certified.{report_refusal_line}
-use Rattle.vpc_laws.specs.Types.{Description, End}
+use Rattle.vpc_laws.specs.Types.{Description, End, FarNo}
 use Rattle.vpc_model.specs.Appliances.{appliances_of}
 use Rattle.vpc_model.specs.Told.{end_id}
+use Rattle.vpc_model.specs.Verdict.{homes_among}
 use Rattle.reach_check.specs.Reaches.{IsCheckedFor, fate_text, toward_of}
 
 -- ---- a question
@@ -31,20 +32,20 @@ pub record CanBeAsked (d : Description) (query : ReachQuery) : Type 0 where
 abbrev pub origin_of : Description → ReachQuery → List (ℕ × ℕ) → End → Origin
 origin_of d query targets start = record { id = end_id d start; boxes = boxes_at d query targets start }
 
--- what is asked of a start with this id and these boxes
-abbrev pub asked_at : Description → Option End → Origin → End → Asked
-asked_at d goal origin start = record {
+-- what is asked of a start with this id and these boxes, where replies may arrive at these links
+abbrev pub asked_at : Description → List FarNo → Option End → Origin → End → Asked
+asked_at d links goal origin start = record {
   id = origin.id;
   boxes = origin.boxes;
-  told = λ h. option_map (end_id d) (reached_of d (appliances_of d) start goal h);
-  outcome = λ h. fate_text d origin.id (fate (sent d (Some start) (toward_of goal)) h);
+  told = λ h. option_map (end_id d) (reached_of d (appliances_of d) (homes_among links start) goal h);
+  outcome = λ h. fate_text d origin.id (fate (sent d (Some start) links (toward_of goal)) h);
 }
 
 -- of each start
-abbrev pub asked_in : Description → Option End → List Origin → List End → List Asked
-asked_in d goal [] starts = []
-asked_in d goal (origin ∷ origins) [] = []
-asked_in d goal (origin ∷ origins) (start ∷ starts) = asked_at d goal origin start ∷ asked_in d goal origins starts
+abbrev pub asked_in : Description → List FarNo → Option End → List Origin → List End → List Asked
+asked_in d links goal [] starts = []
+asked_in d links goal (origin ∷ origins) [] = []
+asked_in d links goal (origin ∷ origins) (start ∷ starts) = asked_at d links goal origin start ∷ asked_in d links goal origins starts
 
 -- ---- texts
 

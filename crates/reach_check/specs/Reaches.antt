@@ -5,7 +5,7 @@ use Rattle.block_report.specs.Words.{word}
 use Rattle.change_report.specs.Texts.{barrier_text}
 use Rattle.command_job.specs.declared.status.Status.{Status}
 use Rattle.command_job.specs.declared.status.Status.TheVariants as ends
-use Rattle.end_reach.specs.Terms.{AreStarts, AreTargets, IsTooMany, boxes_at, reached_in}
+use Rattle.end_reach.specs.Terms.{AreStarts, AreTargets, IsTooMany, boxes_at, links_of, reached_in}
 use Rattle.journey_changes.specs.Sent.{reached}
 use Rattle.journey_changes.specs.Terms.{Fate, Sent, fate, sent}
 use Rattle.journey_changes.specs.declared.fates.Toward.{Toward}
@@ -42,7 +42,7 @@ asked_from d query targets start = record {
   id = end_id d start;
   boxes = boxes_at d query targets start;
   told = λ h. option_map (end_id d) (reached_in d query start h);
-  outcome = λ h. fate_text d (end_id d start) (fate (sent d (Some start) (toward_of query.goal)) h);
+  outcome = λ h. fate_text d (end_id d start) (fate (sent d (Some start) (links_of d query) (toward_of query.goal)) h);
 }
 
 -- of all starts

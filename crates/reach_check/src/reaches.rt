@@ -18,7 +18,7 @@ use appliances::Deciders;
 use block_report::put;
 use changed_ends::id_at;
 use command_job::{Answer, Job, answer_job};
-use end_reach::{boxes_at, is_too_many, starts_of, targets_of};
+use end_reach::{boxes_at, is_too_many, links_of, starts_of, targets_of};
 use fabric::Fabric;
 use listing_check::{answer_lines, later_lines, question_words, refuse_line, unless_memory};
 use listing_reader::{Origin, split_lines};
@@ -154,12 +154,14 @@ impl<'a> Job for Checking<'a> {
         let starts = all_starts.as_slice();
         let all_origins = origins_of(alloc, n, query, targets.as_slice(), starts)?;
         let origins = all_origins.as_slice();
+        let links = links_of(alloc, n, query)?;
         let question = ReachQuestion {
             fabric: f,
             deciders,
             goal: query.goal,
             origins,
             starts,
+            links: links.as_slice(),
         };
         answer_lines(
             alloc,

@@ -23,7 +23,7 @@ use listing_reader::Origin;
 use reference_check::Network;
 use std::alloc::Global;
 use vpc_base::{Header, NoMemory, OwnList};
-use vpc_model::End;
+use vpc_model::{End, FarNo};
 
 // ---- one request
 
@@ -71,6 +71,8 @@ pub struct ReachQuestion<'a> {
     /// By what the rows of each start are read, in the order of the starts.
     pub origins: &'a [Origin],
     pub starts: &'a [End],
+    /// Where replies may arrive beside their start.
+    pub links: &'a [FarNo],
     ghost described: { deciders.now.appliances ≡ appliances_of fabric.now },
     ghost goal_is: { IfSome goal (λ e. IsTrue (is_end fabric.now e)) } by { Prim.hlevel props },
     ghost valid: { All (λ o. All IsValid o.boxes) origins.now },
@@ -97,15 +99,23 @@ impl<'a> ReachQuestion<'a> {
     // The walks of requests from a start. They are made for each start that is looked at.
     fn walks_from(&self, start: End) -> FateProbe<'a>
         requires { IsTrue (is_end self.now.fabric.now start) }
-        ensures { result.sent ≡ sent self.now.fabric.now (Some start) (toward_of self.now.goal) }
+        ensures { result.sent ≡ sent self.now.fabric.now (Some start)
+            self.now.links.now (toward_of self.now.goal) }
     {
-        FateProbe::of(self.fabric, self.deciders, Some(start), toward(self.goal))
+        FateProbe::of(
+            self.fabric,
+            self.deciders,
+            Some(start),
+            self.links,
+            toward(self.goal),
+        )
     }
 
     // What is told of the requests from a start.
     fn listing_from(&self, start: End) -> ReachListing<'a>
         requires { IsTrue (is_end self.now.fabric.now start) }
-        ensures { result.walks.sent ≡ sent self.now.fabric.now (Some start) (toward_of self.now.goal) }
+        ensures { result.walks.sent ≡ sent self.now.fabric.now (Some start)
+            self.now.links.now (toward_of self.now.goal) }
     {
         ReachListing::of(self.walks_from(start), self.fabric.network())
     }
@@ -114,7 +124,7 @@ impl<'a> ReachQuestion<'a> {
     fn fate_at(&self, start: End, h: &Header) -> Result<End, Barrier>
         requires { IsTrue (is_end self.now.fabric.now start) }
         ensures value { result ≡ fate (sent self.now.fabric.now (Some start)
-            (toward_of self.now.goal)) h.now }
+            self.now.links.now (toward_of self.now.goal)) h.now }
         ensures told { CanBeShown self.now.fabric.now result }
     {
         // That the network is accepted is a clause of this call.
@@ -128,7 +138,7 @@ impl<'a> ReachQuestion<'a> {
 impl<'a> Question for ReachQuestion<'a> {
     ghost use Rattle.reach_check.specs.Questions.{asked_in};
 
-    ghost asked = { λ q. asked_in q.fabric.now q.goal q.origins.now q.starts.now };
+    ghost asked = { λ q. asked_in q.fabric.now q.links.now q.goal q.origins.now q.starts.now };
 
     fn look(&self, alloc: Global, start: u32, rows: &[Row<OwnList<u8>>]) -> Result<Look, NoMemory> {
         let boxes = self.origin_at(start).boxes.as_slice();

@@ -15,8 +15,8 @@ answer_body-requires-clause-start g c =
     let d = c.args.f.now in
     let q = c.args.self.now.query.now in
     subst (λ (x : Description). IfSome c.in_ok-body.body.next (λ y. is_end x y.0 ≡ true)) (sym c.network-n.ensures)
-    (next_start (wanted d q c.as_slice.result.now) (row_lines_from d) (λ e. is_end d e ≡ true) c.as_slice-2.result.now c.in_ok-body.body.text.items c.in_ok-body.body.count c.in_ok-body.body.next
-    (subst (λ (l : List End). All (λ e. is_end d e ≡ true) l) (sym c.as_slice-2.ensures.value)
+    (next_start (wanted d q c.as_slice.result.now) (row_lines_from d) (λ e. is_end d e ≡ true) c.as_slice-3.result.now c.in_ok-body.body.text.items c.in_ok-body.body.count c.in_ok-body.body.next
+    (subst (λ (l : List End). All (λ e. is_end d e ≡ true) l) (sym c.as_slice-3.ensures.value)
     (subst (λ (x : Description). All (λ (e : End). is_end x e ≡ true) c.in_ok-starts.starts.items) c.network-n.ensures c.in_ok-starts.ensures.described))
     c.in_ok-body.ensures)
 
@@ -30,9 +30,9 @@ returns g c =
     (λ a printed. record {
       targets = c.as_slice.result.now;
       targets_are = subst (λ (l : List _). AreTargets d q.pairs.dst q.goal l) (sym c.as_slice.ensures.value) (subst (λ (x : Description). AreTargets x q.pairs.dst q.goal c.in_ok-targets.targets.items) c.network-n.ensures c.in_ok-targets.ensures);
-      starts = c.as_slice-2.result.now;
-      starts_are = subst (λ (l : List End). AreStarts d q.pairs.src q.start q.goal l) (sym c.as_slice-2.ensures.value) (subst (λ (x : Description). AreStarts x q.pairs.src q.start q.goal c.in_ok-starts.starts.items) c.network-n.ensures c.in_ok-starts.ensures.starts);
-      told = told_by d q words c.as_slice.result.now c.as_slice-2.result.now body.text.items body.count body.next a.status a.text.items c.in_ok-body.ensures
+      starts = c.as_slice-3.result.now;
+      starts_are = subst (λ (l : List End). AreStarts d q.pairs.src q.start q.goal l) (sym c.as_slice-3.ensures.value) (subst (λ (x : Description). AreStarts x q.pairs.src q.start q.goal c.in_ok-starts.starts.items) c.network-n.ensures c.in_ok-starts.ensures.starts);
+      told = told_by d q words c.as_slice.result.now c.as_slice-3.result.now body.text.items body.count body.next a.status a.text.items c.in_ok-body.ensures
           (subst (λ (x : Description). IsPrinted x words body.text.items body.count body.next a.status a.text.items) c.network-n.ensures printed);
     })
     c.answer_body.ensures
