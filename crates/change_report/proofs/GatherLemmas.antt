@@ -11,9 +11,10 @@ use Rattle.ordered_cover.specs.declared.rows.Gathered.{Gathered}
 use Rattle.query_words.specs.ChangeQuery.{IsChangedEnd}
 use Rattle.query_words.specs.declared.changes.ChangeQuery.{ChangeQuery}
 use Rattle.query_words.specs.declared.changes.ChangedEnd.{ChangedEnd}
-use Rattle.vpc_laws.specs.Types.{Description, End}
+use Rattle.vpc_laws.specs.Types.{Description, End, FarNo}
 use Rattle.vpc_model.specs.Sound.{is_end}
 use Rattle.changed_ends.specs.Asked.{Comparison, HasEnds}
+use Rattle.changed_ends.specs.Links.{links_after, links_before}
 use Rattle.change_report.specs.Told.{sent_after, sent_before, toward_of}
 use Rattle.change_report.specs.Walked.{nowhere}
 
@@ -46,18 +47,22 @@ from_nowhere_after c ends = record { start = tt; toward = toward_after c.before 
 
 -- ---- requests, by the parts of what is asked
 
-module _ (c : Comparison) (start : Option End) (d : Description) (query : ChangeQuery) (toward : Toward) where
-  pub sent_before-as : d ≡ c.before → query ≡ c.query → toward ≡ toward_of (option_map (λ e. e.before) query.goal)
-      → sent d start toward ≡ sent c.before start (toward_of (option_map (λ e. e.before) c.query.goal))
-  sent_before-as network is toward_is =
-      ap (λ (n : Description). sent n start toward) network
-      ∙ (ap (sent c.before start) toward_is ∙ ap (λ (q : ChangeQuery). sent c.before start (toward_of (option_map (λ e. e.before) q.goal))) is)
+module _ (c : Comparison) (start : Option End) (d : Description) (links : List FarNo) (query : ChangeQuery) (toward : Toward) where
+  pub sent_before-as : d ≡ c.before → links ≡ links_before c → query ≡ c.query → toward ≡ toward_of (option_map (λ e. e.before) query.goal)
+      → sent d start links toward ≡ sent c.before start (links_before c) (toward_of (option_map (λ e. e.before) c.query.goal))
+  sent_before-as network linked is toward_is =
+      ap (λ (n : Description). sent n start links toward) network
+      ∙ (ap (λ (l : List FarNo). sent c.before start l toward) linked
+      ∙ (ap (sent c.before start (links_before c)) toward_is
+      ∙ ap (λ (q : ChangeQuery). sent c.before start (links_before c) (toward_of (option_map (λ e. e.before) q.goal))) is))
 
-  pub sent_after-as : d ≡ c.after → query ≡ c.query → toward ≡ toward_of (option_map (λ e. e.after) query.goal)
-      → sent d start toward ≡ sent c.after start (toward_of (option_map (λ e. e.after) c.query.goal))
-  sent_after-as network is toward_is =
-      ap (λ (n : Description). sent n start toward) network
-      ∙ (ap (sent c.after start) toward_is ∙ ap (λ (q : ChangeQuery). sent c.after start (toward_of (option_map (λ e. e.after) q.goal))) is)
+  pub sent_after-as : d ≡ c.after → links ≡ links_after c → query ≡ c.query → toward ≡ toward_of (option_map (λ e. e.after) query.goal)
+      → sent d start links toward ≡ sent c.after start (links_after c) (toward_of (option_map (λ e. e.after) c.query.goal))
+  sent_after-as network linked is toward_is =
+      ap (λ (n : Description). sent n start links toward) network
+      ∙ (ap (λ (l : List FarNo). sent c.after start l toward) linked
+      ∙ (ap (sent c.after start (links_after c)) toward_is
+      ∙ ap (λ (q : ChangeQuery). sent c.after start (links_after c) (toward_of (option_map (λ e. e.after) q.goal))) is))
 
 -- ---- walks that are turned to a start
 

@@ -13,6 +13,7 @@ use Rattle.query_words.specs.declared.changes.ChangedEnd.{ChangedEnd}
 use Rattle.vpc_base.specs.Cuts.{CutLists}
 use Rattle.vpc_laws.specs.Types.{End, Header}
 use Rattle.changed_ends.specs.Asked.{Comparison, boxes_at}
+use Rattle.changed_ends.specs.Links.{links_after, links_before}
 
 -- ---- requests
 
@@ -22,12 +23,12 @@ toward_of None = towards.Any
 toward_of (Some None) = towards.Missing
 toward_of (Some (Some goal)) = towards.Goal goal
 
--- the requests from a start, as they are sent in each network
+-- the requests from a start, as they are sent in each network, where replies may arrive by each link of the question
 abbrev pub sent_before : Comparison → ChangedEnd → Sent
-sent_before c start = sent c.before start.before (toward_of (option_map (λ e. e.before) c.query.goal))
+sent_before c start = sent c.before start.before (links_before c) (toward_of (option_map (λ e. e.before) c.query.goal))
 
 abbrev pub sent_after : Comparison → ChangedEnd → Sent
-sent_after c start = sent c.after start.after (toward_of (option_map (λ e. e.after) c.query.goal))
+sent_after c start = sent c.after start.after (links_after c) (toward_of (option_map (λ e. e.after) c.query.goal))
 
 -- ---- what is told
 

@@ -5,7 +5,7 @@ ghost use Rattle.changed_ends.specs.Asked.{comparison};
 
 use crate::gathered::Asked;
 use appliances::Kinds;
-use changed_ends::Compared;
+use changed_ends::{Compared, links_of};
 use command_job::{Answer, deciders_of};
 use fabric::Fabric;
 use query_words::ChangeQuery;
@@ -68,6 +68,7 @@ fn answer_by<J: Comparing>(
         { later_kinds.passes(k, h) },
     )?;
     let after_deciders = deciders_of(alloc, after.network(), later_decide)?;
+    let links = links_of(alloc, before.network(), after.network(), query)?;
     let asked = Asked {
         compared: Compared {
             before,
@@ -76,6 +77,8 @@ fn answer_by<J: Comparing>(
         },
         before_deciders: &before_deciders,
         after_deciders: &after_deciders,
+        before_links: links.before.as_slice(),
+        after_links: links.after.as_slice(),
         alike: &alike,
     };
     job.answer_asked(alloc, &asked)

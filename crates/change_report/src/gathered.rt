@@ -8,6 +8,7 @@ ghost use Rattle.query_words.specs.ReachQuery.{AreReachPairs};
 ghost use Rattle.security_groups.specs.Index.{HasRulesOf};
 ghost use Rattle.vpc_model.specs.Appliances.{appliances_of};
 ghost use Rattle.changed_ends.specs.Asked.{AreTargets, HasEnds};
+ghost use Rattle.changed_ends.specs.Links.{links_after, links_before};
 ghost use Rattle.change_report.specs.Told.{change_in, cuts_in, sent_after, sent_before, toward_of, wanted};
 ghost use Rattle.change_report.specs.Walked.{AreWalksOf, nowhere};
 
@@ -21,7 +22,7 @@ use query_words::ChangedEnd;
 use security_groups::AlikeGroups;
 use std::alloc::Global;
 use vpc_base::NoMemory;
-use vpc_model::End;
+use vpc_model::{End, FarNo};
 
 /// A query about two networks, what the appliances that they describe forward, and which groups of both let in the same.
 #[derive(Drop)]
@@ -29,9 +30,14 @@ pub struct Asked<'a> {
     pub compared: Compared<'a>,
     pub before_deciders: &'a Deciders,
     pub after_deciders: &'a Deciders,
+    /// The links of the query, as `links_of` gives them for each network.
+    pub before_links: &'a [FarNo],
+    pub after_links: &'a [FarNo],
     pub alike: &'a AlikeGroups<'a>,
     ghost described_before: { before_deciders.now.appliances ≡ appliances_of compared.before },
     ghost described_after: { after_deciders.now.appliances ≡ appliances_of compared.after },
+    ghost linked_before: { before_links.now ≡ links_before compared },
+    ghost linked_after: { after_links.now ≡ links_after compared },
     ghost rules_before: { HasRulesOf compared.before alike.now.one },
     ghost rules_after: { HasRulesOf compared.after alike.now.other },
 }
@@ -77,6 +83,7 @@ fn probe_before<'a>(asked: &Asked<'a>) -> FateProbe<'a>
         asked.compared.fabric_before(),
         asked.before_deciders,
         None,
+        asked.before_links,
         toward_before(asked.compared.query().goal),
     )
 }
@@ -89,6 +96,7 @@ fn probe_after<'a>(asked: &Asked<'a>) -> FateProbe<'a>
         asked.compared.fabric_after(),
         asked.after_deciders,
         None,
+        asked.after_links,
         toward_after(asked.compared.query().goal),
     )
 }

@@ -4,6 +4,7 @@
 mod boxes;
 mod compared;
 mod hosts;
+mod links;
 mod outside;
 mod starts;
 mod targets;
@@ -11,5 +12,6 @@ mod targets;
 pub use boxes::boxes_at;
 pub use compared::Compared;
 pub use hosts::{changed_id, hosts_of_either, id_at};
+pub use links::{Links, links_of};
 pub use starts::starts_of;
 pub use targets::targets_of;

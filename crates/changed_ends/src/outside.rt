@@ -90,8 +90,12 @@ fn add_after(
     Ok(())
 }
 
-// Those of the first network, and those of the second that the first doesn't have.
-fn unordered(alloc: Global, before: &Network, after: &Network) -> Result<Vec<ChangedEnd>, NoMemory>
+/// Those of the first network, and those of the second that the first doesn't have.
+pub(crate) fn unordered(
+    alloc: Global,
+    before: &Network,
+    after: &Network,
+) -> Result<Vec<ChangedEnd>, NoMemory>
     ensures { IfOk result (λ v. v.items ≡ sources_of_either before.now after.now) }
 {
     let first = sources_of(alloc, before)?;

@@ -108,8 +108,8 @@ fn add_hosts(
     Ok(())
 }
 
-// Adds the networks that aren't described, without the goal.
-fn add_outside(
+/// Adds the networks that aren't described, without the goal.
+pub(crate) fn add_outside(
     starts: &mut Vec<ChangedEnd>,
     goal: Option<ChangedEnd>,
     outside: &[ChangedEnd],

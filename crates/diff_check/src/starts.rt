@@ -34,6 +34,7 @@ fn walks_before<'a>(asked: &Asked<'a>, start: &ChangedEnd) -> FateProbe<'a>
         asked.compared.fabric_before(),
         asked.before_deciders,
         start.before,
+        asked.before_links,
         toward_before(asked.compared.query().goal),
     )
 }
@@ -47,6 +48,7 @@ fn walks_after<'a>(asked: &Asked<'a>, start: &ChangedEnd) -> FateProbe<'a>
         asked.compared.fabric_after(),
         asked.after_deciders,
         start.after,
+        asked.after_links,
         toward_after(asked.compared.query().goal),
     )
 }

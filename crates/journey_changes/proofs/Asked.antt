@@ -3,14 +3,18 @@ use Rattle.std.proofs.Common.{◌≡◌, ◌∙◌, Err, IfSome, None, Option, S
 use Rattle.box_images.proofs.BodyLemmas.{body_of_itself}
 use Rattle.box_images.specs.Answers.{Answers}
 use Rattle.box_images.specs.declared.images.Part.{Part}
-use Rattle.box_walk.specs.Terms.{AnswersJourney, AnswersStopped, AnswersWord, Asking, Starting, asked, goal_unless, journey_by, journey_of, starting, stop_of, stopped_of, whether, word_of}
+use Rattle.box_walk.proofs.Homes.{start_among}
+use Rattle.box_walk.specs.Asking.{AreNear}
+use Rattle.box_walk.specs.Terms.{AnswersJourney, AnswersStopped, AnswersWord, Asking, Starting, asked_by, goal_unless, journey_by, journey_of, open_cuts, starting_by, stop_of, stopped_of, whether, word_of}
 use Rattle.box_walk.specs.declared.journeys.Journey.{Journey}
 use Rattle.box_walk.specs.declared.journeys.Journey.TheVariants as journeys
 use Rattle.header_boxes.proofs.CellNumbers.{aligned_to_itself, aligned_to_more}
 use Rattle.header_boxes.specs.Terms.{IsAligned, IsValid, IsWithin, holds, low_of}
 use Rattle.vpc_base.specs.Cuts.{AreAmong, CutLists}
 use Rattle.vpc_laws.specs.Types.{Box5, Description, End, Header, Phase, Stop, Verdict}
-use Rattle.vpc_model.specs.Terms.{appliances_of, is_end, verdict_of}
+use Rattle.vpc_model.specs.Near.{near_cuts}
+use Rattle.vpc_model.specs.Terms.{appliances_of, is_end}
+use Rattle.vpc_model.specs.Verdict.{homes_among, verdict_by}
 use Rattle.vpc_model.specs.declared.outcomes.Verdict.TheVariants as verdicts
 use Rattle.journey_changes.specs.Terms.{Fate, IsToward, Sent, Toward, fate, fate_by, fate_of, fate_unless, goal_or, missing_by, near, reached, reached_by, sent, start_or}
 use Rattle.journey_changes.specs.declared.fates.Barrier.TheVariants as barriers
@@ -51,32 +55,26 @@ goal_described d towards.Any there = refl
 goal_described d towards.Missing there = refl
 goal_described d (towards.Goal goal) there = there
 
-some_start : (start : Option End) (s : End) → start ≡ Some s → Some (start_or start) ≡ start
-some_start start s is = ap (λ (o : Option End). Some (start_or o)) is ∙ sym is
+-- requests from a start that is there, toward what is meant
+pub from_start : (q : Sent) (s : End) (t : Toward) → q.start ≡ Some s → q.toward ≡ t → sent q.network (Some s) q.links t ≡ q
+from_start q s t is toward_is = ap (λ (o : Option End). sent q.network o q.links t) (sym is) ∙ ap (sent q.network q.start q.links) (sym toward_is)
 
-goal_toward : (toward : Toward) (goal : End) → toward ≡ towards.Goal goal → towards.Goal (goal_or toward) ≡ toward
-goal_toward toward goal is = ap (λ (t : Toward). towards.Goal (goal_or t)) is ∙ sym is
+-- what is asked of them without a goal
+pub open_sent : (q : Sent) (s : End) (asks : Starting) → q.start ≡ Some s → asks ≡ starting_by q.network (homes_among q.links (start_or q.start))
+    → asks ≡ starting_by q.network (homes_among q.links s)
+open_sent q s asks is same = same ∙ ap (λ (o : Option End). starting_by q.network (homes_among q.links (start_or o))) is
 
--- what a probe asks is what is sent
-module _ (q : Sent) (d : Description) (b s : End) (is : q.start ≡ Some s) where
-  pub open_sent : (t : Toward) → starting d b ≡ starting q.network (start_or q.start) → q.toward ≡ t → sent d (Some b) t ≡ q
-  open_sent t same toward_is =
-      ap (λ (x : Starting). sent x.network (Some x.start) t) same
-      ∙ (ap (λ (o : Option End). sent q.network o t) (some_start q.start s is) ∙ ap (sent q.network q.start) (sym toward_is))
-
-  round_sent : (g goal : End) → asked d b g ≡ asked q.network (start_or q.start) (goal_or q.toward) → q.toward ≡ towards.Goal goal → sent d (Some b) (towards.Goal g) ≡ q
-  round_sent g goal same toward_is =
-      ap (λ (x : Asking). sent x.network (Some x.start) (towards.Goal x.goal)) same
-      ∙ (ap (λ (o : Option End). sent q.network o (towards.Goal (goal_or q.toward))) (some_start q.start s is) ∙ ap (sent q.network q.start) (goal_toward q.toward goal toward_is))
-
-  -- the goal of a probe is the one that is meant
-  one_goal : (g goal : End) → asked d b g ≡ asked q.network (start_or q.start) (goal_or q.toward) → q.toward ≡ towards.Goal goal → g ≡ goal
-  one_goal g goal same toward_is = ap (λ (x : Asking). x.goal) same ∙ ap goal_or toward_is
+-- and with one
+round_sent : (q : Sent) (s goal : End) (asks : Asking) → q.start ≡ Some s → q.toward ≡ towards.Goal goal
+    → asks ≡ asked_by q.network (homes_among q.links (start_or q.start)) (goal_or q.toward) → asks ≡ asked_by q.network (homes_among q.links s) goal
+round_sent q s goal asks is toward_is same =
+    same ∙ (ap (λ (o : Option End). asked_by q.network (homes_among q.links (start_or o)) (goal_or q.toward)) is
+    ∙ ap (λ (t : Toward). asked_by q.network (homes_among q.links s) (goal_or t)) toward_is)
 
 -- ---- fates
 
 pub absent_fate : (q : Sent) (h : Header) → q.start ≡ None → fate q h ≡ Err barriers.Absent
-absent_fate q h none = ap (λ (o : Option End). fate_of q.network o q.toward h) none
+absent_fate q h none = ap (λ (o : Option End). fate_of q.network o q.links q.toward h) none
 
 pub absent_reached : (q : Sent) (h : Header) → q.start ≡ None → reached q h ≡ None
 absent_reached q h none = ap reached_by (absent_fate q h none)
@@ -88,8 +86,9 @@ by_missing (journeys.Stopped phase s) = refl
 -- toward an end that isn't there nothing gets through
 pub missing_reached : (q : Sent) (s : End) (h : Header) → q.start ≡ Some s → q.toward ≡ towards.Missing → reached q h ≡ None
 missing_reached q s h is toward_is =
-    ap (λ (t : Toward). reached_by (fate_of q.network q.start t h)) toward_is
-    ∙ (ap (λ (o : Option End). reached_by (fate_of q.network o towards.Missing h)) is ∙ by_missing (journey_of q.network (appliances_of q.network) s None h))
+    ap (λ (t : Toward). reached_by (fate_of q.network q.start q.links t h)) toward_is
+    ∙ (ap (λ (o : Option End). reached_by (fate_of q.network o q.links towards.Missing h)) is
+    ∙ by_missing (journey_of q.network (appliances_of q.network) (homes_among q.links s) None h))
 
 by_goal_reached : (goal : End) (v : Verdict) → goal_unless goal (whether (stop_of v)) ≡ reached_by (fate_by (journey_by goal v))
 by_goal_reached goal verdicts.Through = refl
@@ -101,40 +100,59 @@ by_goal_fate goal (verdicts.Stopped phase s) = refl
 
 -- ---- what the probes tell
 
-module _ (q : Sent) (d : Description) (b s : End) (part : Box5) (is : q.start ≡ Some s) where
-  pub any_reached : (x : Part Journey) (told : Option End) → starting d b ≡ starting q.network (start_or q.start) → q.toward ≡ towards.Any → told ≡ reached_by (fate_by x.told)
-      → AnswersJourney (starting d b) part x
+-- what becomes of requests from a start, toward any end
+abbrev onward : Sent → End → Header → Journey
+onward q s = journey_of q.network (appliances_of q.network) (homes_among q.links s) None
+
+module _ (q : Sent) (s : End) (part : Box5) (asks : Starting) (is : q.start ≡ Some s)
+    (same : asks ≡ starting_by q.network (homes_among q.links (start_or q.start))) where
+  of_start : (x : Part Journey) → AnswersJourney asks part x
+      → Answers (AreAmong (open_cuts q.network (appliances_of q.network) s (low_of part))) (onward q s) part x
+  of_start x k =
+      subst (λ (e : End). Answers (AreAmong (open_cuts q.network (appliances_of q.network) e (low_of part))) (onward q s) part x) (start_among q.links s)
+      (subst (λ (y : Starting). AnswersJourney y part x) (open_sent q s asks is same) k)
+
+  pub any_reached : (x : Part Journey) (told : Option End) → q.toward ≡ towards.Any → told ≡ reached_by (fate_by x.told) → AnswersJourney asks part x
       → Answers (AreAmong (near q (low_of part))) (reached q) part (record { body = x.body; told = told })
-  any_reached x told same toward_is says k =
-      told_in q (sent d (Some b) towards.Any) (journey_of d (appliances_of d) b None) reached part x told (λ j. reached_by (fate_by j))
-      (open_sent q d b s is towards.Any same toward_is) (λ h. refl) says k
+  any_reached x told toward_is says k =
+      told_in q (sent q.network (Some s) q.links towards.Any) (onward q s) reached part x told
+      (λ j. reached_by (fate_by j)) (from_start q s towards.Any is toward_is) (λ h. refl) says (of_start x k)
 
-  pub any_fate : (x : Part Journey) (told : Fate) → starting d b ≡ starting q.network (start_or q.start) → q.toward ≡ towards.Any → told ≡ fate_by x.told
-      → AnswersJourney (starting d b) part x
+  pub any_fate : (x : Part Journey) (told : Fate) → q.toward ≡ towards.Any → told ≡ fate_by x.told → AnswersJourney asks part x
       → Answers (AreAmong (near q (low_of part))) (fate q) part (record { body = x.body; told = told })
-  any_fate x told same toward_is says k =
-      told_in q (sent d (Some b) towards.Any) (journey_of d (appliances_of d) b None) fate part x told fate_by
-      (open_sent q d b s is towards.Any same toward_is) (λ h. refl) says k
+  any_fate x told toward_is says k =
+      told_in q (sent q.network (Some s) q.links towards.Any) (onward q s) fate part x told fate_by
+      (from_start q s towards.Any is toward_is) (λ h. refl) says (of_start x k)
 
-  pub missing_fate : (x : Part Journey) (told : Fate) → starting d b ≡ starting q.network (start_or q.start) → q.toward ≡ towards.Missing → told ≡ missing_by x.told
-      → AnswersJourney (starting d b) part x
+  pub missing_fate : (x : Part Journey) (told : Fate) → q.toward ≡ towards.Missing → told ≡ missing_by x.told → AnswersJourney asks part x
       → Answers (AreAmong (near q (low_of part))) (fate q) part (record { body = x.body; told = told })
-  missing_fate x told same toward_is says k =
-      told_in q (sent d (Some b) towards.Missing) (journey_of d (appliances_of d) b None) fate part x told missing_by
-      (open_sent q d b s is towards.Missing same toward_is) (λ h. refl) says k
+  missing_fate x told toward_is says k =
+      told_in q (sent q.network (Some s) q.links towards.Missing) (onward q s) fate part x told missing_by
+      (from_start q s towards.Missing is toward_is) (λ h. refl) says (of_start x k)
 
-  pub goal_reached : (g goal : End) (x : Part (Option (Unit {0}))) (told : Option End) → asked d b g ≡ asked q.network (start_or q.start) (goal_or q.toward) → q.toward ≡ towards.Goal goal
-      → told ≡ goal_unless goal x.told → AnswersStopped (asked d b g) part x
+-- toward a goal
+module _ (q : Sent) (s goal : End) (part : Box5) (asks : Asking) (is : q.start ≡ Some s) (toward_is : q.toward ≡ towards.Goal goal)
+    (same : asks ≡ asked_by q.network (homes_among q.links (start_or q.start)) (goal_or q.toward)) where
+  abbrev between : Asking
+  between = asked_by q.network (homes_among q.links s) goal
+
+  of_ends : {T : Type 0} (answer : Asking → Header → T) (x : Part T) → Answers (AreNear asks part) (answer asks) part x
+      → Answers (AreAmong (near_cuts q.network (appliances_of q.network) s goal (low_of part))) (answer between) part x
+  of_ends {T} answer x k =
+      subst (λ (e : End). Answers (AreAmong (near_cuts q.network (appliances_of q.network) e goal (low_of part))) (answer between) part x)
+      (start_among q.links s)
+      (subst (λ (y : Asking). Answers (AreNear y part) (answer y) part x) (round_sent q s goal asks is toward_is same) k)
+
+  pub goal_reached : (x : Part (Option (Unit {0}))) (told : Option End) → told ≡ goal_unless goal x.told → AnswersStopped asks part x
       → Answers (AreAmong (near q (low_of part))) (reached q) part (record { body = x.body; told = told })
-  goal_reached g goal x told same toward_is says k =
-      told_in q (sent d (Some b) (towards.Goal g)) (stopped_of (asked d b g)) reached part x told (goal_unless goal) (round_sent q d b s is g goal same toward_is)
-      (λ h. ap (λ (y : End). goal_unless y (stopped_of (asked d b g) h)) (sym (one_goal q d b s is g goal same toward_is)) ∙ by_goal_reached g (verdict_of d (appliances_of d) b g h))
-      says k
+  goal_reached x told says k =
+      told_in q (sent q.network (Some s) q.links (towards.Goal goal)) (stopped_of between) reached part x told (goal_unless goal)
+      (from_start q s (towards.Goal goal) is toward_is)
+      (λ h. by_goal_reached goal (verdict_by q.network (appliances_of q.network) (homes_among q.links s) goal h)) says (of_ends stopped_of x k)
 
-  pub goal_fate : (g goal : End) (x : Part (Option (Phase × Stop))) (told : Fate) → asked d b g ≡ asked q.network (start_or q.start) (goal_or q.toward) → q.toward ≡ towards.Goal goal
-      → told ≡ fate_unless goal x.told → AnswersWord (asked d b g) part x
+  pub goal_fate : (x : Part (Option (Phase × Stop))) (told : Fate) → told ≡ fate_unless goal x.told → AnswersWord asks part x
       → Answers (AreAmong (near q (low_of part))) (fate q) part (record { body = x.body; told = told })
-  goal_fate g goal x told same toward_is says k =
-      told_in q (sent d (Some b) (towards.Goal g)) (word_of (asked d b g)) fate part x told (fate_unless goal) (round_sent q d b s is g goal same toward_is)
-      (λ h. ap (λ (y : End). fate_unless y (word_of (asked d b g) h)) (sym (one_goal q d b s is g goal same toward_is)) ∙ by_goal_fate g (verdict_of d (appliances_of d) b g h))
-      says k
+  goal_fate x told says k =
+      told_in q (sent q.network (Some s) q.links (towards.Goal goal)) (word_of between) fate part x told (fate_unless goal)
+      (from_start q s (towards.Goal goal) is toward_is)
+      (λ h. by_goal_fate goal (verdict_by q.network (appliances_of q.network) (homes_among q.links s) goal h)) says (of_ends word_of x k)

@@ -6,6 +6,7 @@ use Rattle.described_hosts.specs.Hosts.{id_of}
 use Rattle.described_hosts.specs.Outside.{far_id}
 use Rattle.vpc_laws.specs.Types.{Description, End}
 use Rattle.vpc_model.specs.Appliances.{appliances_of}
+use Rattle.vpc_model.specs.Verdict.{homes_among}
 use Rattle.vpc_model.specs.declared.places.End.TheVariants as ends
 use Rattle.box_walk.specs.Journeys.{journey_of, reached_end}
 use Rattle.box_walk.specs.declared.journeys.Journey.{Journey}
@@ -69,8 +70,10 @@ reached-end (journeys.Reached end) = refl
 reached-end (journeys.Stopped phase s) = refl
 
 pub reached_is_reach : ReachedIsReach
-reached_is_reach d start h =
-    (reached-end (journey_of d (appliances_of d) start None h), λ goal. reached-end (journey_of d (appliances_of d) start (Some goal) h))
+reached_is_reach d start links h = (
+  reached-end (journey_of d (appliances_of d) (homes_among links start) None h),
+  λ goal. reached-end (journey_of d (appliances_of d) (homes_among links start) (Some goal) h),
+)
 
 -- ---- one network
 

@@ -2,17 +2,20 @@
 use Rattle.std.proofs.Common.{Bool, IfSome, List, None, Option, Some, [], ap, ap₂, cond, is_some, not, refl, subst, sym, true, ℕ, ◌&&◌, ◌==◌, ◌||◌, ◌∙◌, ◌∷◌, ◌≡◌}
 use Rattle.std.specs.List.{list_any}
 use Rattle.box_steps.specs.Passing.{is_passed}
-use Rattle.box_walk.specs.Terms.{AreArrivals, journey_of, reached_end, starting}
+use Rattle.box_walk.proofs.Homes.{start_among}
+use Rattle.box_walk.specs.Terms.{AreArrivals, Starting, journey_of, open_cuts, reached_end, starting_by}
 use Rattle.box_walk.specs.declared.arriving.Arrivals.{Arrivals}
 use Rattle.box_walk.specs.declared.journeys.Journey.{Journey}
 use Rattle.box_walk.specs.declared.journeys.Journey.TheVariants as journeys
+use Rattle.header_boxes.specs.Boxes.{low_of}
 use Rattle.prefix_text.specs.Block.{Block, holds}
 use Rattle.security_groups.specs.Terms.{BothGroups, GroupLists, GroupsLetInSame, HasRulesOf}
+use Rattle.vpc_base.specs.Cuts.{AreAmong}
 use Rattle.vpc_base.specs.declared.headers.Dir.TheVariants as dirs
 use Rattle.vpc_base.specs.declared.headers.Label.TheVariants as labels
-use Rattle.vpc_laws.specs.Types.{Box5, Description, End, EniNo, Header, Interface, RuleRef}
-use Rattle.vpc_model.specs.Terms.{Connection, appliances_of, first_rule, has_address, interface_at, is_eni, open_passing, passing_groups}
-use Rattle.journey_changes.proofs.Asked.{open_sent}
+use Rattle.vpc_laws.specs.Types.{Box5, Description, End, EniNo, FarNo, Header, Interface, RuleRef}
+use Rattle.vpc_model.specs.Terms.{Connection, appliances_of, first_rule, has_address, homes_among, interface_at, is_eni, open_passing, passing_groups}
+use Rattle.journey_changes.proofs.Asked.{from_start, open_sent}
 use Rattle.journey_changes.specs.Terms.{AskAlike, ComeTo, LetInAlike, Sent, fate_by, has_groups, reached_by, sent, start_or}
 use Rattle.journey_changes.specs.declared.fates.Toward.TheVariants as towards
 
@@ -22,19 +25,27 @@ reached-end : (j : Journey) → reached_by (fate_by j) ≡ reached_end j
 reached-end (journeys.Reached end) = refl
 reached-end (journeys.Stopped phase s) = refl
 
-come : (d : Description) (b : End) (sides : Box5) (x : Arrivals) → AreArrivals d (appliances_of d) b sides x → ComeTo (sent d (Some b) towards.Any) sides x
-come d b sides x k = record {
-  reached = λ h inside. reached-end (journey_of d (appliances_of d) b None h) ∙ k.reached h inside;
+come : (d : Description) (s : End) (links : List FarNo) (sides : Box5) (x : Arrivals) → AreArrivals d (appliances_of d) (homes_among links s) sides x
+    → ComeTo (sent d (Some s) links towards.Any) sides x
+come d s links sides x k = record {
+  reached = λ h inside. reached-end (journey_of d (appliances_of d) (homes_among links s) None h) ∙ k.reached h inside;
   end = k.end;
   valid = k.valid;
   body = k.body;
-  aligned = k.aligned;
+  aligned = λ cuts e.
+      k.aligned cuts (subst (λ (start : End). AreAmong (open_cuts d (appliances_of d) start (low_of sides)) cuts) (sym (start_among links s)) e);
 }
 
-pub come_if : (q : Sent) (d : Description) (b s : End) (sides : Box5) (found : Option Arrivals) → q.start ≡ Some s → starting d b ≡ starting q.network (start_or q.start) → q.toward ≡ towards.Any
-    → IfSome found (AreArrivals d (appliances_of d) b sides) → IfSome found (ComeTo q sides)
-come_if q d b s sides None is same toward k = tt
-come_if q d b s sides (Some x) is same toward k = subst (λ (r : Sent). ComeTo r sides x) (open_sent q d b s is towards.Any same toward) (come d b sides x k)
+-- what a probe finds, whatever it asks
+abbrev pub AreArrivalsOf : Starting → Box5 → Arrivals → Type 0
+AreArrivalsOf asks sides x = AreArrivals asks.network (appliances_of asks.network) asks.homes sides x
+
+pub come_if : (q : Sent) (s : End) (asks : Starting) (sides : Box5) (found : Option Arrivals) → q.start ≡ Some s
+    → asks ≡ starting_by q.network (homes_among q.links (start_or q.start)) → q.toward ≡ towards.Any → IfSome found (AreArrivalsOf asks sides) → IfSome found (ComeTo q sides)
+come_if q s asks sides None is same toward k = tt
+come_if q s asks sides (Some x) is same toward k =
+    subst (λ (r : Sent). ComeTo r sides x) (from_start q s towards.Any is toward)
+    (come q.network s q.links sides x (subst (λ (y : Starting). AreArrivalsOf y sides x) (open_sent q s asks is same) k))
 
 -- ---- interfaces that let in the same
 

@@ -1,15 +1,16 @@
 -- Changes can be told: the ends that are reached are described, and the stops have texts.
-use Rattle.std.proofs.Common.{◌≡◌, [], Bool, Err, IfSome, None, Ok, Option, Some, ap, cond, false, subst, true}
+use Rattle.std.proofs.Common.{◌≡◌, [], Bool, Err, IfSome, List, None, Ok, Option, Some, ap, cond, false, subst, sym, true}
 use Rattle.box_walk.specs.Journeys.{journey_after, journey_by, journey_of}
 use Rattle.box_walk.specs.declared.journeys.Journey.{Journey}
 use Rattle.box_walk.specs.declared.journeys.Journey.TheVariants as journeys
+use Rattle.box_walk.proofs.Homes.{start_among, verdicts_by_are_told}
 use Rattle.box_walk.proofs.JourneyLemmas.{same-itself}
 use Rattle.vpc_base.specs.Header.{reply_of}
 use Rattle.vpc_base.specs.declared.headers.Label.TheVariants as labels
-use Rattle.vpc_laws.proofs.Telling.{start-sound, verdicts_are_told, walks_are_sound}
+use Rattle.vpc_laws.proofs.Telling.{start-sound, walks_are_sound}
 use Rattle.vpc_laws.specs.Sound.{EndsWell, IsTold}
-use Rattle.vpc_laws.specs.Types.{Description, End, Header, Outcome, Verdict}
-use Rattle.vpc_model.specs.Terms.{Appliances, IsAccepted, Walk, alone, appliances_of, has_text, is_end, request_walk, same_end, start_of, verdict_of, verdict_of_arrival, verdict_of_request}
+use Rattle.vpc_laws.specs.Types.{Description, End, FarNo, Header, Outcome, Verdict}
+use Rattle.vpc_model.specs.Terms.{Appliances, Homes, IsAccepted, Walk, appliances_of, has_text, homes_among, is_end, request_walk, same_end, start_of, verdict_by, verdict_of_arrival, verdict_of_request}
 use Rattle.vpc_model.specs.declared.outcomes.Outcome.TheVariants as outcomes
 use Rattle.vpc_model.specs.declared.outcomes.Phase.TheVariants as phases
 use Rattle.vpc_model.specs.declared.outcomes.Verdict.TheVariants as verdicts
@@ -30,34 +31,35 @@ by_verdict d end verdicts.Through there told = there
 by_verdict d end (verdicts.Stopped phase s) there told = told
 
 -- a request that has arrived at an end is judged as one toward it
-arrived : (d : Description) (a : Appliances) (start end : End) (h k : Header) (w : Walk)
-    → verdict_of_request d a (alone start) end h w (outcomes.Arrived end k) ≡ verdict_of_arrival d a (alone start) end h w (reply_of k)
-arrived d a start end h k w =
-    ap (λ (b : Bool). cond b (verdict_of_arrival d a (alone start) end h w (reply_of k)) (verdicts.Stopped phases.Request (stops.WrongPlace end))) (same-itself end)
+arrived : (d : Description) (a : Appliances) (homes : Homes) (end : End) (h k : Header) (w : Walk)
+    → verdict_of_request d a homes end h w (outcomes.Arrived end k) ≡ verdict_of_arrival d a homes end h w (reply_of k)
+arrived d a homes end h k w =
+    ap (λ (b : Bool). cond b (verdict_of_arrival d a homes end h w (reply_of k)) (verdicts.Stopped phases.Request (stops.WrongPlace end))) (same-itself end)
 
-by_place : (d : Description) (a : Appliances) (start end : End) (h k : Header) (w : Walk) (back : Bool) → is_end d end ≡ true
-    → IsTold d (verdict_of_arrival d a (alone start) end h w (reply_of k))
-    → EndsTold d (cond back (journeys.Stopped phases.Request (stops.WrongPlace end)) (journey_by end (verdict_of_arrival d a (alone start) end h w (reply_of k))))
-by_place d a start end h k w true there told = there
-by_place d a start end h k w false there told = by_verdict d end (verdict_of_arrival d a (alone start) end h w (reply_of k)) there told
+by_place : (d : Description) (a : Appliances) (homes : Homes) (end : End) (h k : Header) (w : Walk) (back : Bool) → is_end d end ≡ true
+    → IsTold d (verdict_of_arrival d a homes end h w (reply_of k))
+    → EndsTold d (cond back (journeys.Stopped phases.Request (stops.WrongPlace end)) (journey_by end (verdict_of_arrival d a homes end h w (reply_of k))))
+by_place d a homes end h k w true there told = there
+by_place d a homes end h k w false there told = by_verdict d end (verdict_of_arrival d a homes end h w (reply_of k)) there told
 
-by_outcome : (d : Description) (a : Appliances) (start : End) (h : Header) (w : Walk) (o : Outcome) → EndsWell d o
-    → ((end : End) → is_end d end ≡ true → IsTold d (verdict_of_request d a (alone start) end h w o)) → EndsTold d (journey_after d a start h w o)
-by_outcome d a start h w (outcomes.Stopped s) well judged = well
-by_outcome d a start h w (outcomes.Arrived end k) well judged =
-    by_place d a start end h k w (same_end end start) well (subst (IsTold d) (arrived d a start end h k w) (judged end well))
+by_outcome : (d : Description) (a : Appliances) (homes : Homes) (h : Header) (w : Walk) (o : Outcome) → EndsWell d o
+    → ((end : End) → is_end d end ≡ true → IsTold d (verdict_of_request d a homes end h w o)) → EndsTold d (journey_after d a homes h w o)
+by_outcome d a homes h w (outcomes.Stopped s) well judged = well
+by_outcome d a homes h w (outcomes.Arrived end k) well judged =
+    by_place d a homes end h k w (same_end end homes.start) well (subst (IsTold d) (arrived d a homes end h k w) (judged end well))
 
-open_told : (d : Description) (start : End) (h : Header) → IsAccepted d → is_end d start ≡ true → EndsTold d (journey_of d (appliances_of d) start None h)
-open_told d start h accepted there =
+open_told : (d : Description) (homes : Homes) (h : Header) → IsAccepted d → is_end d homes.start ≡ true
+    → EndsTold d (journey_of d (appliances_of d) homes None h)
+open_told d homes h accepted there =
     let a = appliances_of d in
-    let w = request_walk d a start h in
-    let sound = walks_are_sound d a labels.Opening (record { place = start_of start; header = h; conns = []; nats = [] }) accepted (start-sound d start there) in
-    by_outcome d a start h w w.outcome sound.1 (λ end described. verdicts_are_told d a start end h accepted there described)
+    let w = request_walk d a homes.start h in
+    let sound = walks_are_sound d a labels.Opening (record { place = start_of homes.start; header = h; conns = []; nats = [] }) accepted (start-sound d homes.start there) in
+    by_outcome d a homes h w w.outcome sound.1 (λ end described. verdicts_by_are_told d a homes end h accepted there described)
 
-goal_told : (d : Description) (start goal : End) (h : Header) → IsAccepted d → is_end d start ≡ true → is_end d goal ≡ true
-    → EndsTold d (journey_of d (appliances_of d) start (Some goal) h)
-goal_told d start goal h accepted there described =
-    by_verdict d goal (verdict_of d (appliances_of d) start goal h) described (verdicts_are_told d (appliances_of d) start goal h accepted there described)
+goal_told : (d : Description) (homes : Homes) (goal : End) (h : Header) → IsAccepted d → is_end d homes.start ≡ true → is_end d goal ≡ true
+    → EndsTold d (journey_of d (appliances_of d) homes (Some goal) h)
+goal_told d homes goal h accepted there described =
+    by_verdict d goal (verdict_by d (appliances_of d) homes goal h) described (verdicts_by_are_told d (appliances_of d) homes goal h accepted there described)
 
 -- ---- fates
 
@@ -73,17 +75,19 @@ missing_journey : (d : Description) (j : Journey) → EndsTold d j → IsFateTol
 missing_journey d (journeys.Reached end) told = told
 missing_journey d (journeys.Stopped phase s) told = told
 
-from_told : (d : Description) (start : End) (toward : Toward) (h : Header) → IsAccepted d → is_end d start ≡ true → IsToward d toward → IsFateTold d (fate_from d start toward h)
-from_told d start towards.Any h accepted there known = by_journey d (journey_of d (appliances_of d) start None h) (open_told d start h accepted there)
-from_told d start towards.Missing h accepted there known = missing_journey d (journey_of d (appliances_of d) start None h) (open_told d start h accepted there)
-from_told d start (towards.Goal goal) h accepted there known =
-    by_journey d (journey_of d (appliances_of d) start (Some goal) h) (goal_told d start goal h accepted there known)
+from_told : (d : Description) (homes : Homes) (toward : Toward) (h : Header) → IsAccepted d → is_end d homes.start ≡ true → IsToward d toward
+    → IsFateTold d (fate_from d homes toward h)
+from_told d homes towards.Any h accepted there known = by_journey d (journey_of d (appliances_of d) homes None h) (open_told d homes h accepted there)
+from_told d homes towards.Missing h accepted there known = missing_journey d (journey_of d (appliances_of d) homes None h) (open_told d homes h accepted there)
+from_told d homes (towards.Goal goal) h accepted there known =
+    by_journey d (journey_of d (appliances_of d) homes (Some goal) h) (goal_told d homes goal h accepted there known)
 
 -- what becomes of a request can be told
-pub fate_told : (d : Description) (start : Option End) (toward : Toward) (h : Header) → IsAccepted d → IfSome start (λ e. is_end d e ≡ true) → IsToward d toward
-    → IsFateTold d (fate_of d start toward h)
-fate_told d None toward h accepted there known = tt
-fate_told d (Some start) toward h accepted there known = from_told d start toward h accepted there known
+pub fate_told : (d : Description) (start : Option End) (links : List FarNo) (toward : Toward) (h : Header) → IsAccepted d
+    → IfSome start (λ e. is_end d e ≡ true) → IsToward d toward → IsFateTold d (fate_of d start links toward h)
+fate_told d None links toward h accepted there known = tt
+fate_told d (Some start) links toward h accepted there known =
+    from_told d (homes_among links start) toward h accepted (subst (λ (e : End). is_end d e ≡ true) (sym (start_among links start)) there) known
 
 -- ---- changes
 
@@ -104,5 +108,5 @@ by_fates before after (Ok e) (Ok f) change one other is = by_ids before after (h
 pub changes_are_tellable : ChangesAreTellable
 changes_are_tellable before after h change first second one other is =
     by_fates before.network after.network (fate before h) (fate after h) change
-    (fate_told before.network before.start before.toward h first one.start one.toward)
-    (fate_told after.network after.start after.toward h second other.start other.toward) is
+    (fate_told before.network before.start before.links before.toward h first one.start one.toward)
+    (fate_told after.network after.start after.links after.toward h second other.start other.toward) is

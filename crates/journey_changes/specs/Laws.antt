@@ -1,9 +1,10 @@
 -- Laws of changes.
-use Rattle.std.specs.Prelude.{◌≡◌, ◌↔◌, None, Option, Some, option_map}
+use Rattle.std.specs.Prelude.{◌≡◌, ◌↔◌, List, None, Option, Some, option_map}
 use Rattle.box_walk.specs.Journeys.{reached_of}
 use Rattle.vpc_base.specs.declared.headers.Header.{Header}
-use Rattle.vpc_laws.specs.Types.{Description, End}
+use Rattle.vpc_laws.specs.Types.{Description, End, FarNo}
 use Rattle.vpc_model.specs.Appliances.{appliances_of}
+use Rattle.vpc_model.specs.Verdict.{homes_among}
 use Rattle.journey_changes.specs.Changes.{change_of}
 use Rattle.journey_changes.specs.Sent.{Sent, reached, sent}
 use Rattle.journey_changes.specs.declared.changes.Change.{Change}
@@ -40,9 +41,9 @@ AllIsOpenedFromNothing =
 -- what a request reaches is what `reach` tells: toward a goal, or without one
 abbrev pub ReachedIsReach : Type 0
 ReachedIsReach =
-    (d : Description) (start : End) (h : Header)
-    → (reached (sent d (Some start) towards.Any) h ≡ reached_of d (appliances_of d) start None h)
-    × ((goal : End) → reached (sent d (Some start) (towards.Goal goal)) h ≡ reached_of d (appliances_of d) start (Some goal) h)
+    (d : Description) (start : End) (links : List FarNo) (h : Header)
+    → (reached (sent d (Some start) links towards.Any) h ≡ reached_of d (appliances_of d) (homes_among links start) None h)
+    × ((goal : End) → reached (sent d (Some start) links (towards.Goal goal)) h ≡ reached_of d (appliances_of d) (homes_among links start) (Some goal) h)
 
 -- ---- one network
 

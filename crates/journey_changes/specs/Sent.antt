@@ -1,9 +1,9 @@
 -- Requests that are sent in one network, and the cuts that their fates depend on.
-use Rattle.std.specs.Prelude.{◌≡◌, IfSome, None, Option, Some, true}
+use Rattle.std.specs.Prelude.{◌≡◌, IfSome, List, None, Option, Some, true}
 use Rattle.box_walk.specs.Journeys.{open_cuts}
 use Rattle.vpc_base.specs.Cuts.{CutLists, no_cuts}
 use Rattle.vpc_base.specs.declared.headers.Header.{Header}
-use Rattle.vpc_laws.specs.Types.{Description, End}
+use Rattle.vpc_laws.specs.Types.{Description, End, FarNo}
 use Rattle.vpc_model.specs.Appliances.{appliances_of}
 use Rattle.vpc_model.specs.Near.{near_cuts}
 use Rattle.vpc_model.specs.Sound.{is_end}
@@ -12,18 +12,19 @@ use Rattle.journey_changes.specs.Fates.{Fate, fate_of, reached_by}
 use Rattle.journey_changes.specs.declared.fates.Toward.{Toward}
 use Rattle.journey_changes.specs.declared.fates.Toward.TheVariants as towards
 
--- a described network, a start if it has it, and where requests are to arrive
+-- a described network, a start if it has it, the links that are taken to lead to one network, and where requests are to arrive
 pub record Sent : Type 0 where
   pub network : Description
   pub start : Option End
+  pub links : List FarNo
   pub toward : Toward
 
-abbrev pub sent : Description → Option End → Toward → Sent
-sent d start toward = record { network = d; start = start; toward = toward }
+abbrev pub sent : Description → Option End → List FarNo → Toward → Sent
+sent d start links toward = record { network = d; start = start; links = links; toward = toward }
 
 -- what becomes of a request with this header
 abbrev pub fate : Sent → Header → Fate
-fate s h = fate_of s.network s.start s.toward h
+fate s h = fate_of s.network s.start s.links s.toward h
 
 -- the end that it reaches
 abbrev pub reached : Sent → Header → Option End

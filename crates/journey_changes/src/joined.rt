@@ -92,12 +92,12 @@ impl<'a> ChangeProbe<'a> {
 
     /// Asks about requests from other starts from here on, by the same moments.
     pub fn turn(&mut self, before: Option<End>, after: Option<End>)
-        requires before { AreSentWell (sent self.old.before.sent.network before self.old.before.sent.toward) }
-        requires after { AreSentWell (sent self.old.after.sent.network after self.old.after.sent.toward) }
-        ensures before { self.new.before.sent
-            ≡ sent self.old.before.sent.network before self.old.before.sent.toward }
-        ensures after { self.new.after.sent
-            ≡ sent self.old.after.sent.network after self.old.after.sent.toward }
+        requires before { let s = self.old.before.sent in AreSentWell (sent s.network before s.links s.toward) }
+        requires after { let s = self.old.after.sent in AreSentWell (sent s.network after s.links s.toward) }
+        ensures before { let s = self.old.before.sent in
+            self.new.before.sent ≡ sent s.network before s.links s.toward }
+        ensures after { let s = self.old.after.sent in
+            self.new.after.sent ≡ sent s.network after s.links s.toward }
     {
         self.before.turn(before);
         self.after.turn(after);

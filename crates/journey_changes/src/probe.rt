@@ -4,8 +4,9 @@ ghost use Rattle.vpc_base.specs.Cuts.{AreAmong};
 ghost use Rattle.header_boxes.specs.Boxes.{IsValid, low_of};
 ghost use Rattle.box_images.specs.Answers.{Answers};
 ghost use Rattle.vpc_model.specs.Appliances.{appliances_of};
-ghost use Rattle.box_walk.specs.Asking.{asked};
-ghost use Rattle.box_walk.specs.Open.{starting};
+ghost use Rattle.vpc_model.specs.Verdict.{homes_among};
+ghost use Rattle.box_walk.specs.Asking.{asked_by, homes_by};
+ghost use Rattle.box_walk.specs.Open.{starting_by};
 ghost use Rattle.journey_changes.specs.Alike.{ComeTo};
 ghost use Rattle.journey_changes.specs.Sent.{AreSentWell, fate, goal_or, near, reached, sent, start_or};
 
@@ -18,13 +19,15 @@ use header_boxes::Box5;
 use ordered_cover::Probe;
 use reference_check::Network;
 use std::marker::Model;
-use vpc_model::End;
+use vpc_model::{End, FarNo};
 
 // Requests from a start, where the network has it, and where they are to arrive.
 #[derive(Drop)]
 struct Requests<'a> {
     fabric: &'a Fabric,
     start: Option<End>,
+    // What is taken to lead to one network, where the start is one that isn't described.
+    links: &'a [FarNo],
     toward: Toward,
 }
 
@@ -33,7 +36,7 @@ impl<'a> Model for Requests<'a> {
 
     ghost Value = { Sent };
 
-    ghost view = { λ r. sent r.fabric.now r.start r.toward };
+    ghost view = { λ r. sent r.fabric.now r.start r.links.now r.toward };
 }
 
 impl<'a> Requests<'a> {
@@ -55,6 +58,12 @@ impl<'a> Requests<'a> {
         self.start
     }
 
+    fn links(&self) -> &'a [FarNo]
+        ensures { result.now ≡ self.now.links }
+    {
+        self.links
+    }
+
     fn toward(&self) -> Toward
         ensures { result ≡ self.now.toward }
     {
@@ -62,7 +71,7 @@ impl<'a> Requests<'a> {
     }
 
     fn turn(&mut self, start: Option<End>)
-        ensures { self.new ≡ sent self.old.network start self.old.toward }
+        ensures { self.new ≡ sent self.old.network start self.old.links self.old.toward }
     {
         self.start = start;
     }
@@ -71,14 +80,15 @@ impl<'a> Requests<'a> {
 /// What becomes of requests that are sent in one network. A part that is answered is one on which the answer depends on
 /// the cuts at the places of the journey alone.
 pub struct FateProbe<'a> {
-    // Contracts see it as the network, the start and where requests are to arrive.
+    // Contracts see it as the network, the start, the links and where requests are to arrive.
     sent: Requests<'a>,
     // Where the network has no such start, or there is no goal, these are never asked.
     open: OpenProbe<'a>,
     round: RoundProbe<'a>,
-    ghost same_open: { starting open.fabric.now open.start ≡ starting sent.network (start_or sent.start) },
-    ghost same_round: { asked round.fabric.now round.start round.goal
-        ≡ asked sent.network (start_or sent.start) (goal_or sent.toward) },
+    ghost same_open: { starting_by open.fabric.now (homes_by open.links.now open.start)
+        ≡ starting_by sent.network (homes_among sent.links (start_or sent.start)) },
+    ghost same_round: { asked_by round.fabric.now (homes_by round.links.now round.start) round.goal
+        ≡ asked_by sent.network (homes_among sent.links (start_or sent.start)) (goal_or sent.toward) },
 }
 
 impl<'a> Drop for FateProbe<'a> {
@@ -110,37 +120,43 @@ fn goal_or(toward: Toward) -> End
 }
 
 impl<'a> FateProbe<'a> {
-    /// The probe for requests from the start, where the network has it, with the appliances that it describes.
+    /// The probe for requests from the start, where the network has it, with the appliances that it describes. Where the
+    /// start is a network that isn't described, it is taken to lie behind each of the `links`, and replies may arrive there.
     pub fn of(
         f: &'a Fabric,
         deciders: &'a Deciders,
         start: Option<End>,
+        links: &'a [FarNo],
         toward: Toward,
     ) -> FateProbe<'a>
         requires appliances { deciders.now.appliances ≡ appliances_of f.now }
-        requires ends { AreSentWell (sent f.now start toward) }
-        ensures { result.sent ≡ sent f.now start toward }
+        requires ends { AreSentWell (sent f.now start links.now toward) }
+        ensures { result.sent ≡ sent f.now start links.now toward }
     {
-        FateProbe {
-            sent: Requests {
-                fabric: f,
-                start,
-                toward,
-            },
-            open: OpenProbe::of(f, deciders, start_or(start)),
-            round: RoundProbe::of(f, deciders, start_or(start), goal_or(toward)),
-        }
+        let mut open = OpenProbe::of(f, deciders, start_or(start));
+        open.turn_among(start_or(start), links);
+        let mut round = RoundProbe::of(f, deciders, start_or(start), goal_or(toward));
+        round.turn_among(start_or(start), links, goal_or(toward));
+        let sent = Requests {
+            fabric: f,
+            start,
+            links,
+            toward,
+        };
+        FateProbe { sent, open, round }
     }
 
     /// Asks about requests from another start from here on, by the same moments: many starts are asked about by one probe.
     pub fn turn(&mut self, start: Option<End>)
-        requires { AreSentWell (sent self.old.sent.network start self.old.sent.toward) }
-        ensures { self.new.sent ≡ sent self.old.sent.network start self.old.sent.toward }
+        requires { AreSentWell (sent self.old.sent.network start self.old.sent.links self.old.sent.toward) }
+        ensures { self.new.sent
+            ≡ sent self.old.sent.network start self.old.sent.links self.old.sent.toward }
     {
         self.sent.turn(start);
-        self.open.turn(start_or(start));
+        let links = self.sent.links();
+        self.open.turn_among(start_or(start), links);
         self.round
-            .turn(start_or(start), goal_or(self.sent.toward()));
+            .turn_among(start_or(start), links, goal_or(self.sent.toward()));
     }
 
     /// Requests of a part of the sides that come to one interface by the same places, where they may arrive at any end.

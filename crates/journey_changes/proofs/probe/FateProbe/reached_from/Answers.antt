@@ -1,4 +1,6 @@
 use Rattle.std.proofs.Common.{◌∙◌, None, ap, sym}
+use Rattle.box_walk.specs.Asking.{asked_by, homes_by}
+use Rattle.box_walk.specs.Open.{starting_by}
 use Rattle.header_boxes.specs.Boxes.{low_of}
 use Rattle.vpc_base.specs.Cuts.{AreAmong}
 use Rattle.journey_changes.specs.Fates.{reached_by}
@@ -15,11 +17,13 @@ returns-in-Missing g c =
 pub returns-in-Any : goal.returns-in-Any
 returns-in-Any g c =
     let p = c.args.self.now in
-    any_reached p.sent p.open.fabric.now p.open.start c.args.start c.args.sides.now c.requires.start c.journey_on-answer.result c.reached_by.result
-    p.same_open (sym c.toward.ensures ∙ c.in-Any.is) (c.reached_by.ensures ∙ ap reached_by c.fate_by.ensures) c.journey_on-answer.ensures
+    let asks = starting_by p.open.fabric.now (homes_by p.open.links.now p.open.start) in
+    any_reached p.sent c.args.start c.args.sides.now asks c.requires.start p.same_open c.journey_on-answer.result c.reached_by.result
+    (sym c.toward.ensures ∙ c.in-Any.is) (c.reached_by.ensures ∙ ap reached_by c.fate_by.ensures) c.journey_on-answer.ensures
 
 pub returns-in-Goal : goal.returns-in-Goal
 returns-in-Goal g c =
     let p = c.args.self.now in
-    goal_reached p.sent p.round.fabric.now p.round.start c.args.start c.args.sides.now c.requires.start p.round.goal c.in-Goal.goal c.is_stopped_on-answer.result c.goal_unless.result
-    p.same_round (sym c.toward.ensures ∙ c.in-Goal.is) c.goal_unless.ensures c.is_stopped_on-answer.ensures
+    let asks = asked_by p.round.fabric.now (homes_by p.round.links.now p.round.start) p.round.goal in
+    goal_reached p.sent c.args.start c.in-Goal.goal c.args.sides.now asks c.requires.start (sym c.toward.ensures ∙ c.in-Goal.is) p.same_round
+    c.is_stopped_on-answer.result c.goal_unless.result c.goal_unless.ensures c.is_stopped_on-answer.ensures
