@@ -44,7 +44,7 @@ class Diff(rows_model.Question):
 
     def is_told(self, start, header):
         """The change of what becomes of the header."""
-        answers = [model.journey_toward(it, start, self.goal, header) for it in self.networks]
+        answers = [model.journey_toward(it, start, self.goal, header, self.back_at(it, start)) for it in self.networks]
         return model.change(*answers), answers
 
     @staticmethod

@@ -801,6 +801,7 @@ QUESTIONS = [
     ("shop", "reach", "from internet", ["In 10 boxes all packets get through", "From the internet to eni-web (web-1):", "  Row 1: tcp from 1.0.0.0-3.4.255.255 to 203.0.113.10, port 443."]),
     ("shop", "reach", "from internet max 1", ["In 1 box all packets", "The text was cut short: tcp from", "is the first packet that it leaves out, and it gets through too."]),
     ("shop", "reach", "from eni-db to eni-web port 1-1", ["No packet is known to get through."]),
+    ("hub", "reach", "to eni-prod-1 src 10.60.0.0/16 sport 1024-65535", ["From tgw-attach-lab to eni-prod-1", "What leads outside is taken to lead to one network, since no start was named: a reply may come back by another link than its request."]),
     ("shop", "matrix", "", ["Of 3 interfaces, 6 pairs: 4 open something, 2 open nothing that is known, and 0 have no address.", "eni-db (db-1) is reached on tcp 5432 from eni-app (app-1)."]),
     ("one-subnet", "unused", "from eni-a to eni-b", ["Of 4 rules 2 decide nothing of this query.", "Without inbound row 100 of acl-1, which allows all protocols from anywhere, nothing would be otherwise.",
                                                     "Without inbound rule 1 of sg-b, which allows tcp 443 from 10.0.1.0/24, it would be otherwise of tcp from 10.0.1.10 port 0 to 10.0.1.20 port 443."]),

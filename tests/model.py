@@ -843,6 +843,13 @@ def may_start(end):
     return not isinstance(end, Far) or end.kind != "endpoint"
 
 
+def homes(network, start, starts):
+    """The ends at which the reply to a request of a start may arrive, where a question has these starts (by their names): the far ends
+    among them are links to one network."""
+    links = [it for it in starts if network.is_end(it) and isinstance(network.end(it), Far) and may_start(network.end(it))]
+    return links if start in links else [start]
+
+
 class Answer(NamedTuple):
     """What becomes of a request: the end that it reaches, or the phase and the stop. The walks are beside it."""
     reached: object
@@ -857,11 +864,13 @@ class Answer(NamedTuple):
         return (self.phase, self.stop.value) if self.stop else self.reached
 
 
-def journey(network, start, goal, header):
-    """The header from the start, with a goal or with ANY; the start and the goal by their names."""
+def journey(network, start, goal, header, back_at=None):
+    """The header from the start, with a goal or with ANY; the start and the goal by their names. The reply has to arrive at the start, or at
+    one of the ends that are named in its place."""
     if not network.is_end(start):
         return Answer(None, "request", Stop("Absent", start), [])
     start, goal = network.end(start), goal if goal is ANY else network.end(goal)
+    back_at = [start] if back_at is None else [network.end(it) for it in back_at]
     request = Walk(network, "open", [], [])
     end, arrived = request.follow(first_place(start), header)
     if isinstance(end, Stop):
@@ -874,7 +883,7 @@ def journey(network, start, goal, header):
     back, returned = reply.follow(first_place(end), arrived.reply())
     if isinstance(back, Stop):
         return Answer(None, "reply", back, [request, reply])
-    if back != start or returned != header.reply():
+    if back not in back_at or returned != header.reply():
         return Answer(None, "reply", Stop("WrongReturn", name_of(back)), [request, reply])
     return Answer(end, None, None, [request, reply])
 
@@ -884,11 +893,11 @@ def verdict(network, start, goal, header):
     return journey(network, start, goal, header)
 
 
-def journey_toward(network, start, goal, header):
+def journey_toward(network, start, goal, header, back_at=None):
     """As `journey`; a goal that the network doesn't have is reached by nothing."""
     if goal is ANY or network.is_end(goal):
-        return journey(network, start, goal, header)
-    it = journey(network, start, ANY, header)
+        return journey(network, start, goal, header, back_at)
+    it = journey(network, start, ANY, header, back_at)
     return it if it.stop else Answer(None, "request", Stop("WrongPlace", name_of(it.reached)), it.walks)
 
 

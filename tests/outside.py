@@ -153,6 +153,26 @@ def with_transit_route(network, table, destination, attachment):
     return network
 
 
+def without_link(network, name):
+    """What leads there isn't told; routes to it are."""
+    network["TransitGatewayAttachments"] = [it for it in network["TransitGatewayAttachments"] if it["TransitGatewayAttachmentId"] != name]
+    return network
+
+
+def back_to_the_other():
+    """From the VPN packets for 172.30.0.0/16 go to Direct Connect, and what comes back from there to 172.20.0.0/16 goes there again."""
+    network = with_transit_route(behind_transit("att-vpn"), "tgw-rtb-a", "172.30.0.0/16", "att-dx")
+    return with_transit_route(network, "tgw-rtb-a", "172.20.0.0/16", "att-dx")
+
+
+def two_links_and_a_service():
+    """A virtual private gateway and a peering, to whose blocks a route leads by the gateway; and a gateway endpoint."""
+    network = {**behind_gateway(), **S3, "VpcEndpoints": [endpoint("vpc-1")], "VpcPeeringConnections": half_peered(CidrBlock="10.0.0.0/16")["VpcPeeringConnections"]}
+    add_route(network, "rtb-1", "10.9.0.0/16", GatewayId="vgw-1")
+    add_route(network, "rtb-1", "pl-s3", GatewayId="vpce-s3")
+    return network
+
+
 def without_association(network):
     row_of(network, "TransitGatewayAttachments", "TransitGatewayAttachmentId", "att-vpn").pop("Association")
     return network
@@ -214,15 +234,30 @@ BY_WORDS = [
 ALL = "0-65535"
 FROM_VPN = f"6-6 172.20.0.0-172.20.255.255 10.2.1.10-10.2.1.10 {ALL} 443-443"
 ROUTED_BACK = f"6-6 172.20.0.0-172.20.255.255 10.0.2.20-10.0.2.20 {ALL} 22-22"
+TO_B, OVER = "to eni-b src 172.20.0.0/16 dst 10.2.1.10/32 port 443-443", "src 172.20.0.0/16 dst 172.30.0.0/16 port 443-443"
+BY_PEERING = f"eni-b 6-6 10.9.0.0-10.9.255.255 10.0.2.20-10.0.2.20 {ALL} 22-22"
 BY_ROWS = [
-    # (each link is a network of its own: replies return by the link of their request)
-    (Reach, [behind_transit("att-dx")], "to eni-b src 172.20.0.0/16 dst 10.2.1.10/32 port 443-443", [f"att-dx eni-b {FROM_VPN}"], {"att-dx", "att-vpn"}),
-    (Reach, [behind_transit("att-dx")], "from att-vpn to eni-b src 172.20.0.0/16 dst 10.2.1.10/32 port 443-443", [], set()),
-    (Reach, [behind_gateway()], "from vgw-1 port 22-22", [f"vgw-1 eni-b {ROUTED_BACK}"], set()),
-    (Reach, [behind_gateway()], "to vgw-1 port 443-443", [f"eni-a vgw-1 6-6 10.0.1.10-10.0.1.10 172.20.0.0-172.20.255.255 {ALL} 443-443"], set()),
+    # (without `from`, links lead to one network: a reply may take another than the request)
+    (Reach, [behind_transit("att-dx")], TO_B, [f"att-dx eni-b {FROM_VPN}", f"att-vpn eni-b {FROM_VPN}"]),
+    (Reach, [behind_transit("att-dx")], f"from att-vpn {TO_B}", []),
+    (Reach, [behind_transit("att-dx")], f"from att-dx {TO_B}", [f"att-dx eni-b {FROM_VPN}"]),
+    (Reach, [back_to_the_other()], OVER, [f"att-vpn att-dx 6-6 172.20.0.0-172.20.255.255 172.30.0.0-172.30.255.255 {ALL} 443-443"]),
+    # (what is the goal, or a service, is no link)
+    (Reach, [back_to_the_other()], f"to att-dx {OVER}", []),
+    (Reach, [two_links_and_a_service()], "to eni-b src 10.9.0.0/16 dst 10.0.2.20/32 port 22-22", [f"pcx-1 {BY_PEERING}", f"vgw-1 {BY_PEERING}"]),
+    (Reach, [two_links_and_a_service()], "to eni-b src 52.216.0.0/16 dst 10.0.2.20/32 port 22-22", []),
+    # (in each of two networks they are those that it has)
+    (Diff, [without_link(behind_transit("att-dx"), "att-dx"), behind_transit("att-dx")], TO_B,
+     [f"att-dx opened eni-b request Absent att-dx - {FROM_VPN}", f"att-vpn opened eni-b reply Unmodelled att-dx - {FROM_VPN}"]),
+    (Diff, [behind_transit("att-dx"), without_link(behind_transit("att-dx"), "att-dx")], TO_B,
+     [f"att-dx closed eni-b request Absent att-dx - {FROM_VPN}", f"att-vpn closed eni-b reply Unmodelled att-dx - {FROM_VPN}"]),
+    (Diff, [behind_transit("att-vpn"), behind_transit("att-dx")], TO_B, []),
+    (Diff, [behind_transit("att-vpn"), behind_transit("att-dx")], f"from att-vpn {TO_B}", [f"att-vpn closed eni-b reply WrongReturn att-dx - {FROM_VPN}"]),
+    (Reach, [behind_gateway()], "from vgw-1 port 22-22", [f"vgw-1 eni-b {ROUTED_BACK}"]),
+    (Reach, [behind_gateway()], "to vgw-1 port 443-443", [f"eni-a vgw-1 6-6 10.0.1.10-10.0.1.10 172.20.0.0-172.20.255.255 {ALL} 443-443"]),
     (Diff, [told(behind_gateway(), VpnGateways=[]), behind_gateway()], "from eni-a proto tcp dst 172.20.0.0/16 port 443-443",
-     [f"eni-a opened vgw-1 request Unmodelled vgw-1 - 6-6 10.0.1.10-10.0.1.10 172.20.0.0-172.20.255.255 {ALL} 443-443"], set()),
-    (Diff, [told(behind_gateway(), VpnGateways=[]), behind_gateway()], "from vgw-1 to eni-b src 172.20.0.0/16 port 22-22", [f"vgw-1 opened eni-b request Absent vgw-1 - {ROUTED_BACK}"], set()),
+     [f"eni-a opened vgw-1 request Unmodelled vgw-1 - 6-6 10.0.1.10-10.0.1.10 172.20.0.0-172.20.255.255 {ALL} 443-443"]),
+    (Diff, [told(behind_gateway(), VpnGateways=[]), behind_gateway()], "from vgw-1 to eni-b src 172.20.0.0/16 port 22-22", [f"vgw-1 opened eni-b request Absent vgw-1 - {ROUTED_BACK}"]),
 ]
 
 
@@ -285,11 +320,11 @@ def by_words(program, network, text, due, walks):
     return wrong
 
 
-def by_rows(program, kind, networks, text, due, alone):
-    """What is wrong with a row of `reach` or `diff`, of all starts or, where some are named, of those alone."""
+def by_rows(program, kind, networks, text, due):
+    """What is wrong with a row of `reach` or `diff`."""
     question = kind([model.Network(copy.deepcopy(it)) for it in networks], text.split(" "))
     lines, _ = rows_model.Telling(question).lines()
-    found = [" ".join(it.split(" ")[2:]) for it in lines if it.startswith("row ") and (not alone or it.split(" ")[2] in alone)]
+    found = [" ".join(it.split(" ")[2:]) for it in lines if it.startswith("row ")]
     wrong = [] if found == due else [f"{kind.command} {text}: {found} in place of {due}"]
     for words, told_text, status in ran(program, kind.command, networks, text.split(" ")) if program else ():
         faults, _ = rows_model.judged(kind, words, told_text, status, random.Random(1), 100_000)

@@ -5,8 +5,9 @@ A case is a network (networks.py) and the words of `reach` about it. Of the answ
 repeats, its numbers, the order and the disjointness of the rows and that they lie within what was asked for. By `ask` about one header,
 of PROGRAM or OTHER: the low and the high corner of every row gets through from its start to its end, and headers that were drawn at random
 outside the rows, within what was asked for, to no end at all; where rows were left out, the header that is named next does, and those drawn
-are the ones before it. A header of a protocol without ports is asked for only where both its numbers are 0, since no packet has others. The
-last line is 'N passed, M failed'.
+are the ones before it. With no `from`, what leads outside and may open connections are links to one network: where the reply returns by
+another than the request, which `ask` tells as `WrongReturn`, `replay` tells whether it is the request's. A header of a protocol without
+ports is asked for only where both its numbers are 0, since no packet has others. The last line is 'N passed, M failed'.
 """
 
 import argparse
@@ -73,7 +74,8 @@ class Network:
         network = model.Network(json.loads(text))
         self.fars = {name: model.may_start(it) for name, it in network.fars.items() if network.is_end(name) and name not in network.interfaces}
         self.ends += sorted(self.fars, key=str.encode)
-        self.addresses = sorted({number(a.decode()) for a in re.findall(rb'(?:Ip(?:Address)?|Ipv4Prefix)": ?"([0-9.]+)["/]', text)})
+        told = rb'(?:Ip(?:Address)?|Ipv4Prefix|DestinationCidrBlock)": ?"([0-9.]+)["/]' if self.fars else rb'(?:Ip(?:Address)?|Ipv4Prefix)": ?"([0-9.]+)["/]'
+        self.addresses = sorted({number(a.decode()) for a in re.findall(told, text)})
 
     def own(self, name):
         """The addresses that no prefix of the interface holds, and the runs of its prefixes."""
@@ -95,7 +97,8 @@ class Query:
 
     def __init__(self, rng, network):
         self.network, self.words = network, []
-        self.start, self.goal = (rng.choice(network.ends) if rng.random() < chance else None for chance in (0.5, 0.4))
+        from_one = 0.2 if sum(network.fars.values()) > 1 else 0.5
+        self.start, self.goal = (rng.choice(network.ends) if rng.random() < chance else None for chance in (from_one, 0.4))
         if self.start == self.goal == "internet":
             self.goal = None
         if not network.fars.get(self.start, True):
@@ -144,6 +147,11 @@ class Query:
     def starts(self):
         return [self.start] if self.start else [end for end in self.network.ends if end != self.goal and self.network.fars.get(end, True)]
 
+    def links(self, start):
+        """The far ends that are asked about together with a far end: a reply may take another of them than the request."""
+        links = [it for it in self.starts() if it in self.network.fars]
+        return links if start in links else []
+
     def sources(self, start):
         return self.src or (ALL if start == "internet" or start in self.network.fars else (self.network.primary[start],) * 2)
 
@@ -182,8 +190,8 @@ class Asking:
     def __init__(self, program, path):
         self.program, self.path = program, path
 
-    def gets_through(self, start, end, h):
-        """Whether it does; None where it can't be asked."""
+    def gets_through(self, start, end, h, links=()):
+        """Whether it does, also where its reply returns by another of these links; None where it can't be asked."""
         proto, src, dst, p, q = h
         if start == end == "internet" or (proto not in WITH_PORTS and (p or q)):
             return None
@@ -193,7 +201,25 @@ class Asking:
         done = subprocess.run([self.program, "ask", self.path, *words], capture_output=True)
         if done.returncode not in (0, 1):
             raise RuntimeError(f"ask {' '.join(words)}: status {done.returncode} {done.stdout!r}")
-        return done.returncode == 0
+        elsewhere = re.search(rb"^row 1 reply WrongReturn (\S+) ", done.stdout, re.MULTILINE)
+        return self.returns(start, end, model.Header(*h)) if elsewhere and elsewhere[1].decode() in links else done.returncode == 0
+
+    def returns(self, start, end, request):
+        """Whether what arrives somewhere as its reply is the reply of the request."""
+        opened = f"open from {start} {request}"
+        answer = self.replayed(opened).reply()
+        return self.replayed(opened, f"answer from {end} {answer}") == request.reply()
+
+    def replayed(self, *events):
+        """The header by which the last of these events arrives."""
+        path = f"{self.path}.events"
+        with open(path, "w", encoding="utf-8") as file:
+            file.write("".join(f"{it}\n" for it in events))
+        done = subprocess.run([self.program, "replay", self.path, path], capture_output=True)
+        arrived = re.search(r"^event \d+ arrived \S+ (.+)\n\Z", done.stdout.decode(), re.MULTILINE)
+        if not arrived:
+            raise RuntimeError(f"replay of {', '.join(events)}: status {done.returncode} {done.stdout!r}")
+        return model.Header(*header(arrived[1]))
 
 
 def faults_of_text(query, told, status):
@@ -230,7 +256,7 @@ def judged(rng, query, told, status, asking, draws):
         return faults
     for row in rows:
         for h in (row.low, row.high):
-            if asking.gets_through(row.start, row.end, h) is False:
+            if asking.gets_through(row.start, row.end, h, query.links(row.start)) is False:
                 faults.append(f"row {row.number} is untrue of {h}")
     starts, last = query.starts(), None
     match = TEXT.fullmatch(told)
@@ -238,7 +264,7 @@ def judged(rng, query, told, status, asking, draws):
         last = (match["start"], header(match["next"]))
         starts = starts[: starts.index(last[0]) + 1]
         ends = [query.goal] if query.goal else query.network.ends
-        tried = [asking.gets_through(last[0], end, last[1]) for end in ends if query.goal or end != last[0]]
+        tried = [asking.gets_through(last[0], end, last[1], query.links(last[0])) for end in ends if query.goal or end != last[0]]
         if any(row.start == last[0] and row.holds(last[1]) for row in rows):
             faults.append("the next header is in a row")
         if None not in tried and True not in tried:
@@ -249,7 +275,7 @@ def judged(rng, query, told, status, asking, draws):
         if h is None or any(row.start == start and row.holds(h) for row in rows) or (last and start == last[0] and h >= last[1]):
             continue
         for end in [query.goal] if query.goal else [end for end in query.network.ends if end != start]:
-            if asking.gets_through(start, end, h):
+            if asking.gets_through(start, end, h, query.links(start)):
                 faults.append(f"{h} from {start} reaches {end} and is in no row")
     return faults
 

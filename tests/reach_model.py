@@ -33,7 +33,7 @@ class Reach(rows_model.Question):
 
     def is_told(self, start, header):
         """The end that the header reaches."""
-        answer = model.journey(self.networks[0], start, self.goal, header)
+        answer = model.journey(self.networks[0], start, self.goal, header, self.back_at(self.networks[0], start))
         return None if answer.stop else model.name_of(answer.reached), [answer]
 
     @staticmethod

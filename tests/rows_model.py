@@ -76,7 +76,8 @@ class Question:
         if self.start is self.goal is model.ANY and len(hosts) > MOST_HOSTS:
             refuse("TooManyInterfaces", self.command)
         senders = sorted((it for it in hosts if "src" in self.told or self.primaries(it)), key=str.encode)
-        every = [model.INTERNET, *senders, *sorted(fars - hosts, key=str.encode)]
+        # (the word means the internet alone, also where something else has the name)
+        every = [model.INTERNET, *senders, *sorted(fars - hosts - {"internet"}, key=str.encode)]
         self.starts = [it for it in every if it != self.goal] if self.start is model.ANY else [self.start]
 
     def described(self, name):
@@ -155,6 +156,11 @@ class Question:
             # (those that lie in no other)
             targets = [it for it in sorted(set(told)) if not any(other != it and other[0] <= it[0] and it[1] <= other[1] for other in told)]
         return [(self.proto, src, dst, self.p, self.q) for src in sources for dst in targets]
+
+    def back_at(self, network, start):
+        """The ends at which the reply to a request of a start may arrive: of what leads outside, with no `from`, all that are starts."""
+        # (an id that an interface has in either network is that of a host)
+        return model.homes(network, start, [it for it in self.starts if not self.described(it)])
 
     def cuts(self):
         """Those of all networks."""
@@ -462,7 +468,9 @@ def drawn_words(rng, about, narrow=1):
     rows = [row for network in about for row in network.interfaces.values()]
     addresses = [it for row in rows for pair in row.addresses for it in pair if it is not None] + [it.last for row in rows for it in row.blocks] or [0]
     words = []
-    for name, chance in (("from", 0.6), ("to", 0.4)):
+    # (with no `from`, what leads outside are links to one network)
+    from_one = 0.2 if len(set(ends_outside(about))) > 1 else 0.6
+    for name, chance in (("from", from_one), ("to", 0.4)):
         if rng.random() < chance * narrow:
             words += [name, rng.choice(["internet", *interfaces, *ends_outside(about)])]
     if rng.random() < 0.5:
