@@ -4,7 +4,7 @@ from __future__ import annotations
 
 import itertools
 from collections.abc import Callable, Iterator
-from typing import Optional
+from typing import Optional, Union
 
 from scripts import texts
 from scripts.bundles import harmless
@@ -25,6 +25,10 @@ Told = Callable[[Stop], list[str]]
 NOTHING = (
     "No packet is known to get through. What vpc doesn't follow counts as stopped here: ask tells "
     "of it as Unmodelled."
+)
+LINKED = (
+    "What leads outside is taken to lead to one network, since no start was named: a reply may "
+    "come back by another link than its request."
 )
 
 
@@ -70,6 +74,7 @@ class Listings:
         for (start, end), rows in itertools.groupby(numbered, lambda it: (it[1].start, it[1].end)):
             yield f"From {self.named(start)} to {self.named(end)}:"
             yield from (f"  Row {number}: {box_words(row.box)}." for number, row in rows)
+        yield from self.linked(text)
         yield from self.more(text.next, ", and it gets through too")
 
     def diff(self, text: texts.Diff) -> Iterator[str]:
@@ -81,7 +86,17 @@ class Listings:
             start = self.teller.named(row.start)
             yield f"Row {number}: from {start}, {box_words(row.box)}."
             yield f"  Of each packet: {fare_words(row.fare, self.teller.named)}."
+        yield from self.linked(text)
         yield from self.more(text.next, ", and something changes for it too")
+
+    def linked(self, text: Union[texts.Reach, texts.Diff]) -> Iterator[str]:
+        """That replies may take another link, where rows tell of one of several."""
+        words = text.query.split(" ")[1:]
+        told = dict(zip(words[::2], words[1::2]))
+        found = [it for it in map(self.network.far_end, self.network.fars) if it]
+        ids = [it.id for it in found if it.kind != "endpoint" and it.id != told.get("to")]
+        if "from" not in told and len(ids) > 1 and any(it.start in ids for it in text.rows):
+            yield LINKED
 
     def matrix(self, text: texts.Matrix) -> Iterator[str]:
         sources: dict[tuple[str, str], list[str]] = {}
